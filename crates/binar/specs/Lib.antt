@@ -1,0 +1,6 @@
+pub mod Row
+pub mod Words
+pub mod Echelon
+pub mod Solve
+pub mod Space
+pub mod Theorems

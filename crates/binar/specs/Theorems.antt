@@ -1,0 +1,44 @@
+-- What is proved of the echelon form, for every matrix A and every number c of columns. Each statement is a type; its
+-- proof, a term of it, is in proofs/.
+use mathlib.Core.Path.{_≡_}
+use mathlib.Core.List.{List, map}
+use mathlib.Core.Option.{Option, some, none}
+use Prim.Native.Nat.{ℕ, _%_, _^_, _≤_, _<_}
+use lib.ListN.{length, getD, take}
+use Rattle.binar.specs.Row.{columns, rowSum, units}
+use Rattle.binar.specs.Echelon.{EchelonForm, echelon, R, T, rank}
+use Rattle.binar.specs.Solve.{transposeSolve}
+use Rattle.binar.specs.Space.{RowSpace, SameSpace, ReducedForm, Independent, Dimension}
+
+-- 1. T·A = R over GF(2), where T is a square matrix
+pub record TransformLaw (c : ℕ) (A : List ℕ) : Type 0 where
+  pub count : length (echelon c A .rows) ≡ length A
+  pub square : (i : ℕ) → getD (T (echelon c A)) i 0 < 2 ^ length A
+  pub product : map (λ s. rowSum s (columns c A)) (T (echelon c A)) ≡ R (echelon c A)
+
+-- 2. R is in reduced row echelon form: the pivots rise strictly, and every row from the rank on is zero
+abbrev pub ReducedLaw : ℕ → List ℕ → Type 0
+ReducedLaw c A = ReducedForm c (R (echelon c A)) (echelon c A .pivots)
+
+-- 3. The row space is kept, both ways; T has an inverse; the nonzero rows are independent, so that the rank is the dimension
+-- of the row space, and no other number is
+pub record SpaceLaw (c : ℕ) (A : List ℕ) : Type 0 where
+  pub kept : SameSpace (columns c A) (R (echelon c A))
+  pub inverse : List ℕ
+  pub inverts : map (λ s. rowSum s (T (echelon c A))) inverse ≡ units 0 (length A)
+  pub independent : Independent (take (rank (echelon c A)) (R (echelon c A)))
+  pub dimension : Dimension (columns c A) (rank (echelon c A))
+  pub no-other : (d : ℕ) → Dimension (columns c A) d → d ≡ rank (echelon c A)
+
+-- 4. The reduced form is unique: reduced forms with the same row space have the same nonzero rows and pivots. So have the
+-- echelon forms of two matrices
+pub record UniqueLaw (c : ℕ) : Type 0 where
+  pub reduced : (M N ps qs : List ℕ) → ReducedForm c M ps → ReducedForm c N qs → SameSpace M N → (ps ≡ qs) × (take (length ps) M ≡ take (length qs) N)
+  pub echelons : (A B : List ℕ) → SameSpace (columns c A) (columns c B)
+      → (echelon c A .pivots ≡ echelon c B .pivots) × (take (rank (echelon c A)) (R (echelon c A)) ≡ take (rank (echelon c B)) (R (echelon c B)))
+
+-- 5. `transpose_solve` gives a set of rows of A that sums to the target, and none exactly when no set does
+pub record SolveLaw (c : ℕ) (A : List ℕ) (v : ℕ) : Type 0 where
+  pub sound : (s : ℕ) → transposeSolve c (echelon c A) v ≡ some s → (s < 2 ^ length A) × (rowSum s (columns c A) ≡ v % 2 ^ c)
+  pub none-right : transposeSolve c (echelon c A) v ≡ none → RowSpace (columns c A) (v % 2 ^ c) → ⊥
+  pub none-only : (RowSpace (columns c A) (v % 2 ^ c) → ⊥) → transposeSolve c (echelon c A) v ≡ none
