@@ -2,5 +2,6 @@ pub mod Row
 pub mod Words
 pub mod Echelon
 pub mod Solve
+pub mod Layout
 pub mod Space
 pub mod Theorems

@@ -1,0 +1,83 @@
+-- Invariant: the first i rows are done.
+use Prim.Native.Nat.{ℕ, _+_, _-_, _*_, _^_, _≤_, _<_}
+use Rattle.binar.proofs.Matrix.{row-in, two-rows}
+use Rattle.binar.proofs.Others.{doneTo, done-start, done-end, done-bit, done-add, done-pivot, done-skip}
+use Rattle.binar.specs.Words.{putRow, rowAt}
+use lib.ListN.{length, getD, drop}
+use mathlib.Core.Logic.{⊎-elim}
+use mathlib.Core.Path.{_≡_, refl, sym, ap, _∙_}
+use native.Mathlib.Omega.{arith}
+use Rattle.binar.proofs.echelon.reduce.Statement.{statement}
+use Rattle.binar.proofs.echelon.reduce.Tie as tie
+
+abbrev Inv-loop : tie.InvT-loop
+Inv-loop w₀ stride rows r c i₀ w i = (i ≤ rows) × (length w ≡ length w₀) × (w ≡ doneTo w₀ stride rows r c i)
+
+abbrev μ-loop : tie.MeasureT-loop
+μ-loop w₀ stride rows r c i₀ w i = rows - i
+
+-- one turn of the loop
+turn : (c : tie.Joined1 Inv-loop μ-loop)
+    → (c .if1 .w ≡ doneTo (c .before .before .before .before .args .w .now) (c .before .before .before .before .args .stride) (c .before .before .before .before .args .rows) (c .before .before .before .before .args .r) (c .before .before .before .before .args .c) (c .before .before .loop .i + 1))
+    × (length (c .if1 .w) ≡ length (c .before .before .loop .w))
+turn c =
+    ⊎-elim
+    (λ h. (
+      h .8 ∙ h .5 .ensures ∙ done-add _ _ _ _ _ (λ q. c .before .before .before .slice-known .given q .fits) (c .before .before .before .before .pre .0) (c .before .before .before .before .pre .1) _ (c .before .loop-test .taken) _ (c .before .before .loop .inv .2) (h .0 .taken) (sym (h .2 .ensures ∙ done-bit _ _ _ _ _ (λ q. c .before .before .before .slice-known .given q .fits) (c .before .before .before .before .pre .0) (c .before .before .before .before .pre .1) _ (c .before .loop-test .taken) _ (c .before .before .loop .inv .2) (omega (arith, c .before .before .before .before .pre .0, c .before .before .loop .inv .1)) (c .before .before .before .before .pre .2)) ∙ h .3 .taken),
+      ap length (h .8) ∙ h .5 .kept .0,
+    ))
+    (⊎-elim
+    (λ h. (h .4 ∙ done-skip _ _ _ _ _ (λ q. c .before .before .before .slice-known .given q .fits) (c .before .before .before .before .pre .0) (c .before .before .before .before .pre .1) _ (c .before .loop-test .taken) _ (c .before .before .loop .inv .2) (h .0 .taken) (λ e. h .3 .left (h .2 .ensures ∙ done-bit _ _ _ _ _ (λ q. c .before .before .before .slice-known .given q .fits) (c .before .before .before .before .pre .0) (c .before .before .before .before .pre .1) _ (c .before .loop-test .taken) _ (c .before .before .loop .inv .2) (omega (arith, c .before .before .before .before .pre .0, c .before .before .loop .inv .1)) (c .before .before .before .before .pre .2) ∙ e)), ap length (h .4)))
+    (λ h. (h .1 ∙ done-pivot _ _ _ _ _ (λ q. c .before .before .before .slice-known .given q .fits) (c .before .before .before .before .pre .0) (c .before .before .before .before .pre .1) _ (c .before .loop-test .taken) _ (c .before .before .loop .inv .2) (h .0 .left), ap length (h .1))))
+    (c .if1 .came)
+
+loop-holds : tie.Need-loop-holds Inv-loop μ-loop
+loop-holds c = (omega arith, refl, done-start _ _ _ _ _ (λ q. c .slice-known .given q .fits) (c .before .pre .0) (c .before .pre .1))
+
+mul-index : tie.Need-mul-index Inv-loop μ-loop
+mul-index c = omega (arith, row-in (c .before .before .before .loop .i) (c .before .before .before .before .before .args .rows) (c .before .before .before .before .before .args .stride) (c .before .before .loop-test .taken), c .before .before .before .before .before .pre .0)
+
+index-requires : tie.Need-index-requires Inv-loop μ-loop
+index-requires c κs = omega (arith, row-in (c .before .before .before .loop .i) (c .before .before .before .before .before .args .rows) (c .before .before .before .before .before .args .stride) (c .before .before .loop-test .taken), c .before .before .before .before .before .pre .0, c .before .before .before .before .before .pre .2, c .before .before .before .loop .inv .1)
+
+mul-bitxor-assign : tie.Need-mul-bitxor-assign Inv-loop μ-loop
+mul-bitxor-assign c = omega (arith, row-in (c .before .before .before .before .before .before .loop .i) (c .before .before .before .before .before .before .before .before .args .rows) (c .before .before .before .before .before .before .before .before .args .stride) (c .before .before .before .before .before .loop-test .taken), c .before .before .before .before .before .before .before .before .pre .0)
+
+mul-bitxor-assign-2 : tie.Need-mul-bitxor-assign-2 Inv-loop μ-loop
+mul-bitxor-assign-2 c = omega (arith, row-in (c .before .before .before .before .before .before .before .before .args .r) (c .before .before .before .before .before .before .before .before .args .rows) (c .before .before .before .before .before .before .before .before .args .stride) (c .before .before .before .before .before .before .before .before .pre .1), c .before .before .before .before .before .before .before .before .pre .0)
+
+bitxor-assign-requires : tie.Need-bitxor-assign-requires Inv-loop μ-loop
+bitxor-assign-requires c κs = two-rows _ _ _ _ _ (omega (arith, c .before .before .before .before .before .before .before .before .pre .0, c .before .before .before .before .before .before .loop .inv .1)) (c .before .before .before .before .before .loop-test .taken) (c .before .before .before .before .before .before .before .before .pre .1)
+
+add-i : tie.Need-add-i Inv-loop μ-loop
+add-i c = omega arith
+
+loop-less : tie.Need-loop-less Inv-loop μ-loop
+loop-less c = omega arith
+
+loop-again : tie.Need-loop-again Inv-loop μ-loop
+loop-again c = (omega arith, turn c .1 ∙ c .before .before .loop .inv .1, turn c .0)
+
+same-length : tie.Need-same-length Inv-loop μ-loop
+same-length c = omega arith
+
+returns : tie.Need-returns Inv-loop μ-loop
+returns c = c .before .loop .inv .2 ∙ done-end _ _ _ _ _ (λ q. c .before .before .slice-known .given q .fits) (c .before .before .before .pre .0) (c .before .before .before .pre .1) _ (omega arith)
+
+pub reduce-spec : {M : Type 1} → statement M
+reduce-spec =
+    tie.close
+    (tie.spec
+    Inv-loop
+    μ-loop
+    loop-holds
+    mul-index
+    index-requires
+    mul-bitxor-assign
+    mul-bitxor-assign-2
+    bitxor-assign-requires
+    add-i
+    loop-less
+    loop-again
+    same-length
+    returns)
