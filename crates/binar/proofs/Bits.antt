@@ -1,7 +1,7 @@
 -- Laws of the sum of two rows, of their bits, and of the parity of what they share.
-use mathlib.Core.Path.{_≡_, refl, sym, ap, ap₂, _∙_}
+use mathlib.Core.Path.{_≡_, refl, sym, ap, _∙_}
 use Prim.Native.Nat.{ℕ, zero, suc, _+_, _-_, _*_, _/_, _%_, _^_, _≤_, _<_, min}
-use native.Mathlib.Nat.{mod-lt, zero-lt-suc, div-eq-of-lt, lt-of-lt-of-le, add-mul-mod-self-left, mod-add-div, mul-comm, add-comm}
+use native.Mathlib.Nat.{mod-lt, zero-lt-suc, div-eq-of-lt, lt-of-lt-of-le, add-mul-mod-self-left, mod-add-div}
 use native.Mathlib.Omega.{arith}
 use native.Mathlib.Decide.{decLt}
 use lib.Arith.{bin-ind}
@@ -21,7 +21,7 @@ use lib.Bits.{
   xor-zero-r as zero-of-xor,
 }
 use lib.Count.{ones, ones-step}
-use lib.Pow.{shr-shr, pow-pos, pow-mono, field, mod-mod-pow, low, high}
+use lib.Pow.{shr-shr, pow-mono, field, mod-mod-pow, low, high}
 use Rattle.binar.specs.Row.{_⊕_, bit, dot}
 
 -- ---- bits
@@ -101,6 +101,9 @@ xor-cancel a b = sym (xor-assoc a a b) ∙ ap (_⊕ b) (xor-self a) ∙ xor-zero
 -- simp with these decides equations between sums of rows
 pub ruleset xors = (xor-assoc, xor-comm, xor-left-comm, xor-self, xor-cancel, xor-zero-r, xor-zero-l)
 
+pub xor-swap : (a b c d : ℕ) → (a ⊕ b) ⊕ (c ⊕ d) ≡ (a ⊕ c) ⊕ (b ⊕ d)
+xor-swap a b c d = simp xors
+
 pub xor-eq-zero : (a b : ℕ) → a ⊕ b ≡ 0 → a ≡ b
 xor-eq-zero a b h = sym (xor-zero-r a) ∙ ap (a ⊕_) (sym h) ∙ xor-cancel a b
 
@@ -131,8 +134,8 @@ bit-mod c v k h =
 
 -- the row with r in the first c columns and t past them
 module _ (c r t : ℕ) where
-  pub bit-first : (k : ℕ) → k < c → bit (r + 2 ^ c * t) k ≡ bit r k
-  bit-first k h = sym (bit-mod c (r + 2 ^ c * t) k h) ∙ ap (λ (x : ℕ). bit x k) (add-mul-mod-self-left r (2 ^ c) t) ∙ bit-mod c r k h
+  pub bit-beside : (k : ℕ) → k < c → bit (r + 2 ^ c * t) k ≡ bit r k
+  bit-beside k h = sym (bit-mod c (r + 2 ^ c * t) k h) ∙ ap (λ (x : ℕ). bit x k) (add-mul-mod-self-left r (2 ^ c) t) ∙ bit-mod c r k h
 
   beside-comm : r + 2 ^ c * t ≡ t * 2 ^ c + r
   beside-comm = omega arith
@@ -143,9 +146,9 @@ module _ (c r t : ℕ) where
   pub beside-shr : r < 2 ^ c → (r + 2 ^ c * t) / 2 ^ c ≡ t
   beside-shr h = rw beside-comm (high t c h)
 
-  pub bit-second : r < 2 ^ c → (k : ℕ) → bit (r + 2 ^ c * t) (c + k) ≡ bit t k
+  pub bit-beside-past : r < 2 ^ c → (k : ℕ) → bit (r + 2 ^ c * t) (c + k) ≡ bit t k
   unfolding bit
-  bit-second h k = rw (← shr-shr (r + 2 ^ c * t) c k, beside-shr h)
+  bit-beside-past h k = rw (← shr-shr (r + 2 ^ c * t) c k, beside-shr h)
 
 pub beside-parts : (c v : ℕ) → v % 2 ^ c + 2 ^ c * (v / 2 ^ c) ≡ v
 beside-parts c v = mod-add-div v (2 ^ c)
@@ -164,6 +167,9 @@ blank-zero c v h b = no-bits v λ k. go k (decLt k c)
     go : (k : ℕ) → Dec (k < c) → bit v k ≡ 0
     go k (yes y) = b k (omega arith) y
     go k (no n) = bit-past c v k h (omega arith)
+
+pub blank-one : (c v : ℕ) → bit v c ≡ 0 → Blank c (suc c) v
+blank-one c v z k l u = ap (bit v) (omega arith) ∙ z
 
 pub blank-join : (c d e v : ℕ) → Blank c d v → Blank d e v → Blank c e v
 blank-join c d e v h g k l u = go (decLt k d)

@@ -81,6 +81,13 @@ bit-row l i n c f h g = bit-take (drop i l) n c (words-drop l i f) (rw length-dr
 abbrev pub Below : ℕ → List ℕ → Type 0
 Below k M = (i : ℕ) → getD M i 0 < 2 ^ k
 
+pub below-set : (k : ℕ) (M : List ℕ) (i v : ℕ) → Below k M → v < 2 ^ k → Below k (set M i v)
+below-set k [] i v b h j = b j
+below-set k (u ∷ M) zero v b h zero = h
+below-set k (u ∷ M) zero v b h (suc j) = b (suc j)
+below-set k (u ∷ M) (suc i) v b h zero = b 0
+below-set k (u ∷ M) (suc i) v b h (suc j) = below-set k M i v (λ q. b (suc q)) h j
+
 pub length-matrix : (s n : ℕ) (l : List ℕ) → length (matrix s n l) ≡ n
 unfolding matrix
 length-matrix s zero l = refl
