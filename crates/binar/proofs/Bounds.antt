@@ -4,7 +4,7 @@ use mathlib.Core.List.{List, _∷_}
 use Prim.Native.Nat.{ℕ, _+_, _^_, _≤_, _<_}
 use native.Mathlib.Omega.{arith}
 use lib.ListN.{length, length-append, length-drop}
-use Rattle.binar.specs.Echelon.{pivotOf, reduce, echelon, rank, besideIdentity}
+use Rattle.binar.specs.Echelon.{pivotOf, echelonize, echelon, rank, besideIdentity}
 use Rattle.binar.specs.declared.echelon.Cell.{Cell}
 use Rattle.binar.specs.declared.echelon.Found.the-variants.{At}
 use Rattle.binar.specs.Row.{_⊕_}
@@ -13,10 +13,10 @@ use Rattle.binar.proofs.Bits.{xor-lt, xors}
 use Rattle.binar.proofs.Lists.{All}
 use Rattle.binar.proofs.Span.{below-subspace}
 use Rattle.binar.proofs.Steps.{Search, found, pivot-is}
-use Rattle.binar.proofs.Kept.{reduce-length, reduce-in}
+use Rattle.binar.proofs.Kept.{echelonize-length, echelonize-in}
 use Rattle.binar.proofs.Transform.{beside-length}
 use Rattle.binar.proofs.Solve.{sweep-change}
-use Rattle.binar.proofs.Reduced.{pivots-in, reduced-room, reduced-width, reduce-reduced}
+use Rattle.binar.proofs.Reduced.{pivots-in, reduced-room, reduced-width, echelonize-reduced}
 
 search-in : {cols c i : ℕ} {vs : List ℕ} {cell : Cell} → Search cols c i vs (At cell)
     → (i ≤ cell .row) × (cell .row < i + length vs) × (c ≤ cell .col) × (cell .col < cols)
@@ -30,14 +30,14 @@ found-in cols r c M cell hr hc e =
     (h .0, omega (arith, h .1, length-drop r M), h .2, h .3)
 
 module _ (cols : ℕ) (M : List ℕ) where
-  pub pivots-lt : All (λ p. p < cols) (reduce cols M .pivots)
-  pivots-lt = pivots-in (reduce-reduced cols M)
+  pub pivots-lt : All (λ p. p < cols) (echelonize cols M .pivots)
+  pivots-lt = pivots-in (echelonize-reduced cols M)
 
-  pub pivots-rows : length (reduce cols M .pivots) ≤ length M
-  pivots-rows = omega (arith, reduced-room (reduce-reduced cols M), reduce-length cols M)
+  pub pivots-rows : length (echelonize cols M .pivots) ≤ length M
+  pivots-rows = omega (arith, reduced-room (echelonize-reduced cols M), echelonize-length cols M)
 
-  pub pivots-cols : length (reduce cols M .pivots) ≤ cols
-  pivots-cols = omega (arith, reduced-width (reduce-reduced cols M) (omega arith))
+  pub pivots-cols : length (echelonize cols M .pivots) ≤ cols
+  pivots-cols = omega (arith, reduced-width (echelonize-reduced cols M) (omega arith))
 
 -- the same of the echelon form
 module _ (c : ℕ) (A : List ℕ) where
@@ -50,8 +50,8 @@ module _ (c : ℕ) (A : List ℕ) where
   rank-cols = pivots-cols c (besideIdentity c 0 A)
 
 -- ---- the length of the rows
-pub reduce-lt : (cols k : ℕ) (M : List ℕ) → All (λ v. v < 2 ^ k) M → All (λ v. v < 2 ^ k) (reduce cols M .rows)
-reduce-lt cols k = reduce-in (below-subspace k) cols
+pub echelonize-lt : (cols k : ℕ) (M : List ℕ) → All (λ v. v < 2 ^ k) M → All (λ v. v < 2 ^ k) (echelonize cols M .rows)
+echelonize-lt cols k = echelonize-in (below-subspace k) cols
 
 pub sweep-lt : (k : ℕ) (ps M : List ℕ) (v : ℕ) → All (λ w. w < 2 ^ k) M → v < 2 ^ k → sweep ps M v < 2 ^ k
 sweep-lt k ps M v h l = subst (λ (w : ℕ). w < 2 ^ k) (simp xors) (xor-lt k (sweep ps M v ⊕ v) v (sweep-change (below-subspace k) ps M v h) l)

@@ -85,5 +85,5 @@ dimension-le f g =
       f .size,
       g .size,
       independent-le (f .basis) (g .basis) (f .independent)
-      (all-map (λ v h. g .spans .back v (f .spans .there v h)) (f .basis) (space-rows (f .basis))),
+          (all-map (λ v h. g .spans .back v (f .spans .there v h)) (f .basis) (space-rows (f .basis))),
     )

@@ -20,7 +20,8 @@ pivots-rise (next {p} {ps} a u x o z more) zero (suc j) l h = all-get (λ q. p <
 pivots-rise (next a u x o z more) (suc i) zero l h = absurd (omega arith)
 pivots-rise (next a u x o z more) (suc i) (suc j) l h = pivots-rise more i j (omega arith) (omega arith)
 
-first-ones : {c lo : ℕ} {ps M : List ℕ} → Reduced c lo ps M → (i : ℕ) → i < length ps → (bit (getD M i 0) (getD ps i 0) ≡ 1) × Blank 0 (getD ps i 0) (getD M i 0)
+first-ones : {c lo : ℕ} {ps M : List ℕ} → Reduced c lo ps M → (i : ℕ) → i < length ps
+    → (bit (getD M i 0) (getD ps i 0) ≡ 1) × Blank 0 (getD ps i 0) (getD M i 0)
 first-ones (last z) i l = absurd (omega arith)
 first-ones (next a u x o z more) zero l = (o, x)
 first-ones (next a u x o z more) (suc i) l = first-ones more i (omega arith)
@@ -28,7 +29,8 @@ first-ones (next a u x o z more) (suc i) l = first-ones more i (omega arith)
 other-rows : {c lo : ℕ} {ps M : List ℕ} → Reduced c lo ps M → (i j : ℕ) → i < length ps → (j ≡ i → ⊥) → bit (getD M j 0) (getD ps i 0) ≡ 0
 other-rows (last z) i j l n = absurd (omega arith)
 other-rows (next a u x o z more) zero zero l n = absurd (n refl)
-other-rows (next {p} {M} a u x o z more) zero (suc j) l n = all-getD (λ v. bit v p ≡ 0) M 0 (bit-of-zero p) (all-map (λ w b. b p (omega arith) (omega arith)) M (reduced-blank more u)) j
+other-rows (next {p} {M} a u x o z more) zero (suc j) l n =
+    all-getD (λ v. bit v p ≡ 0) M 0 (bit-of-zero p) (all-map (λ w b. b p (omega arith) (omega arith)) M (reduced-blank more u)) j
 other-rows (next {v} {ps} a u x o z more) (suc i) zero l n = all-get (λ q. bit v q ≡ 0) ps 0 z i (omega arith)
 other-rows (next a u x o z more) (suc i) (suc j) l n = other-rows more i j (omega arith) (omega arith)
 

@@ -5,7 +5,7 @@ use Prim.Native.Nat.{ℕ, _+_}
 use native.Mathlib.Omega.{arith}
 use lib.ListN.{length, length-append, length-map}
 use Rattle.binar.specs.Row.{_⊕_, bit}
-use Rattle.binar.specs.Echelon.{clear, Reduction, withPivot, reduce}
+use Rattle.binar.specs.Echelon.{clear, Reduction, withPivot, echelonize}
 use Rattle.binar.proofs.Bits.{bit-lt, bit-xor, xors}
 use Rattle.binar.proofs.Lists.{All, all-map, all-join, all-left, all-right, all-over, all-under}
 use Rattle.binar.proofs.Span.{ifBit-case, Subspace}
@@ -36,8 +36,8 @@ run-length {done} {rest} (stop b) = length-append done rest
 run-length {done} (step {j} pre p post h u o b more) =
     run-length more ∙ simp (length-append, length-map) (omega (arith, length-others pre p post, length-append pre (p ∷ post)))
 
-pub reduce-length : (cols : ℕ) (M : List ℕ) → length (reduce cols M .rows) ≡ length M
-reduce-length cols M = run-length (run-is cols M) ∙ omega arith
+pub echelonize-length : (cols : ℕ) (M : List ℕ) → length (echelonize cols M .rows) ≡ length M
+echelonize-length cols M = run-length (run-is cols M) ∙ omega arith
 
 -- ---- subspaces
 module _ {P : ℕ → Type 0} (S : Subspace P) where
@@ -55,14 +55,13 @@ module _ {P : ℕ → Type 0} (S : Subspace P) where
   run-out {done} {rest} (stop b) h = (all-left P done rest h, all-right P done rest h)
   run-out {done} (step {j} pre p post l u o b more) h =
       let g = run-out more h in
-      let i : P p = all-right P (map (clear j p) done) (p ∷ []) (g .0) .0 in
-      (
+      let i : P p = all-right P (map (clear j p) done) (p ∷ []) (g .0) .0 in (
         all-map (λ v. clear-out j p v S i) done (all-under P (clear j p) done (all-left P (map (clear j p) done) (p ∷ []) (g .0))),
         others-out P pre p post i (all-map (λ v. clear-out j p v S i) (others pre post) (all-under P (clear j p) (others pre post) (g .1))),
       )
 
-  pub reduce-in : (cols : ℕ) (M : List ℕ) → All P M → All P (reduce cols M .rows)
-  reduce-in cols M h = run-in (run-is cols M) tt h
+  pub echelonize-in : (cols : ℕ) (M : List ℕ) → All P M → All P (echelonize cols M .rows)
+  echelonize-in cols M h = run-in (run-is cols M) tt h
 
-  pub reduce-out : (cols : ℕ) (M : List ℕ) → All P (reduce cols M .rows) → All P M
-  reduce-out cols M h = run-out (run-is cols M) h .1
+  pub echelonize-out : (cols : ℕ) (M : List ℕ) → All P (echelonize cols M .rows) → All P M
+  echelonize-out cols M h = run-out (run-is cols M) h .1

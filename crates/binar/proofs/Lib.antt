@@ -11,11 +11,12 @@ pub mod Dimension
 pub mod Space
 pub mod Solve
 pub mod Theorems
-pub mod Linear
 pub mod Bounds
+pub mod Linear
 pub mod Slice
 pub mod Scan
 pub mod Matrix
 pub mod Search
+pub mod RowByRow
 pub mod Others
 pub mod Passes

@@ -1,13 +1,14 @@
--- The reduction and the sweep commute with additive maps that keep the first columns.
+-- The reduction and the sweep commute with additive maps that keep the first columns; so the echelon form and its solutions
+-- come from rows that hold the identity past any column w ≥ c, too.
 use mathlib.Core.Path.{_≡_, refl, sym, ap, ap₂, _∙_}
 use mathlib.Core.Bool.{Bool, true, false}
 use mathlib.Core.List.{List, [], _∷_, map, map-map}
 use Prim.Native.Nat.{ℕ, zero, suc, _+_, _-_, _*_, _/_, _%_, _^_, _≤_, _<_}
-use native.Mathlib.Nat.{mod-lt, mod-eq-of-lt}
+use native.Mathlib.Nat.{mod-lt, mod-mod, mod-eq-of-lt, div-eq-of-lt, lt-of-lt-of-le, zero-add}
 use native.Mathlib.Omega.{arith}
 use lib.Dec.{eqb}
 use lib.ListN.{length, getD, set, drop, length-map, List·getD-map}
-use lib.Pow.{pow-pos, mod-mod-pow}
+use lib.Pow.{pow-pos, pow-mono, mod-mod-pow}
 use Rattle.binar.specs.Row.{_⊕_, bit, ifBit}
 use Rattle.binar.specs.Echelon.{
   inColumn,
@@ -21,27 +22,28 @@ use Rattle.binar.specs.Echelon.{
   Reduction,
   withPivot,
   onFound,
-  reduceFrom,
-  reduce,
+  echelonizeFrom,
+  echelonize,
   besideIdentity,
-  Row,
   echelon,
 }
-use Rattle.binar.specs.Solve.{sweep}
+use Rattle.binar.specs.Solve.{sweep, solved, transposeSolve}
 use Rattle.binar.specs.declared.echelon.Found.{Found}
 use Rattle.binar.specs.declared.echelon.Found.the-variants.{At}
 use Rattle.binar.proofs.Bits.{bit-mod, bit-beside, beside-mod, beside-shr, xor-mod, xor-shr, xor-beside}
 use Rattle.binar.proofs.Lists.{All, all-of, map-same, map-drop, map-set}
 use Rattle.binar.proofs.Span.{ifBit-map, Additive, additive-zero}
 use Rattle.binar.proofs.Steps.{Search, nowhere, found, pivot-is}
-use Rattle.binar.proofs.Transform.{parts}
+use Rattle.binar.proofs.Transform.{parts, whole}
+use Rattle.binar.proofs.Solve.{left, solve-is}
+use Rattle.binar.proofs.Bounds.{pivots-lt}
 
 unless-map : (f : ℕ → ℕ) (b : Bool) (v w : ℕ) → unless b (f v) (f w) ≡ f (unless b v w)
 unfolding unless
 unless-map f true v w = refl
 unless-map f false v w = refl
 
--- the rows carried over by f
+-- f on every row
 mapRows : (ℕ → ℕ) → Reduction → Reduction
 mapRows f e = record { rows = map f (e .rows); pivots = e .pivots }
 
@@ -88,23 +90,23 @@ module _ (cols : ℕ) (f : ℕ → ℕ) (additive : (a b : ℕ) → f (a ⊕ b) 
 
   -- ---- the reduction
   next-map : {s : Found} (n r c : ℕ) (M : List ℕ)
-      → ((c′ : ℕ) (N : List ℕ) → c′ ≤ cols → reduceFrom cols n (suc r) c′ (map f N) ≡ mapRows f (reduceFrom cols n (suc r) c′ N)) → Search cols c r (drop r M) s
-      → onFound s (record { rows = map f M; pivots = [] }) (λ i j. withPivot j (reduceFrom cols n (suc r) (suc j) (placePivot r i j (map f M))))
-      ≡ mapRows f (onFound s (record { rows = M; pivots = [] }) (λ i j. withPivot j (reduceFrom cols n (suc r) (suc j) (placePivot r i j M))))
+      → ((c′ : ℕ) (N : List ℕ) → c′ ≤ cols → echelonizeFrom cols n (suc r) c′ (map f N) ≡ mapRows f (echelonizeFrom cols n (suc r) c′ N)) → Search cols c r (drop r M) s
+      → onFound s (record { rows = map f M; pivots = [] }) (λ i j. withPivot j (echelonizeFrom cols n (suc r) (suc j) (placePivot r i j (map f M))))
+      ≡ mapRows f (onFound s (record { rows = M; pivots = [] }) (λ i j. withPivot j (echelonizeFrom cols n (suc r) (suc j) (placePivot r i j M))))
   unfolding onFound mapRows withPivot
   next-map n r c M more (nowhere b) = refl
   next-map n r c M more (found row j pre p post e q h u o b) =
-      ap (withPivot j) (ap (reduceFrom cols n (suc r) (suc j)) (place-map r row j M u) ∙ more (suc j) (placePivot r row j M) u)
+      ap (withPivot j) (ap (echelonizeFrom cols n (suc r) (suc j)) (place-map r row j M u) ∙ more (suc j) (placePivot r row j M) u)
 
-  from-map : (n r c : ℕ) (M : List ℕ) → c ≤ cols → reduceFrom cols n r c (map f M) ≡ mapRows f (reduceFrom cols n r c M)
-  unfolding reduceFrom mapRows
+  from-map : (n r c : ℕ) (M : List ℕ) → c ≤ cols → echelonizeFrom cols n r c (map f M) ≡ mapRows f (echelonizeFrom cols n r c M)
+  unfolding echelonizeFrom mapRows
   from-map zero r c M h = refl
   from-map (suc n) r c M h = rw (pivot-map r c M) (next-map n r c M (from-map n (suc r)) (pivot-is cols r c M h))
 
-  pub reduce-map : (M : List ℕ) → (reduce cols (map f M) .pivots ≡ reduce cols M .pivots) × (reduce cols (map f M) .rows ≡ map f (reduce cols M .rows))
-  unfolding reduce mapRows
-  reduce-map M =
-      let e : reduceFrom cols (length (map f M)) 0 0 (map f M) ≡ mapRows f (reduceFrom cols (length M) 0 0 M) =
+  pub echelonize-map : (M : List ℕ) → (echelonize cols (map f M) .pivots ≡ echelonize cols M .pivots) × (echelonize cols (map f M) .rows ≡ map f (echelonize cols M .rows))
+  unfolding echelonize mapRows
+  echelonize-map M =
+      let e : echelonizeFrom cols (length (map f M)) 0 0 (map f M) ≡ mapRows f (echelonizeFrom cols (length M) 0 0 M) =
       rw (length-map M f) (from-map (length M) 0 0 M (omega arith)) in
       (ap (λ d. d .pivots) e, ap (λ d. d .rows) e)
 
@@ -114,30 +116,34 @@ module _ (cols : ℕ) (f : ℕ → ℕ) (additive : (a b : ℕ) → f (a ⊕ b) 
   sweep-map (p ∷ ps) [] v h = refl
   sweep-map (p ∷ ps) (w ∷ M) v h = ap (sweep ps (map f M)) (clear-map p w v (h .0)) ∙ sweep-map ps M (clear p w v) (h .1)
 
--- ---- the identity past any column w ≥ c
--- rows given by index
-pub beside-is : (w k : ℕ) (A W : List ℕ) → All (λ a. a < 2 ^ w) A → length W ≡ length A
+-- ---- the identity past column w
+beside-from : (w k : ℕ) (A W : List ℕ) → All (λ a. a < 2 ^ w) A → length W ≡ length A
     → ((i : ℕ) → i < length A → getD W i 0 ≡ getD A i 0 + 2 ^ w * 2 ^ (k + i)) → W ≡ besideIdentity w k A
 unfolding besideIdentity
-beside-is w k [] [] h l e = refl
-beside-is w k [] (v ∷ W) h l e = absurd (omega arith)
-beside-is w k (a ∷ A) [] h l e = absurd (omega arith)
-beside-is w k (a ∷ A) (v ∷ W) h l e =
+beside-from w k [] [] h l e = refl
+beside-from w k [] (v ∷ W) h l e = absurd (omega arith)
+beside-from w k (a ∷ A) [] h l e = absurd (omega arith)
+beside-from w k (a ∷ A) (v ∷ W) h l e =
     ap₂ _∷_ (e 0 (omega arith) ∙ ap₂ (λ (x y : ℕ). x + 2 ^ w * 2 ^ y) (sym (mod-eq-of-lt (h .0))) (omega arith))
-    (beside-is w (suc k) A W (h .1) (omega arith) λ i l′. e (suc i) (omega arith) ∙ ap (λ (y : ℕ). getD A i 0 + 2 ^ w * 2 ^ y) (omega arith))
+    (beside-from w (suc k) A W (h .1) (omega arith) λ i u. e (suc i) (omega arith) ∙ ap (λ (y : ℕ). getD A i 0 + 2 ^ w * 2 ^ y) (omega arith))
+
+-- rows that are A with the identity beside it, by index
+pub beside-is : (w : ℕ) (A W : List ℕ) → All (λ a. a < 2 ^ w) A → length W ≡ length A
+    → ((i : ℕ) → i < length A → getD W i 0 ≡ getD A i 0 + 2 ^ w * 2 ^ i) → W ≡ besideIdentity w 0 A
+beside-is w A W h l e = beside-from w 0 A W h l λ i u. rw zero-add (e i u)
 
 module _ (c w : ℕ) (fits : c ≤ w) where
   -- the columns from c up to w left out
-  narrowed : ℕ → ℕ
+  unfoldable pub narrowed : ℕ → ℕ
   narrowed v = v % 2 ^ c + 2 ^ c * (v / 2 ^ w)
 
-  narrowed-additive : Additive narrowed
+  pub narrowed-additive : Additive narrowed
   unfolding narrowed
   narrowed-additive a b =
       rw (xor-mod c a b, xor-shr w a b)
       (sym (xor-beside c (a % 2 ^ c) (b % 2 ^ c) (a / 2 ^ w) (b / 2 ^ w) (mod-lt a (pow-pos c)) (mod-lt b (pow-pos c))))
 
-  narrowed-same : (v k : ℕ) → k < c → bit (narrowed v) k ≡ bit v k
+  pub narrowed-same : (v k : ℕ) → k < c → bit (narrowed v) k ≡ bit v k
   unfolding narrowed
   narrowed-same v k h = bit-beside c (v % 2 ^ c) (v / 2 ^ w) k h ∙ bit-mod c v k h
 
@@ -158,21 +164,54 @@ module _ (c w : ℕ) (fits : c ≤ w) where
       low : (v % 2 ^ w + 2 ^ w * 2 ^ i) % 2 ^ c ≡ v % 2 ^ c
       low = sym (first-columns (v % 2 ^ w + 2 ^ w * 2 ^ i)) ∙ ap (λ (x : ℕ). x % 2 ^ c) (beside-mod w (v % 2 ^ w) (2 ^ i) small) ∙ first-columns v
 
-  narrowed-parts : (v : ℕ) → _≡_ {A = Row} (parts c (narrowed v)) (record { r = v % 2 ^ c; t = v / 2 ^ w })
+  narrowed-mod : (v : ℕ) → narrowed v % 2 ^ c ≡ v % 2 ^ c
   unfolding narrowed
-  narrowed-parts v =
-      let small : v % 2 ^ c < 2 ^ c = mod-lt v (pow-pos c) in
-      λ i. record { r = beside-mod c (v % 2 ^ c) (v / 2 ^ w) small i; t = beside-shr c (v % 2 ^ c) (v / 2 ^ w) small i }
+  narrowed-mod v = beside-mod c (v % 2 ^ c) (v / 2 ^ w) (mod-lt v (pow-pos c))
 
-  pub beside-law : (A : List ℕ) → let e = reduce c (besideIdentity w 0 A) in
-      (e .pivots ≡ echelon c A .pivots) × (map (λ v. record { r = v % 2 ^ c; t = v / 2 ^ w }) (e .rows) ≡ echelon c A .rows)
-  unfolding echelon
-  beside-law A =
-      let rows = reduce c (besideIdentity w 0 A) .rows in
-      let e : map narrowed (besideIdentity w 0 A) ≡ besideIdentity c 0 A = narrowed-beside 0 A in
-      let m = rw e at (reduce-map c narrowed narrowed-additive (additive-zero narrowed narrowed-additive) narrowed-same (besideIdentity w 0 A)) in
-      (
-        sym (m .0),
-        sym (ap (map (parts c)) (m .1) ∙ map-map (parts c) narrowed rows
-        ∙ map-same (λ v. parts c (narrowed v)) (λ v. record { r = v % 2 ^ c; t = v / 2 ^ w }) rows (all-of narrowed-parts rows)),
-      )
+  narrowed-shr : (v : ℕ) → narrowed v / 2 ^ c ≡ v / 2 ^ w
+  unfolding narrowed
+  narrowed-shr v = beside-shr c (v % 2 ^ c) (v / 2 ^ w) (mod-lt v (pow-pos c))
+
+  module _ (A : List ℕ) where
+    narrowed-echelonize : (echelonize c (besideIdentity c 0 A) .pivots ≡ echelonize c (besideIdentity w 0 A) .pivots)
+        × (echelonize c (besideIdentity c 0 A) .rows ≡ map narrowed (echelonize c (besideIdentity w 0 A) .rows))
+    narrowed-echelonize =
+        rw (narrowed-beside 0 A) at
+        (echelonize-map c narrowed narrowed-additive (additive-zero narrowed narrowed-additive) narrowed-same (besideIdentity w 0 A))
+
+    pub beside-law : let e = echelonize c (besideIdentity w 0 A) in
+        (e .pivots ≡ echelon c A .pivots) × (map (λ v. record { r = v % 2 ^ c; t = v / 2 ^ w }) (e .rows) ≡ echelon c A .rows)
+    unfolding echelon
+    beside-law =
+        let rows = echelonize c (besideIdentity w 0 A) .rows in (
+          sym (narrowed-echelonize .0),
+          sym (ap (map (parts c)) (narrowed-echelonize .1) ∙ map-map (parts c) narrowed rows
+              ∙ map-same (λ v. parts c (narrowed v)) (λ v. record { r = v % 2 ^ c; t = v / 2 ^ w }) rows
+              (all-of (λ v. λ i. record { r = narrowed-mod v i; t = narrowed-shr v i }) rows)),
+        )
+
+    -- the sweep by such rows gives the same solution
+    module _ (v : ℕ) where
+      swept : ℕ
+      swept = sweep (echelonize c (besideIdentity w 0 A) .pivots) (echelonize c (besideIdentity w 0 A) .rows) (v % 2 ^ c)
+
+      narrowed-target : narrowed (v % 2 ^ c) ≡ v % 2 ^ c
+      unfolding narrowed
+      narrowed-target =
+          ap₂ (λ (x y : ℕ). x + 2 ^ c * y) (mod-mod v (2 ^ c)) (div-eq-of-lt (lt-of-lt-of-le (mod-lt v (pow-pos c)) (pow-mono fits))) ∙ omega arith
+
+      narrowed-left : left c A v ≡ narrowed swept
+      unfolding left swept whole echelon
+      narrowed-left =
+          let e = echelonize c (besideIdentity w 0 A) in
+          ap₂ (λ (ps M : List ℕ). sweep ps M (v % 2 ^ c)) (narrowed-echelonize .0) (narrowed-echelonize .1)
+          ∙ ap (sweep (e .pivots) (map narrowed (e .rows))) (sym narrowed-target)
+          ∙ sweep-map c narrowed narrowed-additive (additive-zero narrowed narrowed-additive) narrowed-same (e .pivots) (e .rows) (v % 2 ^ c)
+          (pivots-lt c (besideIdentity w 0 A))
+
+      pub beside-solve : let e = echelonize c (besideIdentity w 0 A) in let s = sweep (e .pivots) (e .rows) (v % 2 ^ c) in
+          transposeSolve c (echelon c A) v ≡ solved (s % 2 ^ c) (s / 2 ^ w)
+      unfolding swept
+      beside-solve =
+          solve-is c A v
+          ∙ ap₂ solved (ap (λ (x : ℕ). x % 2 ^ c) narrowed-left ∙ narrowed-mod swept) (ap (λ (x : ℕ). x / 2 ^ c) narrowed-left ∙ narrowed-shr swept)

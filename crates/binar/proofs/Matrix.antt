@@ -167,8 +167,15 @@ matrix-image s (v ∷ M) rest b =
     (ap (matrix s (length M)) (drop-at (words s v) (image s M rest) s (length-words s v)) ∙ matrix-image s M rest (λ i. b (suc i)))
 
 -- the row with number i, in a slice that holds the matrix M
-pub row-image : (s : ℕ) (M rest : List ℕ) (i : ℕ) → Below (64 * s) M → i < length M → rowAt (image s M rest) (i * s) s ≡ getD M i 0
-row-image s M rest i b h = sym (matrix-row s (length M) (image s M rest) i h) ∙ ap (λ (A : List ℕ). getD A i 0) (matrix-image s M rest b)
+pub row-image : (s : ℕ) (M rest : List ℕ) (i : ℕ) → i < length M → getD M i 0 < 2 ^ (64 * s) → rowAt (image s M rest) (i * s) s ≡ getD M i 0
+unfolding image rowAt
+row-image s [] rest i h b = absurd (omega arith)
+row-image s (v ∷ M) rest zero h b = rw zero-mul (ap value (take-at (words s v) (image s M rest) s (length-words s v)) ∙ value-words s v b)
+row-image s (v ∷ M) rest (suc i) h b =
+    ap (λ (t : List ℕ). value (take s t))
+    (ap (λ (k : ℕ). drop k (words s v ++ image s M rest)) (suc-mul i s ∙ add-comm (i * s) s ∙ ap (_+ i * s) (sym (length-words s v)))
+    ∙ drop-append-add (words s v) (image s M rest) (i * s))
+    ∙ row-image s M rest i (omega arith) b
 
 put-after : (xs l : List ℕ) (i n v : ℕ) → putRow (xs ++ l) (length xs + i) n v ≡ xs ++ putRow l i n v
 unfolding putRow

@@ -11,11 +11,11 @@ use Rattle.binar.specs.declared.echelon.Cell.{Cell}
 use Rattle.binar.specs.declared.echelon.Found.{Found}
 use Rattle.binar.specs.declared.echelon.Found.the-variants.{At, Nothing}
 use Rattle.binar.specs.Words.{rowAt, putRow, matrix, image, words}
-use Rattle.binar.specs.Echelon.{pivotOf, swapRows, addToOthers, placePivot, Reduction, withPivot, onFound, reduceFrom, reduce}
+use Rattle.binar.specs.Echelon.{pivotOf, swapRows, addToOthers, placePivot, Reduction, withPivot, onFound, echelonizeFrom, echelonize}
 use Rattle.binar.specs.Layout.{laidOut}
 use Rattle.binar.proofs.Slice.{AreWords, exchanged, length-words}
 use Rattle.binar.proofs.Matrix.{Below, below-set, length-matrix, matrix-lt, image-matrix, drop-image, matrix-image, row-image, put-image}
-use Rattle.binar.proofs.Kept.{reduce-length}
+use Rattle.binar.proofs.Kept.{echelonize-length}
 use Rattle.binar.proofs.Others.{added-below, length-added}
 
 -- ---- stores to a list of words or rows
@@ -27,7 +27,7 @@ words-set l k x f h = below-set 64 l k x f h
 
 -- the reduction from row r and column c on
 unfoldable pub left : List ℕ → ℕ → ℕ → ℕ → ℕ → ℕ → Reduction
-left l s n cols r c = reduceFrom cols (n - r) r c (matrix s n l)
+left l s n cols r c = echelonizeFrom cols (n - r) r c (matrix s n l)
 
 -- the slice at its end; r pivots stand behind the rows already
 unfoldable pub final : List ℕ → ℕ → ℕ → ℕ → ℕ → ℕ → List ℕ
@@ -41,20 +41,20 @@ unfoldable pub total : List ℕ → ℕ → ℕ → ℕ → ℕ → ℕ → ℕ
 total l s n cols r c = r + length (left l s n cols r c .pivots)
 
 module _ (l : List ℕ) (s n cols : ℕ) where
-  left-start : left l s n cols 0 0 ≡ reduce cols (matrix s n l)
-  unfolding left reduce
-  left-start = ap (λ (k : ℕ). reduceFrom cols k 0 0 (matrix s n l)) (sub-zero n ∙ sym (length-matrix s n l))
+  left-start : left l s n cols 0 0 ≡ echelonize cols (matrix s n l)
+  unfolding left echelonize
+  left-start = ap (λ (k : ℕ). echelonizeFrom cols k 0 0 (matrix s n l)) (sub-zero n ∙ sym (length-matrix s n l))
 
-  pub final-start : final l s n cols 0 0 ≡ laidOut s (reduce cols (matrix s n l)) l
+  pub final-start : final l s n cols 0 0 ≡ laidOut s (echelonize cols (matrix s n l)) l
   unfolding final laidOut
   final-start =
-      let f = reduce cols (matrix s n l) in
+      let f = echelonize cols (matrix s n l) in
       ap (λ (g : Reduction). image s (g .rows) (g .pivots ++ drop (0 + length (g .pivots)) (drop (n * s) l))) left-start
       ∙ ap (λ (t : List ℕ). image s (f .rows) (f .pivots ++ t))
       (ap (λ (k : ℕ). drop k (drop (n * s) l)) (zero-add (length (f .pivots))) ∙ drop-drop (length (f .pivots)) (n * s) l
-      ∙ ap (λ (k : ℕ). drop (k * s + length (f .pivots)) l) (sym (reduce-length cols (matrix s n l) ∙ length-matrix s n l)))
+      ∙ ap (λ (k : ℕ). drop (k * s + length (f .pivots)) l) (sym (echelonize-length cols (matrix s n l) ∙ length-matrix s n l)))
 
-  pub total-start : total l s n cols 0 0 ≡ length (reduce cols (matrix s n l) .pivots)
+  pub total-start : total l s n cols 0 0 ≡ length (echelonize cols (matrix s n l) .pivots)
   unfolding total
   total-start = zero-add _ ∙ ap (λ (g : Reduction). length (g .pivots)) left-start
 
@@ -65,11 +65,11 @@ module _ (l : List ℕ) (s n cols r c : ℕ) where
   Stops = left l s n cols r c ≡ record { rows = matrix s n l; pivots = [] }
 
   pub stops-end : n ≤ r → Stops
-  unfolding left reduceFrom
+  unfolding left echelonizeFrom
   stops-end h = let e : n - r ≡ 0 = omega arith in rw e
 
   pub stops-none : r < n → pivotOf cols r c (matrix s n l) ≡ Nothing → Stops
-  unfolding left reduceFrom onFound
+  unfolding left echelonizeFrom onFound
   stops-none h e = let k : n - r ≡ suc (n - (r + 1)) = omega arith in rw (k, e)
 
   pub final-stop : AreWords l → n * s ≤ length l → Stops → final l s n cols r c ≡ l
@@ -133,8 +133,8 @@ module _ (l : List ℕ) (s n cols r c : ℕ) (cell : Cell) (f : AreWords l) (roo
   swap-rows-is : swapped ≡ image s (swapRows i r M) behind
   unfolding exchanged swapRows
   swap-rows-is =
-      let ri = row-image s M behind i bound (rw rows hi) in
-      let rr = row-image s M behind r bound (rw rows hr) in
+      let ri = row-image s M behind i (rw rows hi) (bound i) in
+      let rr = row-image s M behind r (rw rows hr) (bound r) in
       ap (λ (m : List ℕ). exchanged m (i * s) (r * s) s) whole
       ∙ ap₂ (λ (x : ℕ) (y : ℕ). putRow (putRow (image s M behind) (i * s) s y) (r * s) s x) ri rr
       ∙ ap (λ (m : List ℕ). putRow m (r * s) s (getD M i 0)) (put-image s M behind i (getD M r 0) (rw rows hi))
@@ -155,7 +155,7 @@ module _ (l : List ℕ) (s n cols r c : ℕ) (cell : Cell) (f : AreWords l) (roo
   swap-pivot : rowAt swapped (r * s) s ≡ getD M i 0
   unfolding swapRows
   swap-pivot =
-      ap (λ (m : List ℕ). rowAt m (r * s) s) swap-rows-is ∙ row-image s (swapRows i r M) behind r swap-bound (rw swap-length hr)
+      ap (λ (m : List ℕ). rowAt m (r * s) s) swap-rows-is ∙ row-image s (swapRows i r M) behind r (rw swap-length hr) (swap-bound r)
       ∙ getD-set-same (set M i (getD M r 0)) r (getD M i 0) 0 (rw length-set (rw rows hr))
 
   behind-image : (A : List ℕ) → length A ≡ n → (t : List ℕ) → drop (n * s) (image s A t) ≡ t
@@ -190,7 +190,7 @@ module _ (l : List ℕ) (s n cols r c : ℕ) (cell : Cell) (f : AreWords l) (roo
 
   module _ (e : pivotOf cols r c M ≡ At cell) where
     left-next : left l s n cols r c ≡ withPivot j (left placed s n cols (r + 1) (j + 1))
-    unfolding left reduceFrom onFound
+    unfolding left echelonizeFrom onFound
     left-next =
         let k : n - r ≡ suc (n - (r + 1)) = omega arith in
         rw (k, e, add-one r, add-one j, placed-matrix)

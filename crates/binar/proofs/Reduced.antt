@@ -1,12 +1,12 @@
 -- Reduced form as an inductive notion, for the first c columns of a matrix: the reduction leads to it.
-use mathlib.Core.Path.{_≡_, refl, _∙_}
+use mathlib.Core.Path.{_≡_, refl, sym, _∙_}
 use mathlib.Core.List.{List, [], _∷_, _++_, map, append-nil}
 use Prim.Native.Nat.{ℕ, suc, _+_, _%_, _^_, _≤_, _<_}
 use native.Mathlib.Omega.{arith}
 use lib.ListN.{length, take, drop, length-append, length-map}
-use lib.Seq.{append-snoc}
+use lib.Seq.{append-snoc, drop-at}
 use Rattle.binar.specs.Row.{bit, columns}
-use Rattle.binar.specs.Echelon.{clear, Reduction, withPivot, reduce}
+use Rattle.binar.specs.Echelon.{clear, Reduction, withPivot, echelonize}
 use Rattle.binar.proofs.Bits.{bit-mod, Blank, blank-one, blank-join}
 use Rattle.binar.proofs.Lists.{All, all-of, all-map, all-zip, all-join, all-right, all-over}
 use Rattle.binar.proofs.Span.{blank-subspace}
@@ -19,6 +19,14 @@ pub data Reduced (c : ℕ) : ℕ → List ℕ → List ℕ → Type 0 where
   next : {lo p v : ℕ} {ps M : List ℕ} → lo ≤ p → p < c → Blank 0 p v → bit v p ≡ 1 → All (λ q. bit v q ≡ 0) ps → Reduced c (suc p) ps M
       → Reduced c lo (p ∷ ps) (v ∷ M)
 
+pub pivots-in : {c lo : ℕ} {ps M : List ℕ} → Reduced c lo ps M → All (λ q. q < c) ps
+pivots-in (last z) = tt
+pivots-in (next a u x o z more) = (u, pivots-in more)
+
+pub reduced-drop : {c lo : ℕ} {ps M : List ℕ} → Reduced c lo ps M → All (Blank 0 c) (drop (length ps) M)
+reduced-drop (last z) = z
+reduced-drop (next a u x o z more) = reduced-drop more
+
 -- ---- a step of the reduction
 -- with no ones in rest from column c up to d, the first d columns are reduced as the first c are
 more-columns : {c lo : ℕ} {ps : List ℕ} (d : ℕ) (done rest : List ℕ) → c ≤ d → length ps ≡ length done → All (Blank c d) rest → Reduced c lo ps (done ++ rest)
@@ -28,26 +36,17 @@ more-columns d [] rest l e b (next a u x o z more) = absurd (omega arith)
 more-columns d (v ∷ done) rest l e b (last z) = absurd (omega arith)
 more-columns d (v ∷ done) rest l e b (next a u x o z more) = next a (omega arith) x o z (more-columns d done rest l (omega arith) b more)
 
-pub pivots-in : {c lo : ℕ} {ps M : List ℕ} → Reduced c lo ps M → All (λ q. q < c) ps
-pivots-in (last z) = tt
-pivots-in (next a u x o z more) = (u, pivots-in more)
-
 rest-blank : {c lo : ℕ} {ps : List ℕ} (done rest : List ℕ) → length ps ≡ length done → Reduced c lo ps (done ++ rest) → All (Blank 0 c) rest
-rest-blank [] rest e (last z) = z
-rest-blank [] rest e (next a u x o z more) = absurd (omega arith)
-rest-blank (v ∷ done) rest e (last z) = absurd (omega arith)
-rest-blank (v ∷ done) rest e (next a u x o z more) = rest-blank done rest (omega arith) more
+rest-blank {ps} done rest e r = rw (drop-at done rest (length ps) (sym e)) at (reduced-drop r)
 
 -- a pivot row p for column c, put after done, and the column cleared in all other rows
 module _ (c p : ℕ) (low : Blank 0 c p) (one : bit p c ≡ 1) where
-  cleared-rest : (vs : List ℕ) → All (Blank 0 c) vs → All (Blank 0 (suc c)) (map (clear c p) vs)
-  cleared-rest vs h =
-      all-over (Blank 0 (suc c)) (clear c p) vs
-      (all-map (λ v b. blank-join 0 c (suc c) (clear c p v) (clear-in c p v (blank-subspace 0 c) low b) (blank-one c (clear c p v) (clear-column c p v one))) vs h)
+  cleared : (v : ℕ) → Blank 0 c v → Blank 0 (suc c) (clear c p v)
+  cleared v b = blank-join 0 c (suc c) (clear c p v) (clear-in c p v (blank-subspace 0 c) low b) (blank-one c (clear c p v) (clear-column c p v one))
 
   place : {lo : ℕ} {ps : List ℕ} (done rest left : List ℕ) → lo ≤ c → length ps ≡ length done → All (Blank 0 c) left → Reduced c lo ps (done ++ rest)
       → Reduced (suc c) lo (ps ++ c ∷ []) (map (clear c p) done ++ p ∷ map (clear c p) left)
-  place [] rest left l e b (last z) = next l (omega arith) low one tt (last (cleared-rest left b))
+  place [] rest left l e b (last z) = next l (omega arith) low one tt (last (all-over (Blank 0 (suc c)) (clear c p) left (all-map cleared left b)))
   place [] rest left l e b (next a u x o z more) = absurd (omega arith)
   place (v ∷ done) rest left l e b (last z) = absurd (omega arith)
   place (v ∷ done) rest left l e b (next {p = q} {ps = qs} a u x o z more) =
@@ -66,13 +65,14 @@ run-reduced {cols} {done} {rest} ps (stop b) l e r = rw append-nil (more-columns
 run-reduced {done} ps (step {j} {f} pre p post l u o b more) h e r =
     let w = more-columns j done (pre ++ p ∷ post) l e b r in
     let z = rest-blank done (pre ++ p ∷ post) e w in
-    let n = place j p (all-right (Blank 0 j) pre (p ∷ post) z .0) o done (pre ++ p ∷ post) (others pre post) (omega arith) e (others-in (Blank 0 j) pre p post z) w in
+    let low = all-right (Blank 0 j) pre (p ∷ post) z .0 in
+    let n = place j p low o done (pre ++ p ∷ post) (others pre post) (omega arith) e (others-in (Blank 0 j) pre p post z) w in
     rw (← append-snoc ps j (f .pivots))
     (run-reduced (ps ++ j ∷ []) more u (simp (length-append, length-map) (omega arith))
     (rw (append-snoc (map (clear j p) done) p (map (clear j p) (others pre post))) n))
 
-pub reduce-reduced : (cols : ℕ) (M : List ℕ) → Reduced cols 0 (reduce cols M .pivots) (reduce cols M .rows)
-reduce-reduced cols M = run-reduced [] (run-is cols M) (omega arith) refl (last (all-of (λ v k l u. absurd (omega arith)) M))
+pub echelonize-reduced : (cols : ℕ) (M : List ℕ) → Reduced cols 0 (echelonize cols M .pivots) (echelonize cols M .rows)
+echelonize-reduced cols M = run-reduced [] (run-is cols M) (omega arith) refl (last (all-of (λ v k l u. absurd (omega arith)) M))
 
 -- ---- bounds
 pub reduced-room : {c lo : ℕ} {ps M : List ℕ} → Reduced c lo ps M → length ps ≤ length M
@@ -96,10 +96,6 @@ reduced-blank (next {M} a u x o z more) l = (λ k h g. x k h (omega arith), all-
 pub reduced-take : {c lo : ℕ} {ps M : List ℕ} → Reduced c lo ps M → Reduced c lo ps (take (length ps) M)
 reduced-take (last z) = last tt
 reduced-take (next a u x o z more) = next a u x o z (reduced-take more)
-
-pub reduced-drop : {c lo : ℕ} {ps M : List ℕ} → Reduced c lo ps M → All (Blank 0 c) (drop (length ps) M)
-reduced-drop (last z) = z
-reduced-drop (next a u x o z more) = reduced-drop more
 
 pub reduced-columns : {c lo : ℕ} {ps M : List ℕ} → Reduced c lo ps M → Reduced c lo ps (columns c M)
 unfolding columns

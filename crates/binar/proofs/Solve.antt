@@ -42,8 +42,7 @@ pub sweep-clears : {c lo : ℕ} {ps M : List ℕ} → Reduced c lo ps M → (v :
 unfolding sweep
 sweep-clears (last z) v = tt
 sweep-clears (next {p} {v = w} {ps} {M} a u x o z more) v =
-    let b = sweep-change (blank-subspace 0 (suc p)) ps M (clear p w v) (reduced-blank more u) in
-    (
+    let b = sweep-change (blank-subspace 0 (suc p)) ps M (clear p w v) (reduced-blank more u) in (
       omega (arith, bit-xor (sweep ps M (clear p w v)) (clear p w v) p, b p (omega arith) (omega arith), clear-column p w v o, bit-lt (sweep ps M (clear p w v)) p),
       sweep-clears more (clear p w v),
     )
@@ -56,7 +55,7 @@ solved-some (suc rest) set s e = let z : _≡_ {A = ℕ} 0 1 = cc in absurd (ome
 
 solved-zero : (rest set : ℕ) → rest ≡ 0 → solved rest set ≡ none → ⊥
 unfolding solved
-solved-zero zero set z e = let z : _≡_ {A = ℕ} 0 1 = cc in omega arith
+solved-zero zero set z e = let n : _≡_ {A = ℕ} 0 1 = cc in omega arith
 solved-zero (suc rest) set z e = omega arith
 
 solved-none : (rest set : ℕ) → (rest ≡ 0 → ⊥) → solved rest set ≡ none
@@ -74,10 +73,10 @@ module _ (c : ℕ) (A : List ℕ) where
 
   module _ (v : ℕ) where
     -- what the sweep leaves: the rest of the target in the first c columns, the set past them
-    left : ℕ
+    unfoldable pub left : ℕ
     left = sweep (echelon c A .pivots) (whole c A) (v % 2 ^ c)
 
-    solve-is : transposeSolve c (echelon c A) v ≡ solved (left % 2 ^ c) (left / 2 ^ c)
+    pub solve-is : transposeSolve c (echelon c A) v ≡ solved (left % 2 ^ c) (left / 2 ^ c)
     unfolding transposeSolve left
     solve-is = rw joined-rows
 

@@ -11,9 +11,9 @@ use Rattle.binar.specs.Space.{RowSpace, SameSpace, Independent, Dimensio
 use Rattle.binar.proofs.Bits.{xor-mod, xor-shr, blank-zero}
 use Rattle.binar.proofs.Lists.{All, all-map, all-zip, all-join, all-left, all-right}
 use Rattle.binar.proofs.Span.{space-subspace, space-rows, same-space, same-flip, same-join, columns-lt}
-use Rattle.binar.proofs.Reduced.{Reduced, reduce-reduced, reduced-room, reduced-take, reduced-drop, reduced-columns}
+use Rattle.binar.proofs.Reduced.{Reduced, echelonize-reduced, reduced-room, reduced-take, reduced-drop, reduced-columns}
 use Rattle.binar.proofs.Unique.{reduced-independent}
-use Rattle.binar.proofs.Transform.{reduce-space, beside-columns, beside-units, whole, R-is, T-is}
+use Rattle.binar.proofs.Transform.{echelonize-space, beside-columns, beside-units, whole, R-is, T-is}
 use Rattle.binar.proofs.Dimension.{dimension-le}
 
 -- the pivot rows of a reduced matrix span what all its rows span
@@ -21,10 +21,10 @@ pivot-rows : {c lo : ℕ} {ps M : List ℕ} → Reduced c lo ps M → All (λ v.
 pivot-rows {c} {ps} {M} r h =
     let B = take (length ps) M in
     let D = drop (length ps) M in
-    let whole : B ++ D ≡ M = take-append-drop (length ps) M in
-    let narrow = all-right (λ v. v < 2 ^ c) B D (rw whole h) in
+    let joined : B ++ D ≡ M = take-append-drop (length ps) M in
+    let narrow = all-right (λ v. v < 2 ^ c) B D (rw joined h) in
     let zeros = all-zip (λ v b l. subst (RowSpace B) (sym (blank-zero c v l b)) (space-subspace B .origin)) D (reduced-drop r) narrow in
-    same-space (all-left (RowSpace M) B D (rw whole (space-rows M))) (rw whole at (all-join (RowSpace B) B D (space-rows B) zeros))
+    same-space (all-left (RowSpace M) B D (rw joined (space-rows M))) (rw joined at (all-join (RowSpace B) B D (space-rows B) zeros))
 
 -- the subsets that show rows to be in a row space
 subsets : (A vs : List ℕ) → All (RowSpace A) vs → List ℕ
@@ -39,7 +39,7 @@ subsets-sum A (v ∷ vs) h = ap₂ _∷_ (h .0 .sums) (subsets-sum A vs (h .1))
 module _ (c : ℕ) (A : List ℕ) where
   pub whole-reduced : Reduced c 0 (echelon c A .pivots) (whole c A)
   unfolding echelon whole
-  whole-reduced = reduce-reduced c (besideIdentity c 0 A)
+  whole-reduced = echelonize-reduced c (besideIdentity c 0 A)
 
   pub R-reduced : Reduced c 0 (echelon c A .pivots) (R (echelon c A))
   R-reduced = rw (R-is c A) (reduced-columns whole-reduced)
@@ -49,11 +49,11 @@ module _ (c : ℕ) (A : List ℕ) where
 
   pub R-space : SameSpace (columns c A) (R (echelon c A))
   unfolding columns whole
-  R-space = rw (R-is c A, ← beside-columns c 0 A) (reduce-space (λ v. v % 2 ^ c) (xor-mod c) c (besideIdentity c 0 A))
+  R-space = rw (R-is c A, ← beside-columns c 0 A) (echelonize-space (λ v. v % 2 ^ c) (xor-mod c) c (besideIdentity c 0 A))
 
   T-space : SameSpace (units 0 (length A)) (T (echelon c A))
   unfolding whole
-  T-space = rw (T-is c A, ← beside-units c 0 A) (reduce-space (λ v. v / 2 ^ c) (xor-shr c) c (besideIdentity c 0 A))
+  T-space = rw (T-is c A, ← beside-units c 0 A) (echelonize-space (λ v. v / 2 ^ c) (xor-shr c) c (besideIdentity c 0 A))
 
   basis-size : length (take (rank (echelon c A)) (R (echelon c A))) ≡ rank (echelon c A)
   unfolding rank

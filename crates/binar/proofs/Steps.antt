@@ -21,8 +21,8 @@ use Rattle.binar.specs.Echelon.{
   Reduction,
   withPivot,
   onFound,
-  reduceFrom,
-  reduce,
+  echelonizeFrom,
+  echelonize,
 }
 use Rattle.binar.specs.declared.echelon.Found.{Found}
 use Rattle.binar.specs.declared.echelon.Found.the-variants.{At, Nothing}
@@ -137,7 +137,8 @@ module _ (c p r : ℕ) where
   add-is : (i : ℕ) (done rest : List ℕ) → i + length done ≡ r
       → addToOthers c p r i (done ++ p ∷ rest) ≡ map (clear c p) done ++ p ∷ map (clear c p) rest
   unfolding addToOthers
-  add-is i [] rest e = ap₂ _∷_ (unless-true (eqb i r) p (clear c p p) (subst (λ (k : ℕ). T (eqb i k)) (omega arith) (eqb-refl i))) (add-after (suc i) rest (omega arith))
+  add-is i [] rest e =
+      ap₂ _∷_ (unless-true (eqb i r) p (clear c p p) (subst (λ (k : ℕ). T (eqb i k)) (omega arith) (eqb-refl i))) (add-after (suc i) rest (omega arith))
   add-is i (v ∷ done) rest e =
       ap₂ _∷_ (unless-false (eqb i r) v (clear c p v) λ t. omega (arith, eqb→eq i r t)) (add-is (suc i) done rest (omega arith))
 
@@ -157,10 +158,10 @@ pub data Run (cols : ℕ) : ℕ → List ℕ → List ℕ → Reduction → Type
 
 run-next : {s : Found} (cols n r c : ℕ) (done rest : List ℕ) → length done ≡ r → length rest ≡ suc n
     → ((c′ : ℕ) (done′ rest′ : List ℕ) → c′ ≤ cols → length done′ ≡ suc r → length rest′ ≡ n
-      → Run cols c′ done′ rest′ (reduceFrom cols n (suc r) c′ (done′ ++ rest′)))
+    → Run cols c′ done′ rest′ (echelonizeFrom cols n (suc r) c′ (done′ ++ rest′)))
     → Search cols c r rest s
     → Run cols c done rest
-      (onFound s (record { rows = done ++ rest; pivots = [] }) (λ i j. withPivot j (reduceFrom cols n (suc r) (suc j) (placePivot r i j (done ++ rest)))))
+    (onFound s (record { rows = done ++ rest; pivots = [] }) (λ i j. withPivot j (echelonizeFrom cols n (suc r) (suc j) (placePivot r i j (done ++ rest)))))
 unfolding onFound
 run-next cols n r c done rest d e more (nowhere b) = stop b
 run-next cols n r c done rest d e more (found row j pre p post q i h u o b) =
@@ -173,13 +174,13 @@ run-next cols n r c done rest d e more (found row j pre p post q i h u o b) =
     left : length (map (clear j p) (others pre post)) ≡ n
     left = rw (length-map (others pre post) (clear j p)) (omega (arith, length-others pre p post, ap length q))
 
-run-from : (cols n r c : ℕ) (done rest : List ℕ) → c ≤ cols → length done ≡ r → length rest ≡ n → Run cols c done rest (reduceFrom cols n r c (done ++ rest))
-unfolding reduceFrom
+run-from : (cols n r c : ℕ) (done rest : List ℕ) → c ≤ cols → length done ≡ r → length rest ≡ n → Run cols c done rest (echelonizeFrom cols n r c (done ++ rest))
+unfolding echelonizeFrom
 run-from cols zero r c done [] h d e = stop tt
 run-from cols zero r c done (v ∷ rest) h d e = absurd (omega arith)
 run-from cols (suc n) r c done rest h d e =
     run-next cols n r c done rest d e (run-from cols n (suc r)) (rw (drop-at done rest r d) at (pivot-is cols r c (done ++ rest) h))
 
-pub run-is : (cols : ℕ) (M : List ℕ) → Run cols 0 [] M (reduce cols M)
-unfolding reduce
+pub run-is : (cols : ℕ) (M : List ℕ) → Run cols 0 [] M (echelonize cols M)
+unfolding echelonize
 run-is cols M = run-from cols (length M) 0 0 [] M (omega arith) refl refl

@@ -7,7 +7,7 @@ use native.Mathlib.Omega.{arith}
 use lib.ListN.{length, getD, length-map}
 use lib.Pow.{pow-pos, pow-lt}
 use Rattle.binar.specs.Row.{columns, rowSum, units}
-use Rattle.binar.specs.Echelon.{reduce, besideIdentity, Row, echelon, R, T}
+use Rattle.binar.specs.Echelon.{echelonize, besideIdentity, Row, echelon, R, T}
 use Rattle.binar.specs.Space.{RowSpace, SameSpace}
 use Rattle.binar.proofs.Bits.{xor-mod, xor-shr, beside-mod, beside-shr}
 use Rattle.binar.proofs.Lists.{All, all-getD, all-over, all-under, map-same, same-map}
@@ -24,14 +24,14 @@ use Rattle.binar.proofs.Span.{
   space-rows,
   same-space,
 }
-use Rattle.binar.proofs.Kept.{reduce-length, reduce-in, reduce-out}
+use Rattle.binar.proofs.Kept.{echelonize-length, echelonize-in, echelonize-out}
 
--- an additive map carries the reduction's row space over
-pub reduce-space : (f : ℕ → ℕ) → Additive f → (cols : ℕ) (M : List ℕ) → SameSpace (map f M) (map f (reduce cols M .rows))
-reduce-space f h cols M =
-    let N = reduce cols M .rows in
-    let there = reduce-out (under-subspace f h (space-subspace (map f N))) cols M (all-under (RowSpace (map f N)) f N (space-rows (map f N))) in
-    let back = reduce-in (under-subspace f h (space-subspace (map f M))) cols M (all-under (RowSpace (map f M)) f M (space-rows (map f M))) in
+-- the row space is kept, also of what an additive map makes of the rows
+pub echelonize-space : (f : ℕ → ℕ) → Additive f → (cols : ℕ) (M : List ℕ) → SameSpace (map f M) (map f (echelonize cols M .rows))
+echelonize-space f h cols M =
+    let N = echelonize cols M .rows in
+    let there = echelonize-out (under-subspace f h (space-subspace (map f N))) cols M (all-under (RowSpace (map f N)) f N (space-rows (map f N))) in
+    let back = echelonize-in (under-subspace f h (space-subspace (map f M))) cols M (all-under (RowSpace (map f M)) f M (space-rows (map f M))) in
     same-space (all-over (RowSpace (map f N)) f M there) (all-over (RowSpace (map f M)) f N back)
 
 -- ---- the identity matrix
@@ -73,7 +73,7 @@ module _ (c : ℕ) where
 
 -- the rows of the reduction, with R in the first c columns and T past them
 unfoldable pub whole : ℕ → List ℕ → List ℕ
-whole c A = reduce c (besideIdentity c 0 A) .rows
+whole c A = echelonize c (besideIdentity c 0 A) .rows
 
 abbrev pub parts : ℕ → ℕ → Row
 parts c v = record { r = v % 2 ^ c; t = v / 2 ^ c }
@@ -109,19 +109,19 @@ module _ (c : ℕ) (A : List ℕ) where
 
   pub whole-made : All (λ v. rowSum (v / 2 ^ c) (columns c A) ≡ v % 2 ^ c) (whole c A)
   unfolding whole
-  whole-made = reduce-in made-subspace c (besideIdentity c 0 A) beside-made
+  whole-made = echelonize-in made-subspace c (besideIdentity c 0 A) beside-made
 
   pub square-subspace : Subspace (λ v. v / 2 ^ c < 2 ^ length A)
   square-subspace = under-subspace (λ v. v / 2 ^ c) (xor-shr c) (below-subspace (length A))
 
   pub whole-square : All (λ v. v / 2 ^ c < 2 ^ length A) (whole c A)
   unfolding whole
-  whole-square = reduce-in square-subspace c (besideIdentity c 0 A)
+  whole-square = echelonize-in square-subspace c (besideIdentity c 0 A)
       (all-under (λ s. s < 2 ^ length A) (λ v. v / 2 ^ c) (besideIdentity c 0 A) (rw (beside-units c 0 A) (rw zero-add at (units-lt 0 (length A)))))
 
   whole-length : length (whole c A) ≡ length A
   unfolding whole
-  whole-length = reduce-length c (besideIdentity c 0 A) ∙ beside-length c 0 A
+  whole-length = echelonize-length c (besideIdentity c 0 A) ∙ beside-length c 0 A
 
   pub rows-count : length (echelon c A .rows) ≡ length A
   rows-count = rw rows-are (length-map (whole c A) (parts c) ∙ whole-length)

@@ -61,15 +61,15 @@ onFound Nothing x k = x
 onFound (At cell) x k = k (cell .row) (cell .col)
 
 -- at most n more pivots, the next of them to go to row r and to be looked for from column c on
-unfoldable pub reduceFrom : ℕ → ℕ → ℕ → ℕ → List ℕ → Reduction
-reduceFrom cols zero r c M = record { rows = M; pivots = [] }
-reduceFrom cols (suc n) r c M =
+unfoldable pub echelonizeFrom : ℕ → ℕ → ℕ → ℕ → List ℕ → Reduction
+echelonizeFrom cols zero r c M = record { rows = M; pivots = [] }
+echelonizeFrom cols (suc n) r c M =
     onFound (pivotOf cols r c M) (record { rows = M; pivots = [] })
-    (λ i j. withPivot j (reduceFrom cols n (suc r) (suc j) (placePivot r i j M)))
+    (λ i j. withPivot j (echelonizeFrom cols n (suc r) (suc j) (placePivot r i j M)))
 
--- reduction by the first cols columns of a matrix
-unfoldable pub reduce : ℕ → List ℕ → Reduction
-reduce cols M = reduceFrom cols (length M) 0 0 M
+-- `echelonize`: reduction by the first cols columns of a matrix
+unfoldable pub echelonize : ℕ → List ℕ → Reduction
+echelonize cols M = echelonizeFrom cols (length M) 0 0 M
 
 -- A with the identity beside it: row i of A in the first c columns, and a one in column c + i
 unfoldable pub besideIdentity : ℕ → ℕ → List ℕ → List ℕ
@@ -88,7 +88,7 @@ pub record EchelonForm : Type 0 where
 -- the echelon form of A's first c columns
 unfoldable pub echelon : ℕ → List ℕ → EchelonForm
 echelon c A =
-    let f = reduce c (besideIdentity c 0 A) in
+    let f = echelonize c (besideIdentity c 0 A) in
     record { rows = map (λ v. record { r = v % 2 ^ c; t = v / 2 ^ c }) (f .rows); pivots = f .pivots }
 
 -- R, T and the rank

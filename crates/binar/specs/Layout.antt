@@ -10,7 +10,7 @@ use Rattle.binar.specs.declared.echelon.Formation.the-variants.{Rank, Mi
 use Rattle.binar.specs.declared.echelon.Solution.{Solution}
 use Rattle.binar.specs.declared.echelon.Solution.the-variants.{Set, NoSet}
 use Rattle.binar.specs.Words.{rowAt, matrix, image}
-use Rattle.binar.specs.Echelon.{Reduction, reduce, besideIdentity}
+use Rattle.binar.specs.Echelon.{Reduction, echelonize, besideIdentity}
 use Rattle.binar.specs.Solve.{sweep}
 
 -- the rows of s words each, behind them the pivot columns, a word each, and then what was in the slice
@@ -38,7 +38,7 @@ fits width n cols m = both (leb cols (64 * width)) (leb (n * formStride width n 
 
 -- the n rows of a slice, with the identity in T's words, reduced by the first cols columns
 unfoldable pub formed : ℕ → ℕ → ℕ → List ℕ → Reduction
-formed width n cols l = reduce cols (besideIdentity (64 * width) 0 (matrix (formStride width n) n l))
+formed width n cols l = echelonize cols (besideIdentity (64 * width) 0 (matrix (formStride width n) n l))
 
 abbrev pub pick {ℓ} : {X : Type ℓ} → Bool → X → X → X
 pick true x y = x

@@ -7,7 +7,7 @@ ghost use Prim.Native.Nat.{_+_, _*_, _/_, _%_, _^_, _≤_, _<_};
 ghost use lib.Dec.{eqb};
 ghost use lib.ListN.{length, getD, drop};
 ghost use Rattle.binar.specs.Words.{rowAt, putRow, matrix, image};
-ghost use Rattle.binar.specs.Echelon.{pivotOf, addToOthers, reduce as reduction, besideIdentity};
+ghost use Rattle.binar.specs.Echelon.{pivotOf, addToOthers, echelonize as echelonized, besideIdentity};
 ghost use Rattle.binar.specs.Layout.{laidOut, Shape, FormIs, Solvable, swept, solution};
 use crate::row::bitxor_assign;
 use crate::row::clear_bits;
@@ -81,8 +81,8 @@ pub fn reduce(w: &mut [u64], stride: usize, rows: usize, r: usize, c: usize)
 // Reduces the rows by their first cols columns, in place, writes the pivots behind them, and returns how many there are.
 pub fn echelonize(w: &mut [u64], stride: usize, rows: usize, cols: usize) -> usize
     requires { ⌜ Shape (now w) stride rows cols ⌝ }
-    ensures rank { λ r. ⌜ r ≡ length (reduction cols (matrix stride rows (now (w .entry))) .pivots) ⌝ }
-    ensures left { λ _. ⌜ now (w .exit) ≡ laidOut stride (reduction cols (matrix stride rows (now (w .entry)))) (now (w .entry)) ⌝ }
+    ensures rank { λ r. ⌜ r ≡ length (echelonized cols (matrix stride rows (now (w .entry))) .pivots) ⌝ }
+    ensures left { λ _. ⌜ now (w .exit) ≡ laidOut stride (echelonized cols (matrix stride rows (now (w .entry)))) (now (w .entry)) ⌝ }
 {
     let mut r = 0;
     let mut c = 0;

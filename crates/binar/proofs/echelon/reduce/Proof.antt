@@ -1,7 +1,8 @@
 -- Invariant: the first i rows are done.
 use Prim.Native.Nat.{ℕ, _+_, _-_, _*_, _^_, _≤_, _<_}
 use Rattle.binar.proofs.Matrix.{row-in, two-rows}
-use Rattle.binar.proofs.Others.{doneTo, done-start, done-end, done-bit, done-add, done-pivot, done-skip}
+use Rattle.binar.proofs.Others.{cleared, length-cleared, clear-add, clear-pivot, clear-skip}
+use Rattle.binar.proofs.RowByRow.{rewritten, rewritten-none, rewritten-all, bit-here}
 use Rattle.binar.specs.Words.{putRow, rowAt}
 use lib.ListN.{length, getD, drop}
 use mathlib.Core.Logic.{⊎-elim}
@@ -11,28 +12,29 @@ use Rattle.binar.proofs.echelon.reduce.Statement.{statement}
 use Rattle.binar.proofs.echelon.reduce.Tie as tie
 
 abbrev Inv-loop : tie.InvT-loop
-Inv-loop w₀ stride rows r c i₀ w i = (i ≤ rows) × (length w ≡ length w₀) × (w ≡ doneTo w₀ stride rows r c i)
+Inv-loop w₀ stride rows r c i₀ w i = (i ≤ rows) × (length w ≡ length w₀) × (w ≡ rewritten w₀ stride rows (cleared w₀ stride rows r c) i)
 
 abbrev μ-loop : tie.MeasureT-loop
 μ-loop w₀ stride rows r c i₀ w i = rows - i
 
 -- one turn of the loop
 turn : (c : tie.Joined1 Inv-loop μ-loop)
-    → (c .if1 .w ≡ doneTo (c .before .before .before .before .args .w .now) (c .before .before .before .before .args .stride) (c .before .before .before .before .args .rows) (c .before .before .before .before .args .r) (c .before .before .before .before .args .c) (c .before .before .loop .i + 1))
+    → let start = c .before .before .before .before .args in
+    (c .if1 .w ≡ rewritten (start .w .now) (start .stride) (start .rows) (cleared (start .w .now) (start .stride) (start .rows) (start .r) (start .c)) (c .before .before .loop .i + 1))
     × (length (c .if1 .w) ≡ length (c .before .before .loop .w))
 turn c =
     ⊎-elim
     (λ h. (
-      h .8 ∙ h .5 .ensures ∙ done-add _ _ _ _ _ (λ q. c .before .before .before .slice-known .given q .fits) (c .before .before .before .before .pre .0) (c .before .before .before .before .pre .1) _ (c .before .loop-test .taken) _ (c .before .before .loop .inv .2) (h .0 .taken) (sym (h .2 .ensures ∙ done-bit _ _ _ _ _ (λ q. c .before .before .before .slice-known .given q .fits) (c .before .before .before .before .pre .0) (c .before .before .before .before .pre .1) _ (c .before .loop-test .taken) _ (c .before .before .loop .inv .2) (omega (arith, c .before .before .before .before .pre .0, c .before .before .loop .inv .1)) (c .before .before .before .before .pre .2)) ∙ h .3 .taken),
+      h .8 ∙ h .5 .ensures ∙ clear-add _ _ _ _ _ (λ q. c .before .before .before .slice-known .given q .fits) (c .before .before .before .before .pre .0) (c .before .before .before .before .pre .1) _ (c .before .loop-test .taken) _ (c .before .before .loop .inv .2) (h .0 .taken) (sym (h .2 .ensures ∙ bit-here _ _ _ _ (λ q. c .before .before .before .slice-known .given q .fits) (c .before .before .before .before .pre .0) (length-cleared _ _ _ _ _) _ (c .before .loop-test .taken) _ (c .before .before .loop .inv .2) _ (omega (arith, c .before .before .before .before .pre .0, c .before .before .loop .inv .1)) (c .before .before .before .before .pre .2)) ∙ h .3 .taken),
       ap length (h .8) ∙ h .5 .kept .0,
     ))
     (⊎-elim
-    (λ h. (h .4 ∙ done-skip _ _ _ _ _ (λ q. c .before .before .before .slice-known .given q .fits) (c .before .before .before .before .pre .0) (c .before .before .before .before .pre .1) _ (c .before .loop-test .taken) _ (c .before .before .loop .inv .2) (h .0 .taken) (λ e. h .3 .left (h .2 .ensures ∙ done-bit _ _ _ _ _ (λ q. c .before .before .before .slice-known .given q .fits) (c .before .before .before .before .pre .0) (c .before .before .before .before .pre .1) _ (c .before .loop-test .taken) _ (c .before .before .loop .inv .2) (omega (arith, c .before .before .before .before .pre .0, c .before .before .loop .inv .1)) (c .before .before .before .before .pre .2) ∙ e)), ap length (h .4)))
-    (λ h. (h .1 ∙ done-pivot _ _ _ _ _ (λ q. c .before .before .before .slice-known .given q .fits) (c .before .before .before .before .pre .0) (c .before .before .before .before .pre .1) _ (c .before .loop-test .taken) _ (c .before .before .loop .inv .2) (h .0 .left), ap length (h .1))))
+    (λ h. (h .4 ∙ clear-skip _ _ _ _ _ (λ q. c .before .before .before .slice-known .given q .fits) (c .before .before .before .before .pre .0) (c .before .before .before .before .pre .1) _ (c .before .loop-test .taken) _ (c .before .before .loop .inv .2) (h .0 .taken) (λ e. h .3 .left (h .2 .ensures ∙ bit-here _ _ _ _ (λ q. c .before .before .before .slice-known .given q .fits) (c .before .before .before .before .pre .0) (length-cleared _ _ _ _ _) _ (c .before .loop-test .taken) _ (c .before .before .loop .inv .2) _ (omega (arith, c .before .before .before .before .pre .0, c .before .before .loop .inv .1)) (c .before .before .before .before .pre .2) ∙ e)), ap length (h .4)))
+    (λ h. (h .1 ∙ clear-pivot _ _ _ _ _ (λ q. c .before .before .before .slice-known .given q .fits) (c .before .before .before .before .pre .0) (c .before .before .before .before .pre .1) _ (c .before .loop-test .taken) _ (c .before .before .loop .inv .2) (h .0 .left), ap length (h .1))))
     (c .if1 .came)
 
 loop-holds : tie.Need-loop-holds Inv-loop μ-loop
-loop-holds c = (omega arith, refl, done-start _ _ _ _ _ (λ q. c .slice-known .given q .fits) (c .before .pre .0) (c .before .pre .1))
+loop-holds c = (omega arith, refl, rewritten-none _ _ _ _ (λ q. c .slice-known .given q .fits) (c .before .pre .0) (length-cleared _ _ _ _ _))
 
 mul-index : tie.Need-mul-index Inv-loop μ-loop
 mul-index c = omega (arith, row-in (c .before .before .before .loop .i) (c .before .before .before .before .before .args .rows) (c .before .before .before .before .before .args .stride) (c .before .before .loop-test .taken), c .before .before .before .before .before .pre .0)
@@ -62,7 +64,8 @@ same-length : tie.Need-same-length Inv-loop μ-loop
 same-length c = omega arith
 
 returns : tie.Need-returns Inv-loop μ-loop
-returns c = c .before .loop .inv .2 ∙ done-end _ _ _ _ _ (λ q. c .before .before .slice-known .given q .fits) (c .before .before .before .pre .0) (c .before .before .before .pre .1) _ (omega arith)
+unfolding cleared
+returns c = c .before .loop .inv .2 ∙ rewritten-all _ _ _ _ (λ q. c .before .before .slice-known .given q .fits) (c .before .before .before .pre .0) (length-cleared _ _ _ _ _) _ (omega arith)
 
 pub reduce-spec : {M : Type 1} → statement M
 reduce-spec =
