@@ -20,3 +20,6 @@ pub mod Search
 pub mod RowByRow
 pub mod Others
 pub mod Passes
+pub mod Identity
+pub mod Shapes
+pub mod Sweep

@@ -59,7 +59,7 @@ bit-take (w ∷ ws) (suc n) c f h g = go (λ d. bit-take ws n d (λ k. f (suc k)
 pub words-drop : (l : List ℕ) (i : ℕ) → AreWords l → AreWords (drop i l)
 words-drop l i f k = subst (λ (n : ℕ). n < 2 ^ 64) (sym (getD-drop i l k 0)) (f (i + k))
 
-words-take : (l : List ℕ) (n : ℕ) → AreWords l → AreWords (take n l)
+pub words-take : (l : List ℕ) (n : ℕ) → AreWords l → AreWords (take n l)
 words-take l zero f k = omega arith
 words-take [] (suc n) f k = omega arith
 words-take (w ∷ ws) (suc n) f zero = f 0
@@ -136,13 +136,13 @@ length-image s (v ∷ M) rest =
     length-append (words s v) (image s M rest) ∙ ap₂ _+_ (length-words s v) (length-image s M rest)
     ∙ sym (add-assoc s (length M * s) (length rest)) ∙ ap (λ (k : ℕ). k + length rest) (add-comm s (length M * s) ∙ sym (suc-mul (length M) s))
 
-words-words : (n v : ℕ) → AreWords (words n v)
+pub words-words : (n v : ℕ) → AreWords (words n v)
 unfolding words
 words-words zero v k = omega arith
 words-words (suc n) v zero = omega arith
 words-words (suc n) v (suc k) = words-words n (v / 2 ^ 64) k
 
-words-append : (l m : List ℕ) → AreWords l → AreWords m → AreWords (l ++ m)
+pub words-append : (l m : List ℕ) → AreWords l → AreWords m → AreWords (l ++ m)
 words-append [] m f g k = g k
 words-append (w ∷ l) m f g zero = f 0
 words-append (w ∷ l) m f g (suc k) = words-append l m (λ j. f (suc j)) g k
