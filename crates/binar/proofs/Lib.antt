@@ -23,3 +23,4 @@ pub mod Passes
 pub mod Identity
 pub mod Shapes
 pub mod Sweep
+pub mod Formed
