@@ -18,7 +18,9 @@ use Rattle.binar.specs.Echelon.{Reduction, echelonize, besideIdentity}
 use Rattle.binar.specs.Layout.{laidOut, formStride, both, fits, formed, FormIs}
 use Rattle.binar.proofs.Slice.{AreWords}
 use Rattle.binar.proofs.Matrix.{Below, length-matrix, matrix-image, drop-image}
+use Rattle.binar.proofs.Lists.{all-getD, all-by}
 use Rattle.binar.proofs.Kept.{echelonize-length}
+use Rattle.binar.proofs.Bounds.{echelonize-lt}
 use Rattle.binar.proofs.Transform.{beside-length}
 
 -- ---- the shape
@@ -67,8 +69,14 @@ module _ (l : List ℕ) (width n cols : ℕ) (fit : fits width n cols (length l)
   unfolding formStride
   bound = beside-below (64 * width) (64 * s) 0 (matrix s n l) (rw (length-matrix s n l) (omega arith))
 
-  pub misfit-never : fits width n cols (length l) ≡ false → ⊥
-  misfit-never e = let z : _≡_ {A = ℕ} 0 1 = cc in omega arith
+  pub form-count : length (formed width n cols l .rows) ≡ n
+  unfolding formed
+  form-count = echelonize-length cols B ∙ count
+
+  pub form-below : Below (64 * s) (formed width n cols l .rows)
+  unfolding formed
+  form-below = all-getD (λ v. v < 2 ^ (64 * s)) (echelonize cols B .rows) 0 (pow-pos (64 * s))
+      (echelonize-lt cols (64 * s) B (all-by (λ v. v < 2 ^ (64 * s)) B 0 (λ i h. bound i)))
 
   -- w is the slice with the identity, x the slice after its reduction
   module _ (w x : List ℕ) (r : ℕ) (e : w ≡ image s B (drop (n * s) l)) where

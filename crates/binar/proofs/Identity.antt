@@ -69,7 +69,7 @@ put-unit l i (suc m) zero e h k g =
     ∙ put-kept (set l i 0) i (i + 1) m 0 (2 ^ e) (rw length-set (omega arith)) (inl (omega arith))
     ∙ ap (λ (t : List ℕ). putRow t (i + 1) m 0) (set-set l i 0 (2 ^ e))
     ∙ sym (ap (putRow l i (suc m)) (ap (2 ^_) z) ∙ put-first l i m (2 ^ e) (omega arith)
-      ∙ ap₂ (λ (x : ℕ) (v : ℕ). putRow (set l i x) (i + 1) m v) (mod-eq-of-lt s) (div-eq-of-lt s))
+    ∙ ap₂ (λ (x : ℕ) (v : ℕ). putRow (set l i x) (i + 1) m v) (mod-eq-of-lt s) (div-eq-of-lt s))
 put-unit l i (suc m) (suc d) e h k g =
     let p : 2 ^ (64 * suc d + e) ≡ 2 ^ (64 * d + e) * 2 ^ 64 + 0 = ap (2 ^_) (shift d e) ∙ pow-add 2 (64 * d + e) 64 ∙ sym (add-zero (2 ^ (64 * d + e) * 2 ^ 64)) in
     let j : i + suc d ≡ i + 1 + d = omega arith in

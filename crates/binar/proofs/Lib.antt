@@ -10,7 +10,6 @@ pub mod Transform
 pub mod Dimension
 pub mod Space
 pub mod Solve
-pub mod Theorems
 pub mod Bounds
 pub mod Linear
 pub mod Slice
@@ -24,3 +23,5 @@ pub mod Identity
 pub mod Shapes
 pub mod Sweep
 pub mod Formed
+pub mod Reading
+pub mod Theorems

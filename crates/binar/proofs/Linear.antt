@@ -117,20 +117,6 @@ module _ (cols : ℕ) (f : ℕ → ℕ) (additive : (a b : ℕ) → f (a ⊕ b) 
   sweep-map (p ∷ ps) (w ∷ M) v h = ap (sweep ps (map f M)) (clear-map p w v (h .0)) ∙ sweep-map ps M (clear p w v) (h .1)
 
 -- ---- the identity past column w
-beside-from : (w k : ℕ) (A W : List ℕ) → All (λ a. a < 2 ^ w) A → length W ≡ length A
-    → ((i : ℕ) → i < length A → getD W i 0 ≡ getD A i 0 + 2 ^ w * 2 ^ (k + i)) → W ≡ besideIdentity w k A
-unfolding besideIdentity
-beside-from w k [] [] h l e = refl
-beside-from w k [] (v ∷ W) h l e = absurd (omega arith)
-beside-from w k (a ∷ A) [] h l e = absurd (omega arith)
-beside-from w k (a ∷ A) (v ∷ W) h l e =
-    ap₂ _∷_ (e 0 (omega arith) ∙ ap₂ (λ (x y : ℕ). x + 2 ^ w * 2 ^ y) (sym (mod-eq-of-lt (h .0))) (omega arith))
-    (beside-from w (suc k) A W (h .1) (omega arith) λ i u. e (suc i) (omega arith) ∙ ap (λ (y : ℕ). getD A i 0 + 2 ^ w * 2 ^ y) (omega arith))
-
--- rows that are A with the identity beside it, by index
-pub beside-is : (w : ℕ) (A W : List ℕ) → All (λ a. a < 2 ^ w) A → length W ≡ length A
-    → ((i : ℕ) → i < length A → getD W i 0 ≡ getD A i 0 + 2 ^ w * 2 ^ i) → W ≡ besideIdentity w 0 A
-beside-is w A W h l e = beside-from w 0 A W h l λ i u. rw zero-add (e i u)
 
 module _ (c w : ℕ) (fits : c ≤ w) where
   -- the columns from c up to w left out
@@ -164,11 +150,11 @@ module _ (c w : ℕ) (fits : c ≤ w) where
       low : (v % 2 ^ w + 2 ^ w * 2 ^ i) % 2 ^ c ≡ v % 2 ^ c
       low = sym (first-columns (v % 2 ^ w + 2 ^ w * 2 ^ i)) ∙ ap (λ (x : ℕ). x % 2 ^ c) (beside-mod w (v % 2 ^ w) (2 ^ i) small) ∙ first-columns v
 
-  narrowed-mod : (v : ℕ) → narrowed v % 2 ^ c ≡ v % 2 ^ c
+  pub narrowed-mod : (v : ℕ) → narrowed v % 2 ^ c ≡ v % 2 ^ c
   unfolding narrowed
   narrowed-mod v = beside-mod c (v % 2 ^ c) (v / 2 ^ w) (mod-lt v (pow-pos c))
 
-  narrowed-shr : (v : ℕ) → narrowed v / 2 ^ c ≡ v / 2 ^ w
+  pub narrowed-shr : (v : ℕ) → narrowed v / 2 ^ c ≡ v / 2 ^ w
   unfolding narrowed
   narrowed-shr v = beside-shr c (v % 2 ^ c) (v / 2 ^ w) (mod-lt v (pow-pos c))
 
@@ -189,29 +175,3 @@ module _ (c w : ℕ) (fits : c ≤ w) where
               ∙ map-same (λ v. parts c (narrowed v)) (λ v. record { r = v % 2 ^ c; t = v / 2 ^ w }) rows
               (all-of (λ v. λ i. record { r = narrowed-mod v i; t = narrowed-shr v i }) rows)),
         )
-
-    -- the sweep by such rows gives the same solution
-    module _ (v : ℕ) where
-      swept : ℕ
-      swept = sweep (echelonize c (besideIdentity w 0 A) .pivots) (echelonize c (besideIdentity w 0 A) .rows) (v % 2 ^ c)
-
-      narrowed-target : narrowed (v % 2 ^ c) ≡ v % 2 ^ c
-      unfolding narrowed
-      narrowed-target =
-          ap₂ (λ (x y : ℕ). x + 2 ^ c * y) (mod-mod v (2 ^ c)) (div-eq-of-lt (lt-of-lt-of-le (mod-lt v (pow-pos c)) (pow-mono fits))) ∙ omega arith
-
-      narrowed-left : left c A v ≡ narrowed swept
-      unfolding left swept whole echelon
-      narrowed-left =
-          let e = echelonize c (besideIdentity w 0 A) in
-          ap₂ (λ (ps M : List ℕ). sweep ps M (v % 2 ^ c)) (narrowed-echelonize .0) (narrowed-echelonize .1)
-          ∙ ap (sweep (e .pivots) (map narrowed (e .rows))) (sym narrowed-target)
-          ∙ sweep-map c narrowed narrowed-additive (additive-zero narrowed narrowed-additive) narrowed-same (e .pivots) (e .rows) (v % 2 ^ c)
-          (pivots-lt c (besideIdentity w 0 A))
-
-      pub beside-solve : let e = echelonize c (besideIdentity w 0 A) in let s = sweep (e .pivots) (e .rows) (v % 2 ^ c) in
-          transposeSolve c (echelon c A) v ≡ solved (s % 2 ^ c) (s / 2 ^ w)
-      unfolding swept
-      beside-solve =
-          solve-is c A v
-          ∙ ap₂ solved (ap (λ (x : ℕ). x % 2 ^ c) narrowed-left ∙ narrowed-mod swept) (ap (λ (x : ℕ). x / 2 ^ c) narrowed-left ∙ narrowed-shr swept)

@@ -1,4 +1,4 @@
--- The five theorems of specs/Theorems.antt, put together from their parts.
+-- The theorems of specs/Theorems.antt, put together from their parts; the last two are proved in Reading.
 use mathlib.Core.List.{List}
 use Prim.Native.Nat.{ℕ}
 use Rattle.binar.specs.Echelon.{rank}
@@ -9,6 +9,7 @@ use Rattle.binar.proofs.Unique.{unique}
 use Rattle.binar.proofs.Transform.{rows-count, T-square, T-product}
 use Rattle.binar.proofs.Space.{R-reduced, R-narrow, R-space, T-inverse, T-inverts, basis-independent, rank-dimension, rank-unique}
 use Rattle.binar.proofs.Solve.{solve-sound, solve-none, none-solves}
+pub use Rattle.binar.proofs.Reading.{form-law, solution-law}
 
 pub transform-law : (c : ℕ) (A : List ℕ) → TransformLaw c A
 transform-law c A = record { count = rows-count c A; square = T-square c A; product = T-product c A }

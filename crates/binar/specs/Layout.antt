@@ -10,7 +10,7 @@ use Rattle.binar.specs.declared.echelon.Formation.the-variants.{Rank, Mi
 use Rattle.binar.specs.declared.echelon.Solution.{Solution}
 use Rattle.binar.specs.declared.echelon.Solution.the-variants.{Set, NoSet}
 use Rattle.binar.specs.Words.{rowAt, matrix, image}
-use Rattle.binar.specs.Echelon.{Reduction, echelonize, besideIdentity}
+use Rattle.binar.specs.Echelon.{Reduction, echelonize, besideIdentity, Row, EchelonForm}
 use Rattle.binar.specs.Solve.{sweep}
 
 -- the rows of s words each, behind them the pivot columns, a word each, and then what was in the slice
@@ -49,9 +49,16 @@ pub record FormIs (l : List ℕ) (width n cols : ℕ) (answer : Formation) (exit
   pub told : answer ≡ pick (fits width n cols (length l)) (Rank (length (formed width n cols l .pivots))) Misfit
   pub left : exit ≡ pick (fits width n cols (length l)) (laidOut (formStride width n) (formed width n cols l) l) l
 
--- ---- solving with a form in a slice
+-- ---- a form in a slice, read and used
 
--- n rows of s words with the pivots of the first `rank` of them behind, and a target of s words at word `at`
+-- R is the first cols columns of the n rows of s words, T their words past the first `width`, and `rank` pivots stand behind
+unfoldable pub formIn : ℕ → ℕ → ℕ → ℕ → ℕ → List ℕ → EchelonForm
+formIn s n width cols rank l = record {
+  rows = map (λ v. record { r = v % 2 ^ cols; t = v / 2 ^ (64 * width) }) (matrix s n l);
+  pivots = take rank (drop (n * s) l);
+}
+
+-- n rows of s words with the pivots of the first `rank` of them behind, and past these a target of s words at word `place`
 pub record Solvable (l : List ℕ) (s n cols rank place : ℕ) : Type 0 where
   pub rows : rank ≤ n
   pub pivots : n * s + rank ≤ place

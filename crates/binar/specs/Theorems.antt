@@ -1,13 +1,18 @@
 -- What is proved of the echelon form, for every matrix A and every number c of columns. Each statement is a type; its
 -- proof, a term of it, is in proofs/.
 use mathlib.Core.Path.{_≡_}
+use mathlib.Core.Bool.{true, false}
 use mathlib.Core.List.{List, map}
 use mathlib.Core.Option.{Option, some, none}
-use Prim.Native.Nat.{ℕ, _%_, _^_, _≤_, _<_}
+use Prim.Native.Nat.{ℕ, _*_, _/_, _%_, _^_, _≤_, _<_}
 use lib.ListN.{length, getD, take}
 use Rattle.binar.specs.Row.{columns, rowSum, units}
 use Rattle.binar.specs.Echelon.{EchelonForm, echelon, R, T, rank}
-use Rattle.binar.specs.Solve.{transposeSolve}
+use Rattle.binar.specs.Solve.{solved, transposeSolve}
+use Rattle.binar.specs.Words.{rowAt, matrix}
+use Rattle.binar.specs.Layout.{formStride, fits, formIn, Solvable, swept}
+use Rattle.binar.specs.declared.echelon.Formation.{Formation}
+use Rattle.binar.specs.declared.echelon.Formation.the-variants.{Rank, Misfit}
 use Rattle.binar.specs.Space.{RowSpace, SameSpace, ReducedForm, Independent, Dimension}
 
 -- 1. T·A = R over GF(2), where T is a square matrix
@@ -42,3 +47,15 @@ pub record SolveLaw (c : ℕ) (A : List ℕ) (v : ℕ) : Type 0 where
   pub sound : (s : ℕ) → transposeSolve c (echelon c A) v ≡ some s → (s < 2 ^ length A) × (rowSum s (columns c A) ≡ v % 2 ^ c)
   pub none-right : transposeSolve c (echelon c A) v ≡ none → RowSpace (columns c A) (v % 2 ^ c) → ⊥
   pub none-only : (RowSpace (columns c A) (v % 2 ^ c) → ⊥) → transposeSolve c (echelon c A) v ≡ none
+
+-- 6. What `echelon_form` leaves in a slice is the echelon form of the matrix that was there
+pub record FormLaw (l : List ℕ) (width n cols : ℕ) (answer : Formation) (exit : List ℕ) : Type 0 where
+  pub fitting : fits width n cols (length l) ≡ true → let f = echelon cols (matrix (formStride width n) n l) in
+      (answer ≡ Rank (rank f)) × (formIn (formStride width n) n width cols (rank f) exit ≡ f)
+  pub other : fits width n cols (length l) ≡ false → (answer ≡ Misfit) × (exit ≡ l)
+
+-- 7. What `transpose_solve` leaves is the solution by the form in the slice, where the target's T words are zero at entry
+abbrev pub SolutionLaw : List ℕ → ℕ → ℕ → ℕ → ℕ → ℕ → ℕ → Type 0
+SolutionLaw l s n width cols rank place =
+    Solvable l s n cols rank place → cols ≤ 64 * width → rowAt l place s < 2 ^ (64 * width)
+    → solved (swept s n rank place l % 2 ^ cols) (swept s n rank place l / 2 ^ (64 * width)) ≡ transposeSolve cols (formIn s n width cols rank l) (rowAt l place s)

@@ -162,7 +162,14 @@ pub fn echelon_form(w: &mut [u64], width: usize, rows: usize, cols: usize) -> Fo
 
 // Finds a set of rows that sums to the target, the row at word at, by a form with rank pivots in the slice: adds each pivot
 // row to the target's row if that has a one at the pivot.
-pub fn transpose_solve(w: &mut [u64], stride: usize, rows: usize, cols: usize, rank: usize, at: usize) -> Solution
+pub fn transpose_solve(
+    w: &mut [u64],
+    stride: usize,
+    rows: usize,
+    cols: usize,
+    rank: usize,
+    at: usize,
+) -> Solution
     requires { ⌜ Solvable (now w) stride rows cols rank at ⌝ }
     ensures told { λ r. ⌜ r ≡ solution (eqb (swept stride rows rank at (now (w .entry)) % 2 ^ cols) 0) ⌝ }
     ensures left { λ _. ⌜ now (w .exit) ≡ putRow (now (w .entry)) at stride (swept stride rows rank at (now (w .entry))) ⌝ }

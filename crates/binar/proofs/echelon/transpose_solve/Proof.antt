@@ -40,7 +40,7 @@ turn c =
       ap length (h .1),
       h .1 ∙ c .before .before .before .before .before .loop .inv .2 ∙ ap (λ (l : List ℕ). putRow (c .before .before .before .before .before .before .before .args .w .now) (c .before .before .before .before .before .before .before .args .at) (c .before .before .before .before .before .before .before .args .stride) (rowAt l (c .before .before .before .before .before .before .before .args .at) (c .before .before .before .before .before .before .before .args .stride))) (sym (h .1)),
       skip _ _ _ _ _ _ (λ q. c .before .before .before .before .before .before .slice-known .given q .fits) (c .before .before .before .before .before .before .before .pre) _ (c .before .before .before .before .loop-test .taken) _ (c .before .before .before .before .before .loop .inv .1) (c .before .before .before .before .before .loop .inv .2) (λ e. h .0 .left (c .before .index .ensures ∙ target-bit _ _ _ _ _ _ (λ q. c .before .before .before .before .before .before .slice-known .given q .fits) (c .before .before .before .before .before .before .before .pre) _ (c .before .before .before .before .loop-test .taken) _ (c .before .before .before .before .before .loop .inv .1) (c .before .before .before .before .before .loop .inv .2) ∙ e))
-      ∙ ap (λ (l : List ℕ). sweptFrom (c .before .before .before .before .before .before .before .args .w .now) (c .before .before .before .before .before .before .before .args .stride) (c .before .before .before .before .before .before .before .args .rows) (c .before .before .before .before .before .before .before .args .rank) (c .before .before .before .before .before .loop .k + 1) (rowAt l (c .before .before .before .before .before .before .before .args .at) (c .before .before .before .before .before .before .before .args .stride))) (sym (h .1)),
+          ∙ ap (λ (l : List ℕ). sweptFrom (c .before .before .before .before .before .before .before .args .w .now) (c .before .before .before .before .before .before .before .args .stride) (c .before .before .before .before .before .before .before .args .rows) (c .before .before .before .before .before .before .before .args .rank) (c .before .before .before .before .before .loop .k + 1) (rowAt l (c .before .before .before .before .before .before .before .args .at) (c .before .before .before .before .before .before .before .args .stride))) (sym (h .1)),
     ))
     (c .if1 .came)
 
