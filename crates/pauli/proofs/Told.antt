@@ -1,0 +1,28 @@
+-- Chains of tests: a test passes where its condition is false and refuses where it is true, and where the chain answers every
+-- test has passed.
+use mathlib.Core.Path.{_≡_, refl}
+use mathlib.Core.Bool.{Bool, true, false}
+use Prim.Native.Nat.{ℕ}
+use native.Mathlib.Omega.{arith}
+use Rattle.pauli.specs.Told.{Told, answer, refused, refuseIf, andThen}
+
+pub refused-none : {A : Type 0} (n p : ℕ) (a : A) → refused n p ≡ answer a → ⊥
+refused-none n p a e = let z : _≡_ {A = ℕ} 0 1 = cc in omega arith
+
+pub test-pass : {A : Type 0} (t : Bool) (n p : ℕ) (next : Told A) → t ≡ false → refuseIf t n p next ≡ next
+unfolding refuseIf
+test-pass t n p next e = rw e
+
+pub test-refuses : {A : Type 0} (t : Bool) (n p : ℕ) (next : Told A) → t ≡ true → refuseIf t n p next ≡ refused n p
+unfolding refuseIf
+test-refuses t n p next e = rw e
+
+pub test-passed : {A : Type 0} (t : Bool) (n p : ℕ) (next : Told A) (a : A) → refuseIf t n p next ≡ answer a → (t ≡ false) × (next ≡ answer a)
+unfolding refuseIf
+test-passed true n p next a e = absurd (refused-none n p a e)
+test-passed false n p next a e = (refl, e)
+
+pub answered : {A B : Type 0} (t : Told A) (next : A → Told B) (b : B) → andThen t next ≡ answer b → (a : A) × (t ≡ answer a) × (next a ≡ answer b)
+unfolding andThen
+answered (answer a) next b e = (a, refl, e)
+answered (refused n p) next b e = absurd (refused-none n p b e)

@@ -1,0 +1,12 @@
+pub mod Told
+pub mod Answers
+pub mod Bytes
+pub mod Roll
+pub mod Known
+pub mod RollTheorems
+pub mod Pauli
+pub mod Sets
+pub mod Signed
+pub mod Writing
+pub mod Condense
+pub mod PauliTheorems

@@ -1,0 +1,74 @@
+-- The marked rows hold by computation.
+use mathlib.Core.Path.{refl}
+use lib.Count.{ones}
+use Rattle.binar.specs.Row.{_⊕_, bit, dot, ifBit}
+use Rattle.binar.specs.Echelon.{
+  inColumn,
+  byColumns,
+  pivotOf,
+  swapRows,
+  clear,
+  unless,
+  addToOthers,
+  placePivot,
+  withPivot,
+  onFound,
+  echelonizeFrom,
+  echelonize,
+  besideIdentity,
+  echelon,
+  rank as echelonRank,
+}
+use Rattle.binar.specs.Solve.{sweep, solved, transposeSolve}
+use Rattle.pauli.specs.Pauli.{I, times, anticommute, orderFour, productFrom, product, consIf, select, indexedProduct}
+use Rattle.pauli.specs.Sets.{setOf, membersFrom, members, condense, expand, rowOf, pauliOfRow}
+use Rattle.pauli_theory.specs.Standard.{
+  usedBy,
+  supportOf,
+  formOf,
+  rank,
+  phaseOf,
+  ifZero,
+  zeroRows,
+  nonzeroRows,
+  modulusOf,
+  modulus,
+  rowGenerators,
+  someOrderFour,
+  anticommutesWithSome,
+  someAnticommute,
+  phase,
+  appended,
+  exponentMod,
+  standard,
+  nonabelian,
+  bare,
+  someImaginary,
+  someMinus,
+  phaseStep,
+  log2Size,
+}
+use Rattle.pauli_theory.specs.Membership.{outside, exponentLeft, withPhase, factorizationOf}
+use Rattle.pauli_theory.specs.Order.{ranksOf, sameRanks, noMore, firstOf, partialCmp}
+use Rattle.pauli_theory.specs.Marked.{Marked}
+
+pub marked : Marked
+unfolding ones _⊕_ bit dot ifBit inColumn byColumns pivotOf swapRows clear unless addToOthers placePivot withPivot onFound echelonizeFrom echelonize
+    besideIdentity echelon echelonRank sweep solved transposeSolve I times anticommute orderFour productFrom product consIf select indexedProduct
+    setOf membersFrom members condense expand rowOf pauliOfRow usedBy supportOf formOf rank phaseOf ifZero zeroRows nonzeroRows modulusOf modulus
+    rowGenerators someOrderFour anticommutesWithSome someAnticommute phase appended exponentMod standard nonabelian bare someImaginary someMinus
+    phaseStep log2Size outside exponentLeft withPhase factorizationOf ranksOf sameRanks noMore firstOf partialCmp
+marked = record {
+  empty-standard = refl;
+  empty-phases = refl;
+  minus-standard = refl;
+  minus-phases = refl;
+  i-standard = refl;
+  i-phases = refl;
+  y-phases = refl;
+  xz-phases = refl;
+  size = refl;
+  signs-standard = refl;
+  membership = refl;
+  no-order = refl;
+}

@@ -1,0 +1,43 @@
+-- A true promise changes no answer; and abelian and stabilizer groups are what the definitions find.
+use mathlib.Core.Path.{_≡_, refl, sym, ap, _∙_}
+use mathlib.Core.List.{List}
+use mathlib.Core.Option.{Option, some, none}
+use Prim.Native.Nat.{ℕ, _+_, _-_, _*_, _/_}
+use lib.ListN.{length}
+use Rattle.binar.specs.Solve.{transposeSolve}
+use Rattle.pauli.specs.Pauli.{Pauli}
+use Rattle.pauli.specs.Sets.{rowOf}
+use Rattle.pauli_theory.specs.Group.{Promise, Honest}
+use Rattle.pauli_theory.specs.Standard.{supportOf, formOf, rank, phaseStep, log2Size, stabilizer}
+use Rattle.pauli_theory.specs.Membership.{withPhase, factorizationOf}
+use Rattle.pauli_theory.specs.Theorems.{PromiseLaw}
+use Rattle.pauli_theory.proofs.Abelian.{promise-nonabelian}
+use Rattle.pauli_theory.proofs.Phases.{phaseStep-grade}
+
+module _ (promise : Promise) (gs : List Pauli) (h : Honest promise gs) where
+  same-step : phaseStep promise gs ≡ phaseStep Promise.none gs
+  unfolding Honest
+  same-step = phaseStep-grade promise gs h ∙ sym (phaseStep-grade Promise.none gs tt)
+
+  same-stabilizer : stabilizer promise gs ≡ stabilizer Promise.none gs
+  unfolding stabilizer
+  same-stabilizer = rw (promise-nonabelian promise gs h)
+
+  same-phase : (p : Pauli) (o : Option ℕ) → withPhase promise gs p o ≡ withPhase Promise.none gs p o
+  unfolding withPhase
+  same-phase p none = refl
+  same-phase p (some s) = rw same-step
+
+  same-factorization : (p : Pauli) → factorizationOf promise gs p ≡ factorizationOf Promise.none gs p
+  unfolding factorizationOf
+  same-factorization p = rw (same-phase p (transposeSolve (2 * length (supportOf gs)) (formOf gs) (rowOf (supportOf gs) p)))
+
+  pub promise-law : PromiseLaw promise gs
+  unfolding log2Size
+  promise-law = record {
+    same-abelian = promise-nonabelian promise gs h;
+    same-phases = same-step;
+    same-stabilizer = same-stabilizer;
+    same-size = ap (λ (m : ℕ). rank gs + (2 - m / 2)) same-step;
+    same-factorization = same-factorization;
+  }

@@ -1,0 +1,27 @@
+-- The theorems of specs/Theorems.antt; each is proved in the module of its subject.
+use Rattle.pauli_theory.specs.Theorems.{GroupLaws}
+use Rattle.pauli_theory.proofs.Group.{joined-law}
+use Rattle.pauli_theory.proofs.StandardLaw.{standard-law}
+use Rattle.pauli_theory.proofs.Phases.{phases-law}
+use Rattle.pauli_theory.proofs.Membership.{membership-law}
+use Rattle.pauli_theory.proofs.Canonical.{canonical-law}
+use Rattle.pauli_theory.proofs.Rank.{rank-law}
+use Rattle.pauli_theory.proofs.Order.{order-law, against-joined-law}
+use Rattle.pauli_theory.proofs.Promise.{promise-law}
+use Rattle.pauli_theory.proofs.Stabilizer.{abelian-law}
+use Rattle.pauli_theory.proofs.Size.{size-law}
+
+pub group-laws : GroupLaws
+group-laws = record {
+  standard-law = standard-law;
+  canonical-law = canonical-law;
+  phases-law = phases-law;
+  membership-law = membership-law;
+  joined-law = joined-law;
+  order-law = order-law;
+  against-joined-law = against-joined-law;
+  rank-law = rank-law;
+  size-law = size-law;
+  abelian-law = abelian-law;
+  promise-law = promise-law;
+}

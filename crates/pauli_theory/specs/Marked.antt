@@ -1,0 +1,47 @@
+-- Document 01, "Marked": the rows that these definitions touch, each an equation. The phases of a list are the multiples, below 4,
+-- of its `phaseStep`: step 4 is the phase 0, step 2 the phases 0 and 2, step 1 all four. All letters are on qubit 0.
+use mathlib.Core.Path.{_≡_}
+use mathlib.Core.List.{[], _∷_}
+use mathlib.Core.Option.{some}
+use Prim.Native.Nat.{ℕ}
+use Rattle.pauli.specs.Pauli.{Pauli, I}
+use Rattle.pauli_theory.specs.Group.{none}
+use Rattle.pauli_theory.specs.Standard.{standard, phaseStep, log2Size}
+use Rattle.pauli_theory.specs.Membership.{factorizationOf}
+use Rattle.pauli_theory.specs.Order.{noOrder, partialCmp}
+
+-- (e,{},{}), (e,{0},{}), (e,{},{0}) and (e,{0},{0})
+abbrev pub scalar : ℕ → Pauli
+scalar e = record { e = e; x = 0; z = 0 }
+
+abbrev pub onX : ℕ → Pauli
+onX e = record { e = e; x = 1; z = 0 }
+
+abbrev pub onZ : ℕ → Pauli
+onZ e = record { e = e; x = 0; z = 1 }
+
+abbrev pub onXZ : ℕ → Pauli
+onXZ e = record { e = e; x = 1; z = 1 }
+
+pub record Marked : Type 0 where
+  -- "The empty list: standard I, phases 0"
+  pub empty-standard : standard [] ≡ I ∷ []
+  pub empty-phases : phaseStep none [] ≡ 4
+  -- "[-I]: standard -I, phases 0,2"
+  pub minus-standard : standard (scalar 2 ∷ []) ≡ scalar 2 ∷ []
+  pub minus-phases : phaseStep none (scalar 2 ∷ []) ≡ 2
+  -- "[iI]: standard iI, phases 0,1,2,3"
+  pub i-standard : standard (scalar 1 ∷ []) ≡ scalar 1 ∷ []
+  pub i-phases : phaseStep none (scalar 1 ∷ []) ≡ 1
+  -- "[Y]: phases 0"
+  pub y-phases : phaseStep none (onXZ 1 ∷ []) ≡ 4
+  -- "[(0,{0},{0})]: phases 0,2"
+  pub xz-phases : phaseStep none (onXZ 0 ∷ []) ≡ 2
+  -- "[X,Z]: log2 size 3"
+  pub size : log2Size none (onX 0 ∷ onZ 0 ∷ []) ≡ 3
+  -- "[X,-X]: standard X, -I"
+  pub signs-standard : standard (onX 0 ∷ onX 2 ∷ []) ≡ onX 0 ∷ scalar 2 ∷ []
+  -- "[Z,X] on (0,{0},{0}): indexes 0 1, exponent 2": the index set {0, 1} is the number 3
+  pub membership : factorizationOf none (onZ 0 ∷ onX 0 ∷ []) (onXZ 0) ≡ some (record { indexes = 3; exponent = 2 })
+  -- "[X] and [-X]: no order"
+  pub no-order : partialCmp none none (onX 0 ∷ []) (onX 2 ∷ []) ≡ noOrder
