@@ -58,4 +58,4 @@ module _ (s t : Places) (f : Words s) (g : Words t) where
       ∙ ap (λ (n : ℕ). n % 2)
       (add-comm (ones (bitAnd (s .low) (t .low))) (ones (bitAnd (s .high) (t .high)))
       ∙ sym (ap ones (and-block 64 (s .high) (t .high) (s .low) (t .low) (f .low) (g .low))
-        ∙ ones-cat 64 (bitAnd (s .high) (t .high)) (bitAnd (s .low) (t .low)) (and-lt 64 (s .low) (t .low) (f .low) (g .low))))
+      ∙ ones-cat 64 (bitAnd (s .high) (t .high)) (bitAnd (s .low) (t .low)) (and-lt 64 (s .low) (t .low) (f .low) (g .low))))

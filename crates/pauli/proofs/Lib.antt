@@ -10,7 +10,7 @@ pub mod Checks
 pub mod Limits
 pub mod RollLaws
 pub mod ReaderLaws
-pub mod Joined
+pub mod JoinedLists
 pub mod MoreBits
 pub mod Algebra
 pub mod Action
@@ -25,3 +25,5 @@ pub mod Puts
 pub mod Writers
 pub mod CondenseLaws
 pub mod BodyLaws
+pub mod JoinLaws
+pub mod ProductLaws

@@ -72,7 +72,7 @@ unfolding select
 select-inside r [] q m = m
 select-inside r (a ∷ qs) q m = ⊎-elim (λ e. here (e .0)) (λ k. there (select-inside (r / 2) qs q k)) (in-consIf (r % 2) a _ m)
 
-select-rises : (r least : ℕ) (qs : List ℕ) → Rising least qs → Rising least (select r qs)
+pub select-rises : (r least : ℕ) (qs : List ℕ) → Rising least qs → Rising least (select r qs)
 unfolding select
 select-rises r least [] h = tt
 select-rises r least (q ∷ qs) h = consIf-rises (r % 2) least q _ (h .0) (select-rises (r / 2) (suc q) qs (h .1))

@@ -215,7 +215,7 @@ rising-in-support least l ps h w = rising-length 0 least (support ps) l (support
 pub support-length : (ps qs : List Sparse) → Inside (numbers ps) (numbers qs) → length (support ps) ≤ length (support qs)
 support-length ps qs w = rising-in-support 0 (support ps) qs (support-rises ps) (λ q i. w q (support-only ps q i))
 
-numbers-byValue : (ps : List Sparse) → numbers (map byValue ps) ≡ numbers ps
+pub numbers-byValue : (ps : List Sparse) → numbers (map byValue ps) ≡ numbers ps
 unfolding numbers byValue
 numbers-byValue [] = refl
 numbers-byValue (p ∷ ps) = ap (λ l. p .xs ++ p .zs ++ l) (numbers-byValue ps)

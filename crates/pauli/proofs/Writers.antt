@@ -239,10 +239,9 @@ module _ (w : List ℕ) (base n : ℕ) (qs out : List ℕ) (on : OnPlaces (lengt
   unfolding toldBytes leftIn refuseIf bodyBytes
   roll-long h a b c p q r =
       let t = le-ltb (length out) (length (rollOver qs ps)) (rw size h) in
-      let k = sym (length-list w base n) in
-      (
+      let k = sym (length-list w base n) in (
         rw t (ap answer (sym size)),
         rw t
-        (roll-puts qs ps on out a b c (omega (arith, length-list w base n, sym e)) (p ∙ ap (λ (m : ℕ). putBytes out 0 (le16 m)) k) q
-        (r ∙ ap (λ (m : ℕ). putBytes b (2 + 10 * m) (le32s (numbers (map (sparseOver qs) ps)))) k)),
+            (roll-puts qs ps on out a b c (omega (arith, length-list w base n, sym e)) (p ∙ ap (λ (m : ℕ). putBytes out 0 (le16 m)) k) q
+            (r ∙ ap (λ (m : ℕ). putBytes b (2 + 10 * m) (le32s (numbers (map (sparseOver qs) ps)))) k)),
       )

@@ -10,10 +10,17 @@ use Rattle.pauli.specs.declared.roll.SetsChecked.{SetsChecked}
 use Rattle.pauli.specs.declared.roll.SetsChecked.the-variants.{Passed, Refused as SetsRefused}
 use Rattle.pauli.specs.declared.write.Wrote.{Wrote}
 use Rattle.pauli.specs.declared.write.Wrote.the-variants.{Bytes, Refused as WroteRefused}
+use Rattle.pauli.specs.declared.joined.JoinedCounts.{JoinedCounts}
+use Rattle.pauli.specs.declared.joined.CountsFound.{CountsFound}
+use Rattle.pauli.specs.declared.joined.CountsFound.the-variants.{Counts as CountsTold, Refused as CountsRefused}
+use Rattle.pauli.specs.declared.joined.JoinedEntry.{JoinedEntry}
+use Rattle.pauli.specs.declared.joined.EntryFound.{EntryFound}
+use Rattle.pauli.specs.declared.joined.EntryFound.the-variants.{Entry as EntryTold, Refused as EntryRefused}
 use Rattle.pauli.specs.declared.roll.Checked.{Checked}
 use Rattle.pauli.specs.declared.roll.Checked.the-variants.{Count, Refused}
 use Rattle.pauli.specs.Told.{Told, answer, refused}
 use Rattle.pauli.specs.Roll.{Entry as RollEntry}
+use Rattle.pauli.specs.Calls.{Counts, Looked}
 
 -- the table of "Turned back"
 abbrev pub numberOf : Reason → ℕ
@@ -57,3 +64,21 @@ toldCount (Refused r) = toldRefusal r
 abbrev pub toldWrote : Wrote → Told ℕ
 toldWrote (Bytes n) = answer n
 toldWrote (WroteRefused r) = toldRefusal r
+
+-- the counts that the code holds
+abbrev pub countsIn : JoinedCounts → Counts
+countsIn c = record { left = c .left; right = c .right }
+
+-- checking two rolls for joining tells the counts of both
+abbrev pub toldCounts : CountsFound → Told Counts
+toldCounts (CountsTold c) = answer (countsIn c)
+toldCounts (CountsRefused r) = toldRefusal r
+
+-- what was looked up, as the code holds it
+abbrev pub lookedIn : JoinedEntry → Looked
+lookedIn e = record { exponent = e .exponent; xcount = e .xcount; zcount = e .zcount }
+
+-- a lookup of a joined generator tells its exponent value and its counts
+abbrev pub toldLooked : EntryFound → Told Looked
+toldLooked (EntryTold e) = answer (lookedIn e)
+toldLooked (EntryRefused r) = toldRefusal r

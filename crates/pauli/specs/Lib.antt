@@ -9,4 +9,6 @@ pub mod Sets
 pub mod Signed
 pub mod Writing
 pub mod Condense
+pub mod Calls
+pub mod Product
 pub mod PauliTheorems

@@ -14,3 +14,7 @@ pub mod signed;
 pub mod write;
 // Paulis of a roll over the places of a support.
 pub mod condense;
+// Two rolls joined.
+pub mod joined;
+// The call for the product of two Paulis of rolls.
+pub mod product;

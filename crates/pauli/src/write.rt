@@ -108,7 +108,15 @@ pub fn put_table(out: &mut [u8], w: &[u64], base: usize, n: usize)
 }
 
 // Writes the bodies of the n Paulis from word base on, from byte at on.
-pub fn put_bodies(out: &mut [u8], at: usize, w: &[u64], base: usize, n: usize, support: &[u32], count: usize)
+pub fn put_bodies(
+    out: &mut [u8],
+    at: usize,
+    w: &[u64],
+    base: usize,
+    n: usize,
+    support: &[u32],
+    count: usize,
+)
     requires { ⌜ (base + 5 * n ≤ length (now w)) × (count ≤ 128) × (count ≤ length (now support)) × (at + 4 * length (numbers (map (sparseOver (take count (now support))) (listIn (now w) base n))) ≤ length (now out)) ⌝ }
     ensures { λ _. ⌜ now (out .exit) ≡ putBytes (now (out .entry)) at (le32s (numbers (map (sparseOver (take count (now (support .entry)))) (listIn (now (w .entry)) base n)))) ⌝ }
 {
@@ -125,7 +133,14 @@ pub fn put_bodies(out: &mut [u8], at: usize, w: &[u64], base: usize, n: usize, s
 }
 
 // Writes the roll of the n Paulis from word base on, which stand over the places of a support, if the output has room.
-pub fn write_roll(w: &[u64], base: usize, n: usize, support: &[u32], count: usize, out: &mut [u8]) -> Wrote
+pub fn write_roll(
+    w: &[u64],
+    base: usize,
+    n: usize,
+    support: &[u32],
+    count: usize,
+    out: &mut [u8],
+) -> Wrote
     requires { ⌜ (base + 5 * n ≤ length (now w)) × (n ≤ 256) × (count ≤ 128) × (count ≤ length (now support)) × OnPlaces count (listIn (now w) base n) ⌝ }
     ensures told { λ r. ⌜ toldWrote r ≡ toldBytes (answer (rollOver (take count (now (support .entry))) (listIn (now (w .entry)) base n))) (now (out .entry)) ⌝ }
     ensures left { λ _. ⌜ now (out .exit) ≡ leftIn (answer (rollOver (take count (now (support .entry))) (listIn (now (w .entry)) base n))) (now (out .entry)) ⌝ }

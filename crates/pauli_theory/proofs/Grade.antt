@@ -81,8 +81,7 @@ signTest-minus gs ps l h =
 signTest-none : (ps : List Pauli) → signTest (map (exponentMod 4) ps) ≡ 0 → All (λ p. orderFour p ≡ 0) ps × Commuting ps
 unfolding signTest exponentMod anticommute
 signTest-none ps e =
-    let hs = map (exponentMod 4) ps in
-    (
+    let hs = map (exponentMod 4) ps in (
       all-map (λ p o. sym (orderFour-agree (agree-weaker two (agree-exponentMod p four))) ∙ o) ps
           (all-under (λ p. orderFour p ≡ 0) (exponentMod 4) ps (largest-none orderFour hs (omega (arith, orderFour-largest hs)))),
       all-map (λ p w. all-under (λ q. anticommute p q ≡ 0) (exponentMod 4) ps w) ps

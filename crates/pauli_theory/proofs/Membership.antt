@@ -69,8 +69,7 @@ module _ (gs : List Pauli) (p : Pauli) where
   solve-row s e =
       let qs = supportOf gs in
       let A = map (rowOf qs) gs in
-      let f = solve-law (2 * length qs) A (rowOf qs p) .sound s e in
-      (
+      let f = solve-law (2 * length qs) A (rowOf qs p) .sound s e in (
         rw (length-map gs (rowOf qs)) at (f .0),
         sym row-narrow ∙ sym (f .1) ∙ ap (rowSum s) (columns-narrow (2 * length qs) A (rows-narrow qs gs)) ∙ sym (row-indexed qs s gs),
       )
@@ -138,8 +137,7 @@ module _ (promise : Promise) (gs : List Pauli) (p : Pauli) (step : phaseStep pro
       let w = solve-found gs p (generated-row (supportOf gs) gs p a) in
       let q = indexedProduct (w .0) gs in
       let h = same-sets gs p q a (generated-indexed gs (w .0)) (solution-sets (w .0) on (w .1)) in
-      let z : exponentLeft p q % phaseStep promise gs ≡ 0 = rw step (left-agree (grade-divisor gs) (indexed-lt (w .0) gs) h) in
-      (
+      let z : exponentLeft p q % phaseStep promise gs ≡ 0 = rw step (left-agree (grade-divisor gs) (indexed-lt (w .0) gs) h) in (
         record { indexes = w .0; exponent = exponentLeft p q },
         ifZero-zero _ _ (on-inside gs p on) ∙ ap (withPhase promise gs p) (w .1) ∙ ifZero-zero _ _ z,
       )

@@ -143,10 +143,10 @@ module _ (gs : List Pauli) where
   order-subspace c = record {
     origin = ap orderFour (indexed-zero gs) ∙ orderFour-I;
     sum = λ s t h k.
-    let p = indexedProduct s gs in
-    let q = indexedProduct t gs in
-    sym (orderFour-agree (indexed-times two gs (covers-two gs) s t)) ∙ orderFour-times p q
-    ∙ omega (arith, generated-commute gs c p q (generated-indexed gs s) (generated-indexed gs t));
+        let p = indexedProduct s gs in
+        let q = indexedProduct t gs in
+        sym (orderFour-agree (indexed-times two gs (covers-two gs) s t)) ∙ orderFour-times p q
+        ∙ omega (arith, generated-commute gs c p q (generated-indexed gs s) (generated-indexed gs t));
   }
 
   pub order-by-pivots : Commuting gs → All (λ p. orderFour p ≡ 0) (pivotProducts gs) → All (λ q. indexedProduct (q .t) gs .e % 2 ≡ 0) (zeroRows (formOf gs .rows))

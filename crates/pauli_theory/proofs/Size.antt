@@ -121,8 +121,7 @@ module _ (gs : List Pauli) where
       let q = indexedProduct (o .set) (basis gs) in
       let e = exponentLeft p q in
       let f = multiple-of d e (left-lt p q) (left-agree d (indexed-lt (o .set) (basis gs)) (agree-flip (o .agrees))) in
-      let l : o .set < 2 ^ rank gs = rw (basis-count gs) at (o .within) in
-      (
+      let l : o .set < 2 ^ rank gs = rw (basis-count gs) at (o .within) in (
         o .set * phases + e / grade gs,
         digits-lt l (f .0),
         rw (digits-div (o .set) (f .0), digits-mod (o .set) (f .0), f .1) (left-same p q (indexed-lt (o .set) (basis gs)) (sym (o .agrees .x)) (sym (o .agrees .z))),
@@ -147,7 +146,7 @@ size-law promise gs h = record {
   distinct = λ i j li lj s. elements-apart gs i j (rw (elements-count gs) at li) (rw (elements-count gs) at lj) (rw (element-at gs i li, element-at gs j lj) at s);
   generated = all-by (Generated gs) (elements gs) I λ i l. rw (element-at gs i l) (element-in gs i);
   complete = λ p a. let f = element-found gs p a in
-    let l : f .0 < length (elements gs) = rw (elements-count gs) (f .1) in (f .0, l, rw (element-at gs (f .0) l) (f .2));
+      let l : f .0 < length (elements gs) = rw (elements-count gs) (f .1) in (f .0, l, rw (element-at gs (f .0) l) (f .2));
 }
   where
     total : 2 ^ rank gs * (4 / grade gs) ≡ 2 ^ (rank gs + (2 - phaseStep promise gs / 2))

@@ -43,8 +43,7 @@ module _ (promise : Promise) (gs : List Pauli) (h : Honest promise gs) where
   stabilizer-right e =
       let ps = standard gs in
       let n = nonabelian promise gs in
-      let z = ifZero-one (max n (max (someOrderFour ps) (someMinus ps))) e in
-      (
+      let z = ifZero-one (max n (max (someOrderFour ps) (someMinus ps))) e in (
         abelian-right gs (sym (promise-nonabelian promise gs h) ∙ omega arith),
         minus-by-step (step-four n ps (imaginary-none ps (omega arith)) z),
       )
