@@ -1,7 +1,7 @@
 -- The group that a list of Paulis generates: document 01, "Words of demand 3". Nothing here speaks of rows or of a step of an
 -- algorithm: all is read off the list.
 use mathlib.Core.Path.{_≡_}
-use mathlib.Core.List.{List, [], _∷_, map}
+use mathlib.Core.List.{List, map}
 use Prim.Native.Nat.{ℕ, _<_}
 use lib.ListN.{length, getD}
 use Rattle.pauli.specs.RollTheorems.{All}

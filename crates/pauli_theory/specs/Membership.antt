@@ -1,7 +1,7 @@
 -- Membership: `indexed_factorization_of`, document 01, "Group".
 use mathlib.Core.List.{List}
 use mathlib.Core.Option.{Option, some, none}
-use Prim.Native.Nat.{ℕ, zero, suc, _+_, _-_, _*_, _%_}
+use Prim.Native.Nat.{ℕ, _+_, _-_, _*_, _%_}
 use lib.Bits.{bitOr}
 use lib.ListN.{length}
 use Rattle.binar.specs.Row.{_⊕_}

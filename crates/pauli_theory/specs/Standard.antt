@@ -1,12 +1,10 @@
 -- Standard generators, rank and phases: document 01, "Group", sentence by sentence.
-use mathlib.Core.Bool.{Bool, true, false, not}
 use mathlib.Core.List.{List, [], _∷_, _++_, map}
 use Prim.Native.Nat.{ℕ, zero, suc, _+_, _-_, _*_, _/_, _%_, min, max}
 use lib.Bits.{bitOr}
-use lib.Dec.{eqb}
 use lib.ListN.{length}
 use Rattle.binar.specs.Echelon.{Row, EchelonForm, echelon, rank as echelonRank}
-use Rattle.pauli.specs.Pauli.{Pauli, I, anticommute, orderFour, indexedProduct}
+use Rattle.pauli.specs.Pauli.{Pauli, anticommute, orderFour, indexedProduct}
 use Rattle.pauli.specs.Sets.{members, rowOf, pauliOfRow}
 use Rattle.pauli_theory.specs.Group.{Promise, none, abelian, notAbelian}
 

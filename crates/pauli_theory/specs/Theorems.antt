@@ -1,8 +1,8 @@
 -- What is proved of the group calls' definitions, for every list of Paulis. Each statement is a type; its proof is in proofs/.
 use mathlib.Core.Path.{_≡_}
-use mathlib.Core.List.{List, [], _∷_, _++_, map, List·Memᴰ as Mem}
-use mathlib.Core.Option.{Option, some, none}
-use Prim.Native.Nat.{ℕ, _*_, _%_, _^_, _≤_, _<_, max}
+use mathlib.Core.List.{List, _++_, map}
+use mathlib.Core.Option.{some, none}
+use Prim.Native.Nat.{ℕ, _%_, _^_, _≤_, _<_, max}
 use lib.ListN.{length, getD}
 use Rattle.binar.specs.Space.{Dimension}
 use Rattle.pauli.specs.RollTheorems.{All}
@@ -12,7 +12,7 @@ use Rattle.pauli.specs.PauliTheorems.{PauliOn}
 use Rattle.pauli_theory.specs.Group.{Generated, Inside, SameGroup, Abelian, Promise, Honest}
 use Rattle.pauli_theory.specs.Standard.{supportOf, rank, standard, nonabelian, phaseStep, log2Size, stabilizer}
 use Rattle.pauli_theory.specs.Membership.{Factorization, factorizationOf}
-use Rattle.pauli_theory.specs.Order.{Order, equal, less, greater, noOrder, partialCmp}
+use Rattle.pauli_theory.specs.Order.{equal, less, greater, noOrder, partialCmp}
 
 -- 1. Standard generators: they generate the list's group, are no more than the generators (one, for no generators), lie on the
 -- list's qubits and have exponents 0 to 3; and they are the same exactly for the same group
