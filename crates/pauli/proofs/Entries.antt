@@ -13,16 +13,16 @@ use Rattle.pauli.proofs.Items.{itemsAt, itemsBytes, length-itemsAt, get
 use Rattle.pauli.proofs.BytesLaws.{u16-read, u32-read, u16-written, u32-written, length-le16, length-le32, all-bytes-le16, all-bytes-le32}
 
 -- the ten bytes of an entry
-unfoldable pub entryBytes : Entry → List ℕ
-entryBytes a = a .given ∷ a .exponent ∷ (le32 (a .start) ++ (le16 (a .xcount) ++ le16 (a .zcount)))
+unfoldable pub tenBytes : Entry → List ℕ
+tenBytes a = a .given ∷ a .exponent ∷ (le32 (a .start) ++ (le16 (a .xcount) ++ le16 (a .zcount)))
 
-pub length-entryBytes : (a : Entry) → length (entryBytes a) ≡ 10
-unfolding entryBytes
-length-entryBytes a = simp (length-append, length-le32, length-le16)
+pub length-tenBytes : (a : Entry) → length (tenBytes a) ≡ 10
+unfolding tenBytes
+length-tenBytes a = simp (length-append, length-le32, length-le16)
 
-pub all-bytes-entryBytes : (a : Entry) → a .given < 256 → a .exponent < 256 → AllBytes (entryBytes a)
-unfolding entryBytes
-all-bytes-entryBytes a g e =
+pub all-bytes-tenBytes : (a : Entry) → a .given < 256 → a .exponent < 256 → AllBytes (tenBytes a)
+unfolding tenBytes
+all-bytes-tenBytes a g e =
     let counts = all-bytes-append (le16 (a .xcount)) (le16 (a .zcount)) (all-bytes-le16 _) (all-bytes-le16 _) in
     (g, (e, all-bytes-append (le32 (a .start)) _ (all-bytes-le32 _) counts))
 
@@ -43,12 +43,12 @@ length-entries b i n = rw (entries-items, length-itemsAt)
 pub getD-entries : (b : List ℕ) (i n m : ℕ) (d : Entry) → m < n → getD (entriesAt b i n) m d ≡ entryAt b (i + 10 * m)
 getD-entries b i n m d l = rw entries-items (getD-itemsAt 10 (entryAt b) i n m d l)
 
-pub length-entriesBytes : (es : List Entry) → length (itemsBytes entryBytes es) ≡ 10 * length es
-length-entriesBytes = length-itemsBytes 10 entryBytes length-entryBytes
+pub length-entriesBytes : (es : List Entry) → length (itemsBytes tenBytes es) ≡ 10 * length es
+length-entriesBytes = length-itemsBytes 10 tenBytes length-tenBytes
 
 module _ (b : List ℕ) where
-  entry-read : (a : Entry) (i : ℕ) (rest : List ℕ) → Fits a → drop i b ≡ entryBytes a ++ rest → entryAt b i ≡ a
-  unfolding entryBytes entryAt
+  entry-read : (a : Entry) (i : ℕ) (rest : List ℕ) → Fits a → drop i b ≡ tenBytes a ++ rest → entryAt b i ≡ a
+  unfolding tenBytes entryAt
   entry-read a i rest f h =
       let at0 : drop i b ≡ a .given ∷ a .exponent ∷ (le32 (a .start) ++ (le16 (a .xcount) ++ (le16 (a .zcount) ++ rest))) = simp append-assoc at h in
       let at1 = drop-past b i (a .given ∷ []) _ at0 refl in
@@ -64,13 +64,13 @@ module _ (b : List ℕ) where
         zcount = u16-read b _ (i + 8) _ (f .zcount) at8 k;
       }
 
-  pub entries-read : (es : List Entry) (i : ℕ) (rest : List ℕ) → All Fits es → drop i b ≡ itemsBytes entryBytes es ++ rest
+  pub entries-read : (es : List Entry) (i : ℕ) (rest : List ℕ) → All Fits es → drop i b ≡ itemsBytes tenBytes es ++ rest
       → entriesAt b i (length es) ≡ es
-  entries-read es i rest f h = rw entries-items (items-read 10 entryBytes length-entryBytes b (entryAt b) Fits entry-read es i rest f h)
+  entries-read es i rest f h = rw entries-items (items-read 10 tenBytes length-tenBytes b (entryAt b) Fits entry-read es i rest f h)
 
   module _ (low : AllBytes b) where
-    entry-written : (i : ℕ) → i + 10 ≤ length b → entryBytes (entryAt b i) ++ drop (i + 10) b ≡ drop i b
-    unfolding entryBytes entryAt
+    entry-written : (i : ℕ) → i + 10 ≤ length b → tenBytes (entryAt b i) ++ drop (i + 10) b ≡ drop i b
+    unfolding tenBytes entryAt
     entry-written i l =
         let at8 = rw add-assoc at (u16-written b low (i + 8) (omega arith)) in
         let at6 = rw add-assoc at (u16-written b low (i + 6) (omega arith)) in
@@ -78,5 +78,5 @@ module _ (b : List ℕ) where
         let at1 = rw add-assoc at (drop-one b (i + 1) 0 (omega arith)) in
         simp append-assoc (rw (at8, at6, at2, at1, drop-one b i 0 (omega arith)))
 
-    pub entries-written : (n i : ℕ) → i + 10 * n ≤ length b → itemsBytes entryBytes (entriesAt b i n) ++ drop (i + 10 * n) b ≡ drop i b
-    entries-written n i l = rw entries-items (items-written 10 entryBytes length-entryBytes b (entryAt b) entry-written n i l)
+    pub entries-written : (n i : ℕ) → i + 10 * n ≤ length b → itemsBytes tenBytes (entriesAt b i n) ++ drop (i + 10 * n) b ≡ drop i b
+    entries-written n i l = rw entries-items (items-written 10 tenBytes length-tenBytes b (entryAt b) entry-written n i l)

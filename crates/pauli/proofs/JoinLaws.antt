@@ -120,9 +120,9 @@ module _ (l r : List ℕ) (nl nr : ℕ) (el : countOf l ≡ answer nl) (er : cou
 
 -- ---- the counts
 
-count-none : (b : List ℕ) (m p : ℕ) → countOf b ≡ refused m p → read b ≡ refused m p
+pub count-refused : (b : List ℕ) (m p : ℕ) → countOf b ≡ refused m p → read b ≡ refused m p
 unfolding countOf mapTold
-count-none b m p e = go (read b) refl e
+count-refused b m p e = go (read b) refl e
   where
     go : (t : Told (List Sparse)) → read b ≡ t → mapTold length t ≡ refused m p → read b ≡ refused m p
     go (answer ps) r h = absurd (refused-none m p (length ps) (sym h))
@@ -131,12 +131,12 @@ count-none b m p e = go (read b) refl e
 module _ (l r : List ℕ) where
   pub counts-left : (m p : ℕ) → countOf l ≡ refused m p → countsOf l r ≡ refused m p
   unfolding countsOf readBoth andThen
-  counts-left m p e = rw (count-none l m p e)
+  counts-left m p e = rw (count-refused l m p e)
 
   module _ (nl : ℕ) (el : countOf l ≡ answer nl) where
     pub counts-right : (m p : ℕ) → countOf r ≡ refused m p → countsOf l r ≡ refused m p
     unfolding countsOf readBoth andThen
-    counts-right m p e = rw (accepted l nl el .0, count-none r m p e)
+    counts-right m p e = rw (accepted l nl el .0, count-refused r m p e)
 
     module _ (nr : ℕ) (er : countOf r ≡ answer nr) where
       limits : countsOf l r ≡ refuseIf (ltb mostPaulis (nl + nr)) 2 0 (refuseIf (ltb mostQubits (length (support (listOf l ++ listOf r)))) 7 0 (answer (record { left = nl; right = nr })))
@@ -167,6 +167,7 @@ module _ (l r : List ℕ) where
     pub right : countOf r ≡ answer nr
     pub joined : joinedOf l r ≡ answer (listOf l ++ listOf r)
     pub few : nl + nr ≤ mostPaulis
+    pub qubits : length (support (listOf l ++ listOf r)) ≤ mostQubits
 
   pub counts-joining : (c : Counts) → countsOf l r ≡ answer c → Joining (c .left) (c .right)
   counts-joining c e = both (countOf l) refl (countOf r) refl
@@ -181,22 +182,28 @@ module _ (l r : List ℕ) where
           let (qubits, told) = test-passed (ltb mostQubits distinct) 7 0 (answer counts) c h in
           let same : counts ≡ c = cc in
           subst (λ (x : Counts). Joining (x .left) (x .right)) same
-          (record { left = el; right = er; joined = joined-limits nl el nr er ∙ test-pass _ 2 0 _ many ∙ test-pass _ 7 0 _ qubits; few = ltb-false mostPaulis (nl + nr) many })
+          (record { left = el; right = er; joined = joined-limits nl el nr er ∙ test-pass _ 2 0 _ many ∙ test-pass _ 7 0 _ qubits; few = ltb-false mostPaulis (nl + nr) many; qubits = ltb-false mostQubits distinct qubits })
 
-  pub counts-refused : (m p : ℕ) → countsOf l r ≡ refused m p → joinedOf l r ≡ refused m p
-  unfolding countsOf joinedOf andThen fewQubits refuseIf
-  counts-refused m p e = go (readBoth l r) refl e
+  -- where the counts are refused, so is all that comes behind the same checks
+  pub limits-refused : {B : Type 0} (next : Lists → Told B) (m p : ℕ) → countsOf l r ≡ refused m p
+      → andThen (readBoth l r) (λ b. refuseIf (ltb mostPaulis (length (b .left) + length (b .right))) 2 0 (fewQubits b (next b))) ≡ refused m p
+  unfolding countsOf andThen fewQubits refuseIf
+  limits-refused {B} next m p e = go (readBoth l r) refl e
     where
-      tests : {A B : Type 0} (s t : Bool) (a : A) (b : B) → refuseIf s 2 0 (refuseIf t 7 0 (answer a)) ≡ refused m p → refuseIf s 2 0 (refuseIf t 7 0 (answer b)) ≡ refused m p
-      tests true t a b h = cc
-      tests false true a b h = cc
-      tests false false a b h = absurd (refused-none m p a (sym h))
+      tests : {A : Type 0} (s t : Bool) (a : A) (more : Told B) → refuseIf s 2 0 (refuseIf t 7 0 (answer a)) ≡ refused m p → refuseIf s 2 0 (refuseIf t 7 0 more) ≡ refused m p
+      tests true t a more h = cc
+      tests false true a more h = cc
+      tests false false a more h = absurd (refused-none m p a (sym h))
 
       go : (t : Told Lists) → readBoth l r ≡ t
           → andThen {B = Counts} t (λ b. refuseIf (ltb mostPaulis (length (b .left) + length (b .right))) 2 0 (fewQubits b (answer (record { left = length (b .left); right = length (b .right) })))) ≡ refused m p
-          → joinedOf l r ≡ refused m p
-      go (answer b) f h = rw f (tests (ltb mostPaulis (length (b .left) + length (b .right))) (ltb mostQubits (length (support (b .left ++ b .right)))) _ (b .left ++ b .right) h)
+          → andThen (readBoth l r) (λ b. refuseIf (ltb mostPaulis (length (b .left) + length (b .right))) 2 0 (fewQubits b (next b))) ≡ refused m p
+      go (answer b) f h = rw f (tests (ltb mostPaulis (length (b .left) + length (b .right))) (ltb mostQubits (length (support (b .left ++ b .right)))) _ (next b) h)
       go (refused n q) f h = rw f (cc)
+
+  pub counts-refused : (m p : ℕ) → countsOf l r ≡ refused m p → joinedOf l r ≡ refused m p
+  unfolding joinedOf
+  counts-refused m p e = limits-refused (λ b. answer (b .left ++ b .right)) m p e
 
 -- ---- the lookups
 

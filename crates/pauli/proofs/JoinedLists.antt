@@ -1,25 +1,52 @@
--- Two lists joined: within the limits if each is and the counts of both together are.
-use mathlib.Core.Path.{_≡_}
-use mathlib.Core.List.{List, _++_, map, Memᴰ·append-left, Memᴰ·append-right}
-use Prim.Native.Nat.{_≤_}
-use lib.ListN.{length}
-use Rattle.binar.proofs.Lists.{all-join}
-use Rattle.pauli.specs.Told.{answer}
-use Rattle.pauli.specs.Roll.{mostPaulis, mostQubits, Sparse, numbers, support, read, write, byValue}
-use Rattle.pauli.specs.RollTheorems.{Allowed, Within}
-use Rattle.pauli.proofs.SupportLaws.{numbers-append, support-length}
-use Rattle.pauli.proofs.RollLaws.{read-law}
+-- Two rolls joined: the roll that is written, and the list that is read back from it.
+use mathlib.Core.Path.{_≡_, sym, ap, _∙_}
+use mathlib.Core.List.{List, _++_, map}
+use Prim.Native.Nat.{ℕ, _+_, _≤_}
+use native.Mathlib.Omega.{arith}
+use borrow.Author.Tests.{ltb-false}
+use lib.Dec.{ltb}
+use lib.ListN.{length, length-map, length-append}
+use Rattle.binar.proofs.Lists.{all-join, all-map, all-over}
+use Rattle.pauli.specs.Told.{answer, refuseIf, andThen, mapTold}
+use Rattle.pauli.specs.Roll.{mostPaulis, mostQubits, Sparse, support, read, write, byValue}
+use Rattle.pauli.specs.RollTheorems.{All, Allowed}
+use Rattle.pauli.specs.Calls.{readBoth, fewQubits, joinedOf, joinOf}
+use Rattle.pauli.specs.JoinTheorems.{JoinLaw, JoinedLaw}
+use Rattle.pauli.proofs.Checks.{AllowedSets}
+use Rattle.pauli.proofs.SupportLaws.{support-byValue}
+use Rattle.pauli.proofs.RollLaws.{read-law, answer-parts}
+use Rattle.pauli.proofs.Told.{test-passed, map-test}
 
-module _ (ps qs : List Sparse) where
-  pub support-left : length (support ps) ≤ length (support (ps ++ qs))
-  support-left = support-length ps (ps ++ qs) (λ q i. rw numbers-append (Memᴰ·append-left (numbers qs) i))
+-- a list within the limits is read back from its roll
+pub written-read : (ps : List Sparse) → length ps ≤ mostPaulis → All AllowedSets ps → length (support ps) ≤ mostQubits → read (write ps) ≡ answer (map byValue ps)
+unfolding write byValue
+written-read ps count sets qubits =
+    read-law .accepts (map byValue ps)
+    (record {
+      count = rw length-map count;
+      allowed = all-over Allowed byValue ps (all-map (λ p a. record { byte = omega arith; x = a .0; z = a .1 }) ps sets);
+      qubits = rw support-byValue qubits;
+    })
 
-  pub support-right : length (support qs) ≤ length (support (ps ++ qs))
-  support-right = support-length qs (ps ++ qs) (λ q i. rw numbers-append (Memᴰ·append-right (numbers ps) i))
+module _ (l r : List ℕ) (ps qs : List Sparse) (el : read l ≡ answer ps) (er : read r ≡ answer qs) where
+  -- the limits, in turn
+  pub join-is : joinOf l r ≡ refuseIf (ltb mostPaulis (length ps + length qs)) 2 0 (refuseIf (ltb mostQubits (length (support (ps ++ qs)))) 7 0 (answer (write (ps ++ qs))))
+  unfolding joinOf joinedOf readBoth andThen fewQubits mapTold
+  join-is = rw (el, er) (simp map-test)
 
-  module _ (v : Within ps) (w : Within qs) (count : length (ps ++ qs) ≤ mostPaulis) (qubits : length (support (ps ++ qs)) ≤ mostQubits) where
-    pub joined-within : Within (ps ++ qs)
-    joined-within = record { count = count; allowed = all-join Allowed ps qs (v .allowed) (w .allowed); qubits = qubits }
+  allowed : All AllowedSets (ps ++ qs)
+  allowed = all-join AllowedSets ps qs (answer-parts l ps el .sets) (answer-parts r qs er .sets)
 
-    pub joined-read : read (write (ps ++ qs)) ≡ answer (map byValue (ps ++ qs))
-    joined-read = read-law .round-trip (ps ++ qs) joined-within
+  pub joined : (bs : List ℕ) → joinOf l r ≡ answer bs → JoinLaw ps qs bs
+  joined bs e =
+      let (few, h) = test-passed _ 2 0 _ bs (sym join-is ∙ e) in
+      let (qubits, k) = test-passed _ 7 0 _ bs h in
+      let same : bs ≡ write (ps ++ qs) = cc in
+      let count : length (ps ++ qs) ≤ mostPaulis = rw length-append (ltb-false mostPaulis (length ps + length qs) few) in
+      record {
+        written = same;
+        read-back = ap read same ∙ written-read (ps ++ qs) count allowed (ltb-false mostQubits (length (support (ps ++ qs))) qubits);
+      }
+
+pub joined-law : JoinedLaw
+joined-law l r ps qs bs el er e = joined l r ps qs el er bs e

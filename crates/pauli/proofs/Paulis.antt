@@ -12,7 +12,7 @@ use Rattle.pauli.specs.RollTheorems.{All, Allowed}
 use Rattle.pauli.proofs.Lists.{AllBytes, all-bytes-append, drop-past}
 use Rattle.pauli.proofs.Items.{itemsBytes}
 use Rattle.pauli.proofs.BytesLaws.{le32s-append, length-numbers, length-le32s, all-bytes-le32s, numbers-read, numbers-written}
-use Rattle.pauli.proofs.Entries.{entryBytes, all-bytes-entryBytes}
+use Rattle.pauli.proofs.Entries.{tenBytes, all-bytes-tenBytes}
 
 -- the entry of p, where `before` qubit numbers stand in earlier bodies
 unfoldable pub entryOf : ℕ → Sparse → Entry
@@ -39,11 +39,11 @@ bodyAt b j a =
 
 -- ---- writing
 
-entry-bytes : (before : ℕ) (p : Sparse) → entry before p ≡ entryBytes (entryOf before p)
-unfolding entry entryOf entryBytes
+entry-bytes : (before : ℕ) (p : Sparse) → entry before p ≡ tenBytes (entryOf before p)
+unfolding entry entryOf tenBytes
 entry-bytes before p = simp append-assoc
 
-pub table-entries : (before : ℕ) (ps : List Sparse) → table before ps ≡ itemsBytes entryBytes (entriesOf before ps)
+pub table-entries : (before : ℕ) (ps : List Sparse) → table before ps ≡ itemsBytes tenBytes (entriesOf before ps)
 unfolding table entriesOf itemsBytes
 table-entries before [] = refl
 table-entries before (p ∷ ps) = ap₂ _++_ (entry-bytes before p) (table-entries _ ps)
@@ -83,7 +83,7 @@ pub all-bytes-table : (before : ℕ) (ps : List Sparse) → All (λ p. p .e < 25
 unfolding table entryOf
 all-bytes-table before [] h = tt
 all-bytes-table before (p ∷ ps) h =
-    all-bytes-append (entry before p) _ (rw entry-bytes (all-bytes-entryBytes (entryOf before p) (omega arith) (h .0))) (all-bytes-table _ ps (h .1))
+    all-bytes-append (entry before p) _ (rw entry-bytes (all-bytes-tenBytes (entryOf before p) (omega arith) (h .0))) (all-bytes-table _ ps (h .1))
 
 -- ---- reading
 

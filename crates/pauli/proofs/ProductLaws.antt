@@ -28,7 +28,7 @@ use Rattle.pauli.proofs.Algebra.{pauli-path}
 use Rattle.pauli.proofs.Checks.{AllowedSets}
 use Rattle.pauli.proofs.Lists.{in-getD, all-in}
 use Rattle.pauli.proofs.SupportLaws.{support-rises, sets-in-support}
-use Rattle.pauli.proofs.JoinLaws.{accepted}
+use Rattle.pauli.proofs.JoinLaws.{accepted, count-refused}
 use Rattle.pauli.proofs.Sets.{members-set}
 use Rattle.pauli.proofs.Places.{select-rises, condense-lt, condense-sum, condense-dot, expand-condense}
 use Rattle.pauli.proofs.Rows.{on-times}
@@ -38,20 +38,12 @@ use Rattle.pauli.proofs.RollLaws.{answer-parts}
 -- ---- what checking a roll tells
 
 -- an accepted roll of n Paulis
-record Accepted (b : List ℕ) (n : ℕ) : Type 0 where
+pub record Accepted (b : List ℕ) (n : ℕ) : Type 0 where
   pub accepted : read b ≡ answer (listOf b)
   pub count : length (listOf b) ≡ n
 
-count-accepted : (b : List ℕ) (n : ℕ) → countOf b ≡ answer n → Accepted b n
+pub count-accepted : (b : List ℕ) (n : ℕ) → countOf b ≡ answer n → Accepted b n
 count-accepted b n e = record { accepted = accepted b n e .0; count = accepted b n e .1 }
-
-count-refused : (b : List ℕ) (m p : ℕ) → countOf b ≡ refused m p → read b ≡ refused m p
-unfolding countOf mapTold
-count-refused b m p e = go (read b) refl e
-  where
-    go : (t : Told (List Sparse)) → read b ≡ t → mapTold length t ≡ refused m p → read b ≡ refused m p
-    go (answer ps) r h = let z : _≡_ {A = ℕ} 0 1 = cc in absurd (omega arith)
-    go (refused k q) r h = r ∙ cc
 
 -- ---- a refusal tells itself and leaves the output alone
 
@@ -114,7 +106,7 @@ covered ps p m ns a inside =
       in-support = all-in (λ (q : ℕ). Mem q (support ps)) ns (λ q k. sets-in-support p ps m q (inside q k));
     }
 
-readable : (b : List ℕ) (n : ℕ) → Accepted b n → (i : ℕ) → i < n → (ps : List Sparse) → ((p : Sparse) → Mem p (listOf b) → Mem p ps) → Readable b n i (support ps)
+pub readable : (b : List ℕ) (n : ℕ) → Accepted b n → (i : ℕ) → i < n → (ps : List Sparse) → ((p : Sparse) → Mem p (listOf b) → Mem p ps) → Readable b n i (support ps)
 readable b n a i h ps inside =
     let size : i < length (listOf b) = rw (a .count) h in
     let p = getD (listOf b) i nothing in
@@ -159,18 +151,19 @@ sparse-path : {p q : Sparse} → p .e ≡ q .e → p .xs ≡ q .xs → p .zs ≡
 sparse-path a b c = λ i. record { e = a i; xs = b i; zs = c i }
 
 module _ (qs : List ℕ) (h : Rising 0 qs) where
-  chosen : (v : ℕ) → On qs v → select (condense qs v) qs ≡ members v
+  -- the qubits at the places of a set
+  pub select-members : (v : ℕ) → On qs v → select (condense qs v) qs ≡ members v
   unfolding expand
-  chosen v on = sym (members-set (select (condense qs v) qs) (select-rises (condense qs v) 0 qs h)) ∙ ap members (expand-condense qs h v on)
+  select-members v on = sym (members-set (select (condense qs v) qs) (select-rises (condense qs v) 0 qs h)) ∙ ap members (expand-condense qs h v on)
 
-  condensed-times : (p q : Pauli) → PauliOn qs p → times (condensed qs p) (condensed qs q) ≡ condensed qs (times p q)
+  pub condensed-times : (p q : Pauli) → PauliOn qs p → times (condensed qs p) (condensed qs q) ≡ condensed qs (times p q)
   unfolding times condensed
   condensed-times p q on =
       pauli-path (ap (λ (d : ℕ). (p .e + q .e + 2 * d) % 4) (condense-dot qs h (p .z) (q .x) (on .z))) (sym (condense-sum qs (p .x) (q .x))) (sym (condense-sum qs (p .z) (q .z)))
 
-  over-support : (p : Pauli) → PauliOn qs p → sparseOver qs (condensed qs p) ≡ byValue (sparseOf p)
+  pub sparse-over : (p : Pauli) → PauliOn qs p → sparseOver qs (condensed qs p) ≡ byValue (sparseOf p)
   unfolding sparseOver condensed byValue sparseOf
-  over-support p on = sparse-path refl (chosen (p .x) (on .x)) (chosen (p .z) (on .z))
+  sparse-over p on = sparse-path refl (select-members (p .x) (on .x)) (select-members (p .z) (on .z))
 
 module _ (ps : List Sparse) (i : ℕ) (rs : List Sparse) (j : ℕ) (hi : i < length ps) (hj : j < length rs) where
   abbrev both : List ℕ
@@ -193,7 +186,7 @@ module _ (ps : List Sparse) (i : ℕ) (rs : List Sparse) (j : ℕ) (hi : i < len
   product-roll =
       let rises = support-rises (ps ++ rs) in
       ap (λ (s : Sparse). encode (s ∷ []))
-      (ap (sparseOver both) (condensed-times both rises P R on-left) ∙ over-support both rises (times P R) (on-times both P R on-left on-right))
+      (ap (sparseOver both) (condensed-times both rises P R on-left) ∙ sparse-over both rises (times P R) (on-times both P R on-left on-right))
 
 -- ---- what the call tells and leaves, in turn
 

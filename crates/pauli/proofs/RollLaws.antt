@@ -18,7 +18,7 @@ use Rattle.pauli.proofs.Items.{itemsBytes}
 use Rattle.pauli.proofs.BytesLaws.{u16-read, u16-written, length-le16, all-bytes-le16}
 use Rattle.pauli.proofs.SupportLaws.{support-byValue}
 use Rattle.pauli.proofs.Told.{test-pass, test-passed, answered}
-use Rattle.pauli.proofs.Entries.{entryBytes, length-entries, getD-entries, length-entriesBytes, entries-read, entries-written}
+use Rattle.pauli.proofs.Entries.{tenBytes, length-entries, getD-entries, length-entriesBytes, entries-read, entries-written}
 use Rattle.pauli.proofs.Paulis.{entriesOf, counted, Placed, bodyAt, table-entries, length-entriesOf, entriesOf-placed, entriesOf-counted, length-bodies}
 use Rattle.pauli.proofs.Paulis.{all-bytes-table, all-bytes-bodies, length-paulis, entriesOf-paulis, paulis-read, paulis-written, getD-paulis}
 use Rattle.pauli.proofs.Checks.{AllowedSets, entries-pass, entries-passed, sets-pass, sets-passed}
@@ -90,7 +90,7 @@ read-pauli b ps h m l d =
 
 -- ---- what is written is accepted
 
-pub encode-is : (ps : List Sparse) → encode ps ≡ le16 (length ps) ++ (itemsBytes entryBytes (entriesOf 0 ps) ++ bodies ps)
+pub encode-is : (ps : List Sparse) → encode ps ≡ le16 (length ps) ++ (itemsBytes tenBytes (entriesOf 0 ps) ++ bodies ps)
 unfolding encode
 encode-is ps = rw (append-assoc, table-entries)
 
@@ -109,7 +109,7 @@ written-parts ps w =
     let b = encode ps in
     let n = length ps in
     let es = entriesOf 0 ps in
-    let t = itemsBytes entryBytes es in
+    let t = itemsBytes tenBytes es in
     let at0 : drop 0 b ≡ le16 n ++ (t ++ bodies ps) = encode-is ps in
     let at2 : drop 2 b ≡ t ++ bodies ps = drop-past b 0 (le16 n) _ at0 (length-le16 n) in
     let size : length t ≡ 10 * n = rw (length-entriesBytes, length-entriesOf) in
@@ -155,7 +155,7 @@ module _ (b : List ℕ) (low : AllBytes b) (n : ℕ) (es : List Entry) (ps : Lis
       let entries : entriesOf 0 ps ≡ es = rw (p .paulis) at (entriesOf-paulis b 0 (2 + 10 * n) es (p .placed)) in
       let whole = p .whole in
       let at-bodies : bodies ps ≡ drop (2 + 10 * n) b = rw (p .paulis, ← whole, drop-length, append-nil) at (paulis-written b low (2 + 10 * n) es (omega arith)) in
-      let at2 : itemsBytes entryBytes es ++ drop (2 + 10 * n) b ≡ drop 2 b = rw (p .entries) at (entries-written b low n 2 (omega arith)) in
+      let at2 : itemsBytes tenBytes es ++ drop (2 + 10 * n) b ≡ drop 2 b = rw (p .entries) at (entries-written b low n 2 (omega arith)) in
       let at0 : le16 n ++ drop 2 b ≡ b = rw (p .counting) at (u16-written b low 0 (omega arith)) in
       rw (encode-is, parts-count b n es ps p, entries, at-bodies, at2, at0)
 

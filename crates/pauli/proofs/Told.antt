@@ -4,7 +4,7 @@ use mathlib.Core.Path.{_≡_, refl}
 use mathlib.Core.Bool.{Bool, true, false}
 use Prim.Native.Nat.{ℕ}
 use native.Mathlib.Omega.{arith}
-use Rattle.pauli.specs.Told.{Told, answer, refused, refuseIf, andThen}
+use Rattle.pauli.specs.Told.{Told, answer, refused, refuseIf, andThen, mapTold}
 
 pub refused-none : {A : Type 0} (n p : ℕ) (a : A) → refused n p ≡ answer a → ⊥
 refused-none n p a e = let z : _≡_ {A = ℕ} 0 1 = cc in omega arith
@@ -26,3 +26,9 @@ pub answered : {A B : Type 0} (t : Told A) (next : A → Told B) (b : B) → and
 unfolding andThen
 answered (answer a) next b e = (a, refl, e)
 answered (refused n p) next b e = absurd (refused-none n p b e)
+
+-- a test before a change of the answer
+pub map-test : {A B : Type 0} (f : A → B) (t : Bool) (n p : ℕ) (next : Told A) → mapTold f (refuseIf t n p next) ≡ refuseIf t n p (mapTold f next)
+unfolding mapTold refuseIf
+map-test f true n p next = refl
+map-test f false n p next = refl

@@ -10,5 +10,6 @@ pub mod Signed
 pub mod Writing
 pub mod Condense
 pub mod Calls
+pub mod JoinTheorems
 pub mod Product
 pub mod PauliTheorems
