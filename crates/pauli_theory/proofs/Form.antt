@@ -39,10 +39,10 @@ module _ (ys : List Row) (zeros : All (λ q. q .r ≡ 0) ys) where
       all-of-them (q ∷ zs) k = ifZero-zero _ _ (k .0) ∙ ap (q ∷_) (all-of-them zs (k .1))
   zero-last (q ∷ xs) h = ifZero-more (q .r) _ _ (h .0) ∙ zero-last xs (h .1)
 
-map-take : (n : ℕ) (rows : List Row) → map (λ q. q .r) (take n rows) ≡ take n (map (λ q. q .r) rows)
-map-take zero rows = refl
-map-take (suc n) [] = refl
-map-take (suc n) (q ∷ rows) = ap (q .r ∷_) (map-take n rows)
+pub map-take {ℓ ℓ′} : {X : Type ℓ} {Y : Type ℓ′} (f : X → Y) (n : ℕ) (xs : List X) → map f (take n xs) ≡ take n (map f xs)
+map-take f zero xs = refl
+map-take f (suc n) [] = refl
+map-take f (suc n) (x ∷ xs) = ap (f x ∷_) (map-take f n xs)
 
 -- a one makes a row nonzero
 nonzero-by : (v k : ℕ) → bit v k ≡ 1 → 0 < v
@@ -110,7 +110,7 @@ module _ (c : ℕ) (A : List ℕ) where
 
   pub pivot-rows : map (λ q. q .r) (nonzeroRows (echelon c A .rows)) ≡ take (rank (echelon c A)) (R (echelon c A))
   unfolding R
-  pivot-rows = ap (map (λ q. q .r)) pivot-rows-are ∙ map-take (rank (echelon c A)) (echelon c A .rows)
+  pivot-rows = ap (map (λ q. q .r)) pivot-rows-are ∙ map-take (λ q. q .r) (rank (echelon c A)) (echelon c A .rows)
 
   pub pivot-rows-free : Independent (map (λ q. q .r) (nonzeroRows (echelon c A .rows)))
   pivot-rows-free = rw pivot-rows (space-law c A .independent)

@@ -24,3 +24,7 @@ pub mod Stabilizer
 pub mod Size
 pub mod Theorems
 pub mod Marked
+pub mod ByProducts
+pub mod Placed
+pub mod OverPlaces
+pub mod Written

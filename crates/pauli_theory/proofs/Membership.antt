@@ -36,9 +36,9 @@ use Rattle.pauli_theory.proofs.Phases.{phaseStep-grade}
 
 -- ---- the support sticks out
 module _ (gs : List Pauli) (p : Pauli) where
-  inside-on : outside gs p ≡ 0 → PauliOn (supportOf gs) p
+  pub outside-on : outside gs p ≡ 0 → PauliOn (supportOf gs) p
   unfolding outside supportOf
-  inside-on h =
+  outside-on h =
       let u = usedBy gs in
       let e = xor-eq-zero (bitOr u (bitOr (p .x) (p .z))) u h in
       let whole : (q : ℕ) → bit (bitOr u (bitOr (p .x) (p .z))) q ≡ bit u q = λ q. ap (λ (v : ℕ). bit v q) e in
@@ -47,9 +47,9 @@ module _ (gs : List Pauli) (p : Pauli) where
         z = λ q o. members-has u q (omega (arith, whole q, bit-or u (bitOr (p .x) (p .z)) q, bit-or (p .x) (p .z) q, bit-lt u q));
       }
 
-  on-inside : PauliOn (supportOf gs) p → outside gs p ≡ 0
+  pub on-outside : PauliOn (supportOf gs) p → outside gs p ≡ 0
   unfolding outside supportOf
-  on-inside on =
+  on-outside on =
       let u = usedBy gs in
       ap (_⊕ u)
       (ext-ones (bitOr u (bitOr (p .x) (p .z))) u
@@ -121,7 +121,7 @@ module _ (promise : Promise) (gs : List Pauli) (p : Pauli) (step : phaseStep pro
     equals : Same (turned (f .exponent) (indexedProduct (f .indexes) gs)) p
     equals =
         let q = indexedProduct (f .indexes) gs in
-        let a = solution-sets (f .indexes) (inside-on gs p outside-none) (answer .solved) in
+        let a = solution-sets (f .indexes) (outside-on gs p outside-none) (answer .solved) in
         rw (answer .left) (left-same p q (indexed-lt (f .indexes) gs) (a .x) (a .z))
 
     sound : Generated gs p
@@ -139,7 +139,7 @@ module _ (promise : Promise) (gs : List Pauli) (p : Pauli) (step : phaseStep pro
       let h = same-sets gs p q a (generated-indexed gs (w .0)) (solution-sets (w .0) on (w .1)) in
       let z : exponentLeft p q % phaseStep promise gs ≡ 0 = rw step (left-agree (grade-divisor gs) (indexed-lt (w .0) gs) h) in (
         record { indexes = w .0; exponent = exponentLeft p q },
-        ifZero-zero _ _ (on-inside gs p on) ∙ ap (withPhase promise gs p) (w .1) ∙ ifZero-zero _ _ z,
+        ifZero-zero _ _ (on-outside gs p on) ∙ ap (withPhase promise gs p) (w .1) ∙ ifZero-zero _ _ z,
       )
 
 pub membership-law : (promise : Promise) (gs : List Pauli) (p : Pauli) → Honest promise gs → MembershipLaw promise gs p

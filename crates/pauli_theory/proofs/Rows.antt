@@ -87,7 +87,7 @@ used-within u (g ∷ gs) h = (
     both : (q : ℕ) → bit (bitOr (bitOr (g .x) (g .z)) (usedBy gs)) q ≡ max (bit (bitOr (g .x) (g .z)) q) (bit (usedBy gs) q)
     both q = bit-or (bitOr (g .x) (g .z)) (usedBy gs) q
 
-used-least : (u : ℕ) (gs : List Pauli) → All (PauliOn (members u)) gs → (q : ℕ) → bit (usedBy gs) q ≡ 1 → bit u q ≡ 1
+pub used-least : (u : ℕ) (gs : List Pauli) → All (PauliOn (members u)) gs → (q : ℕ) → bit (usedBy gs) q ≡ 1 → bit u q ≡ 1
 unfolding usedBy
 used-least u [] h q e = absurd (omega (arith, bit-of-zero q))
 used-least u (g ∷ gs) h q e =

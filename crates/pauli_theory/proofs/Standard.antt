@@ -31,8 +31,9 @@ signTest-two : (ps : List Pauli) → signTest (map (exponentMod 2) ps) ≡ signT
 unfolding signTest exponentMod anticommute
 signTest-two ps =
     ap₂ max
-    (orderFour-largest (map (exponentMod 2) ps) ∙ largest-map orderFour (exponentMod 2) (λ p. orderFour-agree (agree-exponentMod p two)) ps ∙ sym (orderFour-largest ps))
-    (someAnticommute-map (exponentMod 2) (λ p q. refl) ps)
+    (orderFour-largest (map (exponentMod 2) ps)
+    ∙ largest-map orderFour (exponentMod 2) ps (all-of (λ p. orderFour-agree (agree-exponentMod p two)) ps) ∙ sym (orderFour-largest ps))
+    (someAnticommute-map (exponentMod 2) (λ p. Unit {0}) (λ p q _ _. refl) ps (all-of (λ p. tt) ps))
 
 exponentMod-twice : (w : ℕ) {m : ℕ} → Divisor m → (p : Pauli) → exponentMod 2 (exponentMod m p) ≡ exponentMod (lowered (suc w) m) p
 unfolding exponentMod lowered ifZero

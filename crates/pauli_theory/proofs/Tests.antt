@@ -77,10 +77,10 @@ module _ (f : Pauli → ℕ) where
   largest-append [] qs = omega arith
   largest-append (p ∷ ps) qs = omega (arith, largest-append ps qs)
 
-  pub largest-map : (g : Pauli → Pauli) → ((p : Pauli) → f (g p) ≡ f p) → (ps : List Pauli) → largest f (map g ps) ≡ largest f ps
+  pub largest-map : (g : Pauli → Pauli) (ps : List Pauli) → All (λ p. f (g p) ≡ f p) ps → largest f (map g ps) ≡ largest f ps
   unfolding largest
-  largest-map g h [] = refl
-  largest-map g h (p ∷ ps) = ap₂ max (h p) (largest-map g h ps)
+  largest-map g [] h = refl
+  largest-map g (p ∷ ps) h = ap₂ max (h .0) (largest-map g ps (h .1))
 
 -- ---- two that anticommute
 anticommute-self : (p : Pauli) → anticommute p p ≡ 0
@@ -118,14 +118,14 @@ unfolding someAnticommute
 someAnticommute-lt [] = omega arith
 someAnticommute-lt (p ∷ ps) = omega (arith, anticommute-largest p ps, largest-lt (anticommute p) (anticommute-lt p) ps, someAnticommute-lt ps)
 
--- a map of Paulis that keeps commutation
-module _ (g : Pauli → Pauli) (h : (p q : Pauli) → anticommute (g p) (g q) ≡ anticommute p q) where
-  with-some-map : (p : Pauli) (qs : List Pauli) → anticommutesWithSome (g p) (map g qs) ≡ anticommutesWithSome p qs
+-- a map of Paulis that keeps commutation where Q holds
+module _ (g : Pauli → Pauli) (Q : Pauli → Type 0) (h : (p q : Pauli) → Q p → Q q → anticommute (g p) (g q) ≡ anticommute p q) where
+  with-some-map : (p : Pauli) → Q p → (qs : List Pauli) → All Q qs → anticommutesWithSome (g p) (map g qs) ≡ anticommutesWithSome p qs
   unfolding anticommutesWithSome
-  with-some-map p [] = refl
-  with-some-map p (q ∷ qs) = ap₂ max (h p q) (with-some-map p qs)
+  with-some-map p a [] k = refl
+  with-some-map p a (q ∷ qs) k = ap₂ max (h p q a (k .0)) (with-some-map p a qs (k .1))
 
-  pub someAnticommute-map : (ps : List Pauli) → someAnticommute (map g ps) ≡ someAnticommute ps
+  pub someAnticommute-map : (ps : List Pauli) → All Q ps → someAnticommute (map g ps) ≡ someAnticommute ps
   unfolding someAnticommute
-  someAnticommute-map [] = refl
-  someAnticommute-map (p ∷ ps) = ap₂ max (with-some-map p ps) (someAnticommute-map ps)
+  someAnticommute-map [] k = refl
+  someAnticommute-map (p ∷ ps) k = ap₂ max (with-some-map p (k .0) ps (k .1)) (someAnticommute-map ps (k .1))
