@@ -1,0 +1,69 @@
+-- The refusal of the checks is told on; else the rank of the description is told.
+use mathlib.Core.Path.{sym}
+use lib.Seq.{length-take-le}
+use Rattle.pauli_theory.specs.Standard.{rank}
+use Rattle.pauli_group.specs.Calls.{rankCall}
+use Rattle.pauli_group.proofs.CallLaws.{list-given, list-none, answers, area-cleared, refuses, area-kept}
+use borrow.Author.Needs.{needs}
+use Rattle.pauli_group.proofs.calls.rank.Statement.{statement}
+use Rattle.pauli_group.proofs.calls.rank.Tie as tie
+
+check-list-requires : tie.Need-check-list-requires
+check-list-requires c κs = search needs
+
+enum-known-checked : tie.Need-enum-known-checked
+enum-known-checked c = search needs
+
+returns : tie.Need-returns
+unfolding rankCall
+returns c =
+    let b = c .before .before .before .before .before .before .args .b .now in
+    let work = c .before .before .before .before .before .before .args .work .now in
+    let none = list-none _ _ (c .before .before .before .check-list .ensures) _ (c .before .checked .given .1) in
+    record { told = refuses b work none rank; area = area-kept b work none }
+
+enum-known-checked-2 : tie.Need-enum-known-checked-2
+enum-known-checked-2 c = search needs
+
+slice-relend-prefix-describe-once : tie.Need-slice-relend-prefix-describe-once
+slice-relend-prefix-describe-once c = list-given _ _ (c .before .before .before .check-list .ensures) _ (c .before .checked2 .given .1) .room
+
+slice-aggregate-describe-once : tie.Need-slice-aggregate-describe-once
+slice-aggregate-describe-once c =
+    let given = list-given _ _ (c .before .before .before .before .check-list .ensures) _ (c .before .before .checked2 .given .1) in
+    sym (length-take-le 4096 (c .before .before .before .before .before .before .before .args .work .now) (given .room))
+
+describe-once-requires : tie.Need-describe-once-requires
+describe-once-requires c κs =
+    let given = list-given _ _ (c .before .before .before .before .check-list .ensures) _ (c .before .before .checked2 .given .1) in
+    (given .count, length-take-le 4096 (c .before .before .before .before .before .before .before .args .work .now) (given .room))
+
+same-length : tie.Need-same-length
+same-length c = search needs
+
+returns-2 : tie.Need-returns-2
+unfolding rankCall
+returns-2 c =
+    let b = c .before .before .before .before .before .before .before .before .before .before .args .b .now in
+    let work = c .before .before .before .before .before .before .before .before .before .before .args .work .now in
+    let given = list-given _ _ (c .before .before .before .before .before .before .before .check-list .ensures) _
+    (c .before .before .before .before .before .checked2 .given .1) in
+    let description = c .before .before .describe-once .ensures in
+    record {
+      told = answers b work given rank _ (description .0 .rank-is);
+      area = area-cleared b work given _ (description .1);
+    }
+
+pub rank-spec : {M : Type 1} → statement M
+rank-spec =
+    tie.close
+    (tie.spec
+    check-list-requires
+    enum-known-checked
+    returns
+    enum-known-checked-2
+    slice-relend-prefix-describe-once
+    slice-aggregate-describe-once
+    describe-once-requires
+    same-length
+    returns-2)

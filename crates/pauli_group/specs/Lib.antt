@@ -1,0 +1,9 @@
+pub mod Area
+pub mod Lists
+pub mod Calls
+pub mod Answers
+pub mod Contracts
+pub mod Groups
+pub mod Members
+pub mod Compare
+pub mod DemandThree

@@ -1,0 +1,12 @@
+// The work area. The echelon form stands at its front; then come a row to solve for, the generators and the standard generators.
+
+// A work area has at least so many words, and only these are used.
+pub const WORK_WORDS: usize = 4096;
+// Where a row to solve for stands.
+pub const TARGET: usize = 1040;
+// Where the generators stand, five words each.
+pub const LIST: usize = 1056;
+// Where the standard generators stand, five words each.
+pub const STANDARD: usize = 1712;
+// R's words of a row of the form.
+pub const ROW_WORDS: usize = 4;

@@ -1,0 +1,180 @@
+// The calls on one list.
+ghost use mathlib.Core.Path.{_≡_};
+ghost use Prim.Native.Nat.{_≤_, _<_};
+ghost use lib.ListN.{length};
+ghost use Rattle.pauli.specs.Answers.{toldCount, toldWrote};
+ghost use Rattle.pauli.specs.Calls.{sparseOf};
+ghost use Rattle.pauli.specs.Condense.{listOf};
+ghost use Rattle.pauli.specs.Roll.{countOf, write};
+ghost use Rattle.pauli.specs.Told.{answer, mapTold};
+ghost use Rattle.pauli.specs.Writing.{toldBytes, leftIn};
+ghost use Rattle.pauli_theory.specs.Standard.{standard};
+ghost use Rattle.pauli_group.specs.Answers.{promiseOf, stepTold, toldDecided};
+ghost use Rattle.pauli_group.specs.Area.{cleared};
+ghost use Rattle.pauli_group.specs.Calls.{paulis, oneList, standardBytes};
+ghost use Rattle.pauli_group.specs.Contracts.{StandardCall, RankCall, PhasesCall, AbelianCall, StabilizerCall, SizeCall};
+use crate::answers::Decided;
+use crate::answers::Phases;
+use crate::answers::PhasesFound;
+use crate::answers::Promise;
+use crate::answers::RankFound;
+use crate::answers::SizeFound;
+use crate::area::STANDARD;
+use crate::area::WORK_WORDS;
+use crate::group::describe_once;
+use crate::group::group_of;
+use binar::row::clear_bits;
+use pauli::refusal::Reason;
+use pauli::refusal::Refusal;
+use pauli::roll::Checked;
+use pauli::roll::check_roll;
+use pauli::write::Wrote;
+use pauli::write::write_roll;
+
+// Checks the roll, then the work area of so many words; tells how many Paulis the roll has.
+fn check_list(b: &[u8], words: usize) -> Checked
+    ensures { λ r. ⌜ toldCount r ≡ mapTold length (oneList (now (b .entry)) words) ⌝ }
+{
+    let checked = check_roll(b);
+    let n = match checked {
+        Checked::Refused(r) => {
+            return Checked::Refused(r);
+        }
+        Checked::Count(n) => n,
+    };
+    if words < WORK_WORDS {
+        return Checked::Refused(Refusal {
+            reason: Reason::Work,
+            place: 0,
+        });
+    }
+    Checked::Count(n)
+}
+
+// Writes the standard generators of an accepted roll of n Paulis, and clears the work area.
+fn write_standard(b: &[u8], n: usize, w: &mut [u64], out: &mut [u8]) -> Wrote
+    requires { ⌜ (countOf (now b) ≡ answer n) × (length (now w) ≡ 4096) ⌝ }
+    ensures told { λ r. ⌜ toldWrote r ≡ toldBytes (answer (standardBytes (paulis (listOf (now (b .entry)))))) (now (out .entry)) ⌝ }
+    ensures left { λ _. ⌜ now (out .exit) ≡ leftIn (answer (standardBytes (paulis (listOf (now (b .entry)))))) (now (out .entry)) ⌝ }
+    ensures area { λ _. ⌜ now (w .exit) ≡ cleared (now (w .entry)) ⌝ }
+{
+    let mut known = [0u32; 129];
+    let g = group_of(b, n, &mut known, w);
+    let wrote = write_roll(w, STANDARD, g.total, &known, g.places, out);
+    clear_bits(w, 0, WORK_WORDS);
+    wrote
+}
+
+// Writes the standard generators of a list as a roll.
+pub fn standard_generators(b: &[u8], work: &mut [u64], out: &mut [u8]) -> Wrote
+    ensures { λ r. ⌜ StandardCall (now (b .entry)) (now (work .entry)) (now (out .entry)) r (now (work .exit)) (now (out .exit)) ⌝ }
+{
+    let checked = check_list(b, work.len());
+    let n = match checked {
+        Checked::Refused(r) => {
+            return Wrote::Refused(r);
+        }
+        Checked::Count(n) => n,
+    };
+    write_standard(b, n, &mut work[..WORK_WORDS], out)
+}
+
+// The rank of a list: the dimension of the space of its rows.
+pub fn rank(b: &[u8], work: &mut [u64]) -> RankFound
+    ensures { λ r. ⌜ RankCall (now (b .entry)) (now (work .entry)) r (now (work .exit)) ⌝ }
+{
+    let checked = check_list(b, work.len());
+    let n = match checked {
+        Checked::Refused(r) => {
+            return RankFound::Refused(r);
+        }
+        Checked::Count(n) => n,
+    };
+    let d = describe_once(b, n, Promise::None, &mut work[..WORK_WORDS]);
+    RankFound::Rank(d.rank)
+}
+
+// The phases with this step.
+fn phases_by(step: u64) -> Phases
+    requires { ⌜ (0 < step) × (step ≤ 4) × (step ≡ 3 → ⊥) ⌝ }
+    ensures { λ r. ⌜ stepTold r ≡ step ⌝ }
+{
+    if step == 4 {
+        return Phases::Zero;
+    }
+    if step == 2 {
+        return Phases::ZeroTwo;
+    }
+    Phases::All
+}
+
+// The phases of the group: the powers of i in it.
+pub fn phases(b: &[u8], promise: Promise, work: &mut [u64]) -> PhasesFound
+    ensures { λ r. ⌜ PhasesCall (promiseOf promise) (now (b .entry)) (now (work .entry)) r (now (work .exit)) ⌝ }
+{
+    let checked = check_list(b, work.len());
+    let n = match checked {
+        Checked::Refused(r) => {
+            return PhasesFound::Refused(r);
+        }
+        Checked::Count(n) => n,
+    };
+    let d = describe_once(b, n, promise, &mut work[..WORK_WORDS]);
+    PhasesFound::Phases(phases_by(d.step))
+}
+
+// Yes for 1.
+fn decided(n: u64) -> Decided
+    requires { ⌜ n ≤ 1 ⌝ }
+    ensures { λ r. ⌜ toldDecided r ≡ answer n ⌝ }
+{
+    if n == 1 {
+        return Decided::Yes;
+    }
+    Decided::No
+}
+
+// Whether no two generators anticommute, or what is promised.
+pub fn is_abelian(b: &[u8], promise: Promise, work: &mut [u64]) -> Decided
+    ensures { λ r. ⌜ AbelianCall (promiseOf promise) (now (b .entry)) (now (work .entry)) r (now (work .exit)) ⌝ }
+{
+    let checked = check_list(b, work.len());
+    let n = match checked {
+        Checked::Refused(r) => {
+            return Decided::Refused(r);
+        }
+        Checked::Count(n) => n,
+    };
+    let d = describe_once(b, n, promise, &mut work[..WORK_WORDS]);
+    decided(1 - d.clash)
+}
+
+// Whether the group is abelian and does not have -I.
+pub fn is_stabilizer_group(b: &[u8], promise: Promise, work: &mut [u64]) -> Decided
+    ensures { λ r. ⌜ StabilizerCall (promiseOf promise) (now (b .entry)) (now (work .entry)) r (now (work .exit)) ⌝ }
+{
+    let checked = check_list(b, work.len());
+    let n = match checked {
+        Checked::Refused(r) => {
+            return Decided::Refused(r);
+        }
+        Checked::Count(n) => n,
+    };
+    let d = describe_once(b, n, promise, &mut work[..WORK_WORDS]);
+    decided(d.stabilizer)
+}
+
+// The binary logarithm of the number of elements.
+pub fn log2_size(b: &[u8], promise: Promise, work: &mut [u64]) -> SizeFound
+    ensures { λ r. ⌜ SizeCall (promiseOf promise) (now (b .entry)) (now (work .entry)) r (now (work .exit)) ⌝ }
+{
+    let checked = check_list(b, work.len());
+    let n = match checked {
+        Checked::Refused(r) => {
+            return SizeFound::Refused(r);
+        }
+        Checked::Count(n) => n,
+    };
+    let d = describe_once(b, n, promise, &mut work[..WORK_WORDS]);
+    SizeFound::Log2(d.rank + (2 - (d.step / 2) as usize))
+}
