@@ -1,5 +1,4 @@
 -- The parts lent are as long as asked.
-use borrow.Author.Needs.{needs}
 use lib.Seq.{length-take-le}
 use mathlib.Core.Path.{sym}
 use native.Mathlib.Omega.{arith}
@@ -82,21 +81,6 @@ same-length-3 c = search needs
 returns-7 : tie.Need-returns-7
 returns-7 c = search needs
 
-slice-relend-prefix-fill : tie.Need-slice-relend-prefix-fill
-slice-relend-prefix-fill c = search needs
-
-slice-aggregate-fill : tie.Need-slice-aggregate-fill
-slice-aggregate-fill c = sym (length-take-le _ _ (omega arith))
-
-element-copy-out-fill : tie.Need-element-copy-out-fill
-element-copy-out-fill c = search needs
-
-fill-requires : tie.Need-fill-requires
-fill-requires c κs = search needs
-
-element-copy-out-run : tie.Need-element-copy-out-run
-element-copy-out-run c = search needs
-
 slice-reshare-prefix-run : tie.Need-slice-reshare-prefix-run
 slice-reshare-prefix-run c = search needs
 
@@ -115,8 +99,11 @@ slice-relend-prefix-run c = search needs
 slice-aggregate-run-3 : tie.Need-slice-aggregate-run-3
 slice-aggregate-run-3 c = sym (length-take-le _ _ (omega arith))
 
-element-copy-out-run-2 : tie.Need-element-copy-out-run-2
-element-copy-out-run-2 c = search needs
+slice-relend-prefix-run-2 : tie.Need-slice-relend-prefix-run-2
+slice-relend-prefix-run-2 c = search needs
+
+slice-aggregate-run-4 : tie.Need-slice-aggregate-run-4
+slice-aggregate-run-4 c = sym (length-take-le _ _ (omega arith))
 
 run-requires : tie.Need-run-requires
 run-requires c κs = search needs
@@ -129,6 +116,9 @@ same-length-5 c = search needs
 
 same-length-6 : tie.Need-same-length-6
 same-length-6 c = search needs
+
+same-length-7 : tie.Need-same-length-7
+same-length-7 c = search needs
 
 returns-8 : tie.Need-returns-8
 returns-8 c = search needs
@@ -162,20 +152,17 @@ answer-spec =
     same-length-2
     same-length-3
     returns-7
-    slice-relend-prefix-fill
-    slice-aggregate-fill
-    element-copy-out-fill
-    fill-requires
-    element-copy-out-run
     slice-reshare-prefix-run
     slice-aggregate-run
     slice-reshare-prefix-run-2
     slice-aggregate-run-2
     slice-relend-prefix-run
     slice-aggregate-run-3
-    element-copy-out-run-2
+    slice-relend-prefix-run-2
+    slice-aggregate-run-4
     run-requires
     same-length-4
     same-length-5
     same-length-6
+    same-length-7
     returns-8)

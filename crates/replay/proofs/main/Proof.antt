@@ -2,19 +2,19 @@
 use Prim.Native.Nat.{_-_, _≤_}
 use borrow.Author.Needs.{needs}
 use lib.ListN.{length}
-use mathlib.Core.Path.{_≡_, refl}
+use mathlib.Core.Path.{_≡_}
 use native.Mathlib.Omega.{arith}
 use Rattle.replay.proofs.main.Statement.{statement}
 use Rattle.replay.proofs.main.Tie as tie
 
 abbrev Inv-loop : tie.InvT-loop
-Inv-loop request₀ first₀ second₀ out₀ k₀ t7 t8 request first second out k = (length request ≡ 28) × (length first ≡ 262144) × (length second ≡ 262144) × (length out ≡ 262144)
+Inv-loop request₀ first₀ second₀ out₀ work₀ k₀ t8 t9 request first second out work k = (length request ≡ 28) × (length first ≡ 262144) × (length second ≡ 262144) × (length out ≡ 262144) × (length work ≡ 40960)
 
 abbrev μ-loop : tie.MeasureT-loop
-μ-loop request₀ first₀ second₀ out₀ k₀ t7 t8 request first second out k = 4294967295 - k
+μ-loop request₀ first₀ second₀ out₀ work₀ k₀ t8 t9 request first second out work k = 4294967295 - k
 
 loop-holds : tie.Need-loop-holds Inv-loop μ-loop
-loop-holds c = (omega arith, omega arith, omega arith, omega arith)
+loop-holds c = (omega arith, omega arith, omega arith, omega arith, omega arith)
 
 slice-aggregate-read-full : tie.Need-slice-aggregate-read-full Inv-loop μ-loop
 slice-aggregate-read-full c = search needs
@@ -43,6 +43,9 @@ slice-aggregate-answer-2 c = search needs
 slice-aggregate-answer-3 : tie.Need-slice-aggregate-answer-3 Inv-loop μ-loop
 slice-aggregate-answer-3 c = search needs
 
+slice-aggregate-answer-4 : tie.Need-slice-aggregate-answer-4 Inv-loop μ-loop
+slice-aggregate-answer-4 c = search needs
+
 answer-requires : tie.Need-answer-requires Inv-loop μ-loop
 answer-requires c κs = search needs
 
@@ -62,7 +65,7 @@ loop-less : tie.Need-loop-less Inv-loop μ-loop
 loop-less c = omega arith
 
 loop-again : tie.Need-loop-again Inv-loop μ-loop
-loop-again c = (omega arith, omega arith, omega arith, omega arith)
+loop-again c = (omega arith, omega arith, omega arith, omega arith, omega arith)
 
 returns-4 : tie.Need-returns-4 Inv-loop μ-loop
 returns-4 c = search needs
@@ -83,6 +86,7 @@ main-spec =
     slice-aggregate-answer
     slice-aggregate-answer-2
     slice-aggregate-answer-3
+    slice-aggregate-answer-4
     answer-requires
     slice-aggregate-text-2
     text-requires-2
