@@ -50,6 +50,8 @@ use Rattle.pauli_theory.specs.Standard.{
 }
 use Rattle.pauli_theory.specs.Membership.{outside, exponentLeft, withPhase, factorizationOf}
 use Rattle.pauli_theory.specs.Order.{ranksOf, sameRanks, noMore, firstOf, partialCmp}
+use Rattle.pauli_theory.specs.Modulo.{supportsOther, multiplied, multipliedByAll, modulo}
+use Rattle.pauli_theory.specs.Symplectic.{position, swapRemove, timesIf, cleared, onPosition, pairedFrom, symplecticForm}
 use Rattle.pauli_theory.specs.Marked.{Marked}
 
 pub marked : Marked
@@ -58,6 +60,7 @@ unfolding ones _⊕_ bit dot ifBit inColumn byColumns pivotOf swapRows clear unl
     setOf membersFrom members condense expand rowOf pauliOfRow usedBy supportOf formOf rank phaseOf ifZero zeroRows nonzeroRows modulusOf modulus
     rowGenerators someOrderFour anticommutesWithSome someAnticommute phase appended exponentMod standard nonabelian bare someImaginary someMinus
     phaseStep log2Size outside exponentLeft withPhase factorizationOf ranksOf sameRanks noMore firstOf partialCmp
+    supportsOther multiplied multipliedByAll modulo position swapRemove timesIf cleared onPosition pairedFrom symplecticForm
 marked = record {
   empty-standard = refl;
   empty-phases = refl;
@@ -71,4 +74,6 @@ marked = record {
   signs-standard = refl;
   membership = refl;
   no-order = refl;
+  remainder = refl;
+  symplectic = refl;
 }

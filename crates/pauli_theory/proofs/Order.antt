@@ -86,7 +86,7 @@ module _ (gs hs : List Pauli) where
   joined-below f = group-ranks hs (gs ++ hs) (joined-right gs hs f)
 
 -- ---- the four outcomes
-abbrev Outcome : List Pauli → List Pauli → Order → Type 0
+abbrev pub Outcome : List Pauli → List Pauli → Order → Type 0
 Outcome gs hs equal = SameGroup gs hs
 Outcome gs hs less = Inside gs hs × (Inside hs gs → ⊥)
 Outcome gs hs greater = Inside hs gs × (Inside gs hs → ⊥)
@@ -134,7 +134,7 @@ module _ (gs hs : List Pauli) where
   by-tests false false u n hx hy hu hn =
       rw (and-false u, and-false n) (λ f. not-both hy (joined-below gs hs f), λ f. not-both hx (joined-above gs hs f))
 
-compared : (left right : Promise) (gs hs : List Pauli) → Honest left gs → Honest right hs → Outcome gs hs (partialCmp left right gs hs)
+pub compared : (left right : Promise) (gs hs : List Pauli) → Honest left gs → Honest right hs → Outcome gs hs (partialCmp left right gs hs)
 unfolding partialCmp Honest
 compared left right gs hs hl hr =
     rw (ranks-are left gs hl, ranks-are right hs hr, ranks-are none (gs ++ hs) tt) (by-tests gs hs _ _ _ _ refl refl refl refl)

@@ -64,15 +64,9 @@ use Rattle.pauli_theory.proofs.Placed.{
   condensed-signTest,
 }
 pub use Rattle.pauli_theory.proofs.Membership.{outside-on, on-outside}
+unfoldable pub use Rattle.pauli_theory.specs.Listing.{countFrom, upTo}
 
 -- ---- the numbers below n
-unfoldable pub countFrom : ℕ → ℕ → List ℕ
-countFrom k zero = []
-countFrom k (suc n) = k ∷ countFrom (suc k) n
-
-unfoldable pub upTo : ℕ → List ℕ
-upTo n = countFrom 0 n
-
 count-length : (k n : ℕ) → length (countFrom k n) ≡ n
 unfolding countFrom
 count-length k zero = refl

@@ -77,7 +77,7 @@ free-nonzero : (B : List ℕ) → Independent B → (i : ℕ) → i < length B �
 unfolding Independent
 free-nonzero B free i l e = omega (arith, pow-pos i, free (2 ^ i) (pow-lt l) (rowSum-unit i B ∙ e))
 
-basis-bare : (gs : List Pauli) → All (λ p. (e : ℕ) → bare p e ≡ 0) (basis gs)
+pub basis-bare : (gs : List Pauli) → All (λ p. (e : ℕ) → bare p e ≡ 0) (basis gs)
 basis-bare gs =
     let qs = supportOf gs in
     all-by _ (basis gs) I λ i l e. bare-case (λ k. k ≡ 0) (getD (basis gs) i I) e

@@ -41,7 +41,7 @@ value-at f (suc n) zero l = refl
 value-at f (suc n) (suc i) l = value-at (λ j. f (suc j)) n i (omega arith)
 
 -- ---- the multiples of a divisor m of 4: there are 4 / m of them below 4
-some-multiple : {m : ℕ} → Divisor m → 0 < 4 / m
+pub some-multiple : {m : ℕ} → Divisor m → 0 < 4 / m
 some-multiple one = omega arith
 some-multiple two = omega arith
 some-multiple four = omega arith
@@ -64,27 +64,27 @@ multiples-apart one r t e lr lt h = omega (arith, value-cancel (1 * r) (1 * t) e
 multiples-apart two r t e lr lt h = omega (arith, value-cancel (2 * r) (2 * t) e (omega arith) (omega arith) h)
 multiples-apart four r t e lr lt h = omega arith
 
-multiples-count : {m : ℕ} → Divisor m → 4 / m ≡ 2 ^ (2 - m / 2)
+pub multiples-count : {m : ℕ} → Divisor m → 4 / m ≡ 2 ^ (2 - m / 2)
 multiples-count one = refl
 multiples-count two = refl
 multiples-count four = refl
 
 module _ (gs : List Pauli) where
   -- how many powers of i, how many elements, and element number i
-  phases : ℕ
+  unfoldable pub phases : ℕ
   phases = 4 / grade gs
 
-  size : ℕ
+  unfoldable pub size : ℕ
   size = 2 ^ rank gs * phases
 
-  element : ℕ → Pauli
+  unfoldable pub element : ℕ → Pauli
   element i = turned (grade gs * (i % phases)) (indexedProduct (i / phases) (basis gs))
 
-  phases-positive : 0 < phases
+  pub phases-positive : 0 < phases
   unfolding phases
   phases-positive = some-multiple (grade-divisor gs)
 
-  element-in : (i : ℕ) → Generated gs (element i)
+  pub element-in : (i : ℕ) → Generated gs (element i)
   unfolding element
   element-in i =
       let d = grade-divisor gs in
@@ -99,11 +99,11 @@ module _ (gs : List Pauli) where
       let n : length B ≡ rank gs = length-map (basis gs) (rowOf qs) ∙ basis-count gs in
       free-injective B (basis-free gs) s t (rw n ls) (rw n lt) (sym (row-indexed qs s (basis gs)) ∙ row-agree qs a ∙ row-indexed qs t (basis gs))
 
-  set-below : (i : ℕ) → i < size → i / phases < 2 ^ rank gs
+  pub set-below : (i : ℕ) → i < size → i / phases < 2 ^ rank gs
   unfolding size
   set-below i l = div-lt-iff-lt-mul phases-positive .1 l
 
-  elements-apart : (i j : ℕ) → i < size → j < size → Same (element i) (element j) → i ≡ j
+  pub elements-apart : (i j : ℕ) → i < size → j < size → Same (element i) (element j) → i ≡ j
   unfolding element turned phases
   elements-apart i j li lj h =
       let e : i / phases ≡ j / phases = sets-apart (i / phases) (j / phases) (set-below i li) (set-below j lj) (agree-sets (h .x) (h .z)) in
@@ -113,7 +113,7 @@ module _ (gs : List Pauli) where
       sym (div-add-mod' i phases) ∙ ap₂ (λ (a b : ℕ). a * phases + b) e r ∙ div-add-mod' j phases
 
   -- ---- every element
-  element-found : (p : Pauli) → Generated gs p → (i : ℕ) × (i < size) × Same (element i) p
+  pub element-found : (p : Pauli) → Generated gs p → (i : ℕ) × (i < size) × Same (element i) p
   unfolding element size phases
   element-found p a =
       let d = grade-divisor gs in

@@ -10,6 +10,9 @@ use Rattle.pauli_theory.proofs.Order.{order-law, against-joined-law}
 use Rattle.pauli_theory.proofs.Promise.{promise-law}
 use Rattle.pauli_theory.proofs.Stabilizer.{abelian-law}
 use Rattle.pauli_theory.proofs.Size.{size-law}
+use Rattle.pauli_theory.proofs.Modulo.{modulo-law}
+use Rattle.pauli_theory.proofs.Quotient.{quotient-law}
+use Rattle.pauli_theory.proofs.Symplectic.{symplectic-law}
 
 pub group-laws : GroupLaws
 group-laws = record {
@@ -24,4 +27,7 @@ group-laws = record {
   size-law = size-law;
   abelian-law = abelian-law;
   promise-law = promise-law;
+  modulo-law = modulo-law;
+  quotient-law = quotient-law;
+  symplectic-law = symplectic-law;
 }

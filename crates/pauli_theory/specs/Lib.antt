@@ -1,6 +1,10 @@
 pub mod Group
 pub mod Standard
+pub mod Listing
 pub mod Membership
 pub mod Order
+pub mod Modulo
+pub mod Symplectic
 pub mod Theorems
+pub mod ListingTheorems
 pub mod Marked

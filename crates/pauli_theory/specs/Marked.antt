@@ -1,5 +1,6 @@
 -- Document 01, "Marked": the rows that these definitions touch, each an equation. The phases of a list are the multiples, below 4,
--- of its `phaseStep`: step 4 is the phase 0, step 2 the phases 0 and 2, step 1 all four. All letters are on qubit 0.
+-- of its `phaseStep`: step 4 is the phase 0, step 2 the phases 0 and 2, step 1 all four. Letters are on qubit 0, unless
+-- it is said.
 use mathlib.Core.Path.{_≡_}
 use mathlib.Core.List.{[], _∷_}
 use mathlib.Core.Option.{some}
@@ -9,6 +10,8 @@ use Rattle.pauli_theory.specs.Group.{none}
 use Rattle.pauli_theory.specs.Standard.{standard, phaseStep, log2Size}
 use Rattle.pauli_theory.specs.Membership.{factorizationOf}
 use Rattle.pauli_theory.specs.Order.{noOrder, partialCmp}
+use Rattle.pauli_theory.specs.Modulo.{modulo}
+use Rattle.pauli_theory.specs.Symplectic.{symplecticForm}
 
 -- (e,{},{}), (e,{0},{}), (e,{},{0}) and (e,{0},{0})
 abbrev pub scalar : ℕ → Pauli
@@ -22,6 +25,16 @@ onZ e = record { e = e; x = 0; z = 1 }
 
 abbrev pub onXZ : ℕ → Pauli
 onXZ e = record { e = e; x = 1; z = 1 }
+
+-- XX and ZZ on qubits 0 and 1, and X on qubit 1
+abbrev pub bothX : Pauli
+bothX = record { e = 0; x = 3; z = 0 }
+
+abbrev pub bothZ : Pauli
+bothZ = record { e = 0; x = 0; z = 3 }
+
+abbrev pub nextX : Pauli
+nextX = record { e = 0; x = 2; z = 0 }
 
 pub record Marked : Type 0 where
   -- "The empty list: standard I, phases 0"
@@ -45,3 +58,7 @@ pub record Marked : Type 0 where
   pub membership : factorizationOf none (onZ 0 ∷ onX 0 ∷ []) (onXZ 0) ≡ some (record { indexes = 3; exponent = 2 })
   -- "[X] and [-X]: no order"
   pub no-order : partialCmp none none (onX 0 ∷ []) (onX 2 ∷ []) ≡ noOrder
+  -- "<XX,ZZ> modulo <XX>: I, ZZ"
+  pub remainder : modulo none (bothX ∷ bothZ ∷ []) (bothX ∷ []) ≡ I ∷ bothZ ∷ []
+  -- "symplectic [X0,Z0,X1]: Z0, X0, X1"
+  pub symplectic : symplecticForm (onX 0 ∷ onZ 0 ∷ nextX ∷ []) ≡ onZ 0 ∷ onX 0 ∷ nextX ∷ []

@@ -2,17 +2,19 @@
 use mathlib.Core.Path.{_≡_}
 use mathlib.Core.List.{List, _++_, map}
 use mathlib.Core.Option.{some, none}
-use Prim.Native.Nat.{ℕ, _%_, _^_, _≤_, _<_, max}
+use Prim.Native.Nat.{ℕ, _+_, _-_, _*_, _%_, _^_, _≤_, _<_, max}
 use lib.ListN.{length, getD}
 use Rattle.binar.specs.Space.{Dimension}
 use Rattle.pauli.specs.RollTheorems.{All}
-use Rattle.pauli.specs.Pauli.{Pauli, I, Same, turned, indexedProduct}
+use Rattle.pauli.specs.Pauli.{Pauli, I, Same, times, turned, anticommute, indexedProduct}
 use Rattle.pauli.specs.Sets.{rowOf}
 use Rattle.pauli.specs.PauliTheorems.{PauliOn}
 use Rattle.pauli_theory.specs.Group.{Generated, Inside, SameGroup, Abelian, Promise, Honest}
-use Rattle.pauli_theory.specs.Standard.{supportOf, rank, standard, nonabelian, phaseStep, log2Size, stabilizer}
+use Rattle.pauli_theory.specs.Standard.{supportOf, formOf, rank, standard, nonabelian, phaseStep, log2Size, stabilizer}
 use Rattle.pauli_theory.specs.Membership.{Factorization, factorizationOf}
 use Rattle.pauli_theory.specs.Order.{equal, less, greater, noOrder, partialCmp}
+use Rattle.pauli_theory.specs.Modulo.{supportsOther, modulo, tryQuotient}
+use Rattle.pauli_theory.specs.Symplectic.{symplecticForm}
 
 -- 1. Standard generators: they generate the list's group, are no more than the generators (one, for no generators), lie on the
 -- list's qubits and have exponents 0 to 3; and they are the same exactly for the same group
@@ -93,6 +95,50 @@ pub record PromiseLaw (promise : Promise) (gs : List Pauli) : Type 0 where
   pub same-size : log2Size promise gs ≡ log2Size Promise.none gs
   pub same-factorization : (p : Pauli) → factorizationOf promise gs p ≡ factorizationOf Promise.none gs p
 
+-- 10. Modulo: p is g times an element of the group of hs
+pub record Coset (hs : List Pauli) (g p : Pauli) : Type 0 where
+  pub factor : Pauli
+  pub generated : Generated hs factor
+  pub equals : Same (times g factor) p
+
+-- with an absent or true promise of the other list
+pub record ModuloLaw (promise : Promise) (gs hs : List Pauli) : Type 0 where
+  -- one for each standard generator, and that up to an element of the other group
+  pub count : length (modulo promise gs hs) ≡ length (standard gs)
+  pub cosets : (i : ℕ) → i < length (standard gs) → Coset hs (getD (standard gs) i I) (getD (modulo promise gs hs) i I)
+  -- none has a one at a pivot of the other's form
+  pub clear : All (λ p. All (λ c. supportsOther (supportOf hs) c p ≡ 0) (formOf hs .pivots)) (modulo promise gs hs)
+  -- with the other list they generate what both lists do
+  pub generates : SameGroup (modulo promise gs hs ++ hs) (gs ++ hs)
+  pub on-support : All (PauliOn (supportOf (gs ++ hs))) (modulo promise gs hs)
+  -- the exponents are below the modulus, which is the least of 4 - e over the other's phases e
+  pub low : All (λ p. p .e < phaseStep promise hs) (modulo promise gs hs)
+  pub least : (e : ℕ) → e < 4 → e % phaseStep promise hs ≡ 0 → phaseStep promise hs ≤ 4 - e
+  pub attained : (e : ℕ) × (e < 4) × (e % phaseStep promise hs ≡ 0) × (phaseStep promise hs ≡ 4 - e)
+
+-- 11. Quotient, with absent or true promises: none exactly when the divisor's group is not inside, which a generator of it shows;
+-- else modulo
+pub record QuotientLaw (promise divisorPromise : Promise) (gs hs : List Pauli) : Type 0 where
+  pub none-right : tryQuotient promise divisorPromise gs hs ≡ none → Inside hs gs → ⊥
+  pub none-only : (Inside hs gs → ⊥) → tryQuotient promise divisorPromise gs hs ≡ none
+  pub outside : tryQuotient promise divisorPromise gs hs ≡ none → (i : ℕ) × (i < length hs) × (Generated gs (getD hs i I) → ⊥)
+  pub some-only : Inside hs gs → tryQuotient promise divisorPromise gs hs ≡ some (modulo divisorPromise gs hs)
+  -- the quotient and the divisor generate the list's group
+  pub generates : Inside hs gs → SameGroup (modulo divisorPromise gs hs ++ hs) gs
+
+-- 12. Symplectic pairing: "pairs anticommute, all else commutes, and the same group is generated"
+pub record SymplecticLaw (gs : List Pauli) : Type 0 where
+  pub count : length (symplecticForm gs) ≡ length gs
+  pub generates : SameGroup (symplecticForm gs) gs
+  pub on-support : All (PauliOn (supportOf gs)) (symplecticForm gs)
+  -- the pairs stand first
+  pub pairs : ℕ
+  pub room : 2 * pairs ≤ length gs
+  pub paired : (i : ℕ) → i < pairs → anticommute (getD (symplecticForm gs) (2 * i) I) (getD (symplecticForm gs) (2 * i + 1) I) ≡ 1
+  -- the elements at i and j, unless they are a pair
+  pub else-commute : (i j : ℕ) → i < j → j < length gs → ((h : ℕ) → h < pairs → i ≡ 2 * h → j ≡ 2 * h + 1 → ⊥)
+      → anticommute (getD (symplecticForm gs) i I) (getD (symplecticForm gs) j I) ≡ 0
+
 -- all of these
 pub record GroupLaws : Type 0 where
   pub standard-law : (gs : List Pauli) → StandardLaw gs
@@ -106,3 +152,7 @@ pub record GroupLaws : Type 0 where
   pub size-law : (promise : Promise) (gs : List Pauli) → Honest promise gs → SizeLaw promise gs
   pub abelian-law : (promise : Promise) (gs : List Pauli) → Honest promise gs → AbelianLaw promise gs
   pub promise-law : (promise : Promise) (gs : List Pauli) → Honest promise gs → PromiseLaw promise gs
+  pub modulo-law : (promise : Promise) (gs hs : List Pauli) → Honest promise hs → ModuloLaw promise gs hs
+  pub quotient-law : (promise divisorPromise : Promise) (gs hs : List Pauli) → Honest promise gs → Honest divisorPromise hs
+      → QuotientLaw promise divisorPromise gs hs
+  pub symplectic-law : (gs : List Pauli) → SymplecticLaw gs
