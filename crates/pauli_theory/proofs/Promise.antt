@@ -1,5 +1,5 @@
 -- A true promise changes no answer; and abelian and stabilizer groups are what the definitions find.
-use mathlib.Core.Path.{_≡_, refl, sym, ap, _∙_}
+use mathlib.Core.Path.{_≡_, refl, sym, ap, ap₂, _∙_}
 use mathlib.Core.List.{List}
 use mathlib.Core.Option.{Option, some, none}
 use Prim.Native.Nat.{ℕ, _+_, _-_, _*_, _/_}
@@ -10,7 +10,10 @@ use Rattle.pauli.specs.Sets.{rowOf}
 use Rattle.pauli_theory.specs.Group.{Promise, Honest}
 use Rattle.pauli_theory.specs.Standard.{supportOf, formOf, rank, phaseStep, log2Size, stabilizer}
 use Rattle.pauli_theory.specs.Membership.{withPhase, factorizationOf}
-use Rattle.pauli_theory.specs.Theorems.{PromiseLaw}
+use Rattle.pauli_theory.specs.Order.{Order, ranksOf, partialCmp}
+use Rattle.pauli_theory.specs.Listing.{phaseCount, phasesOf, elementsOf}
+use Rattle.pauli_theory.specs.Modulo.{modulo, tryQuotient, ifBelow}
+use Rattle.pauli_theory.specs.Theorems.{PromiseLaw, PromisesLaw}
 use Rattle.pauli_theory.proofs.Abelian.{promise-nonabelian}
 use Rattle.pauli_theory.proofs.Phases.{phaseStep-grade}
 
@@ -32,6 +35,10 @@ module _ (promise : Promise) (gs : List Pauli) (h : Honest promise gs) where
   unfolding factorizationOf
   same-factorization p = rw (same-phase p (transposeSolve (2 * length (supportOf gs)) (formOf gs) (rowOf (supportOf gs) p)))
 
+  same-elements : elementsOf promise gs ≡ elementsOf Promise.none gs
+  unfolding elementsOf phasesOf phaseCount
+  same-elements = rw same-step
+
   pub promise-law : PromiseLaw promise gs
   unfolding log2Size
   promise-law = record {
@@ -40,4 +47,22 @@ module _ (promise : Promise) (gs : List Pauli) (h : Honest promise gs) where
     same-stabilizer = same-stabilizer;
     same-size = ap (λ (m : ℕ). rank gs + (2 - m / 2)) same-step;
     same-factorization = same-factorization;
+    same-elements = same-elements;
   }
+
+module _ (left right : Promise) (gs hs : List Pauli) (h : Honest left gs) (k : Honest right hs) where
+  same-order : partialCmp left right gs hs ≡ partialCmp Promise.none Promise.none gs hs
+  unfolding partialCmp ranksOf
+  same-order = rw (same-step left gs h, same-step right hs k)
+
+  same-remainder : modulo right gs hs ≡ modulo Promise.none gs hs
+  unfolding modulo
+  same-remainder = rw (same-step right hs k)
+
+pub promises-law : (left right : Promise) (gs hs : List Pauli) → Honest left gs → Honest right hs → PromisesLaw left right gs hs
+unfolding tryQuotient
+promises-law left right gs hs h k = record {
+  same-order = same-order left right gs hs h k;
+  same-remainder = same-remainder left right gs hs h k;
+  same-quotient = ap₂ (λ (o : Order) (ps : List Pauli). ifBelow o ps) (same-order right left hs gs k h) (same-remainder left right gs hs h k);
+}

@@ -7,7 +7,7 @@ use Rattle.pauli_theory.proofs.Membership.{membership-law}
 use Rattle.pauli_theory.proofs.Canonical.{canonical-law}
 use Rattle.pauli_theory.proofs.Rank.{rank-law}
 use Rattle.pauli_theory.proofs.Order.{order-law, against-joined-law}
-use Rattle.pauli_theory.proofs.Promise.{promise-law}
+use Rattle.pauli_theory.proofs.Promise.{promise-law, promises-law}
 use Rattle.pauli_theory.proofs.Stabilizer.{abelian-law}
 use Rattle.pauli_theory.proofs.Size.{size-law}
 use Rattle.pauli_theory.proofs.Modulo.{modulo-law}
@@ -27,6 +27,7 @@ group-laws = record {
   size-law = size-law;
   abelian-law = abelian-law;
   promise-law = promise-law;
+  promises-law = promises-law;
   modulo-law = modulo-law;
   quotient-law = quotient-law;
   symplectic-law = symplectic-law;

@@ -13,6 +13,7 @@ use Rattle.pauli_theory.specs.Group.{Generated, Inside, SameGroup, Abeli
 use Rattle.pauli_theory.specs.Standard.{supportOf, formOf, rank, standard, nonabelian, phaseStep, log2Size, stabilizer}
 use Rattle.pauli_theory.specs.Membership.{Factorization, factorizationOf}
 use Rattle.pauli_theory.specs.Order.{equal, less, greater, noOrder, partialCmp}
+use Rattle.pauli_theory.specs.Listing.{elementsOf}
 use Rattle.pauli_theory.specs.Modulo.{supportsOther, modulo, tryQuotient}
 use Rattle.pauli_theory.specs.Symplectic.{symplecticForm}
 
@@ -94,6 +95,13 @@ pub record PromiseLaw (promise : Promise) (gs : List Pauli) : Type 0 where
   pub same-stabilizer : stabilizer promise gs ≡ stabilizer Promise.none gs
   pub same-size : log2Size promise gs ≡ log2Size Promise.none gs
   pub same-factorization : (p : Pauli) → factorizationOf promise gs p ≡ factorizationOf Promise.none gs p
+  pub same-elements : elementsOf promise gs ≡ elementsOf Promise.none gs
+
+-- nor do two, of the calls on two lists
+pub record PromisesLaw (left right : Promise) (gs hs : List Pauli) : Type 0 where
+  pub same-order : partialCmp left right gs hs ≡ partialCmp Promise.none Promise.none gs hs
+  pub same-remainder : modulo right gs hs ≡ modulo Promise.none gs hs
+  pub same-quotient : tryQuotient left right gs hs ≡ tryQuotient Promise.none Promise.none gs hs
 
 -- 10. Modulo: p is g times an element of the group of hs
 pub record Coset (hs : List Pauli) (g p : Pauli) : Type 0 where
@@ -152,6 +160,7 @@ pub record GroupLaws : Type 0 where
   pub size-law : (promise : Promise) (gs : List Pauli) → Honest promise gs → SizeLaw promise gs
   pub abelian-law : (promise : Promise) (gs : List Pauli) → Honest promise gs → AbelianLaw promise gs
   pub promise-law : (promise : Promise) (gs : List Pauli) → Honest promise gs → PromiseLaw promise gs
+  pub promises-law : (left right : Promise) (gs hs : List Pauli) → Honest left gs → Honest right hs → PromisesLaw left right gs hs
   pub modulo-law : (promise : Promise) (gs hs : List Pauli) → Honest promise hs → ModuloLaw promise gs hs
   pub quotient-law : (promise divisorPromise : Promise) (gs hs : List Pauli) → Honest promise gs → Honest divisorPromise hs
       → QuotientLaw promise divisorPromise gs hs
