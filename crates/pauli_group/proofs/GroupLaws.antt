@@ -63,7 +63,7 @@ module _ (ps : List Sparse) (old known : List ℕ) (places : ℕ) (g : Gathered 
     unfolding overPlaces overSupport paulis
     listed = list ∙ ap (λ (qs : List ℕ). map (λ (p : Sparse). normal (condensed qs (pauliOf p))) ps) known-is ∙ placed-roll ps
 
-    size-same : places ≡ length (supportOf (paulis ps))
+    pub size-same : places ≡ length (supportOf (paulis ps))
     unfolding paulis
     size-same = places-are ∙ ap length (support-of ps)
 

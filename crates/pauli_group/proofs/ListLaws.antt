@@ -175,6 +175,14 @@ list-store l base i p h =
     ∙ ap₂ (λ (ps : List Pauli) (q : Pauli). ps ++ (q ∷ []))
     (list-kept (store-outside l (base + 5 * i) p) base i (omega arith)) (store-pauli l (base + 5 * i) p h)
 
+-- a Pauli stored behind the changed words
+pub store-further : (first w : List ℕ) (base i : ℕ) (p : Held) → Outside base (5 * i) first w
+    → (u : List ℕ) → u ≡ sets w (base + 5 * i) (pauliWords p) → Outside base (5 * (i + 1)) first u
+store-further first w base i p o u g =
+    subst (Outside base (5 * (i + 1)) first) (sym g)
+    (outside-join (outside-wider base (5 * (i + 1)) o (omega arith) (omega arith))
+    (outside-wider base (5 * (i + 1)) (store-outside w (base + 5 * i) p) (omega arith) (omega arith)))
+
 -- ---- a list stored, Pauli by Pauli
 
 -- of n elements xs, to be stored as Paulis from word base of the slice first on, the first i are stored in the slice w

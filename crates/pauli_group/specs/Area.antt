@@ -27,7 +27,7 @@ unfoldable pub areaAfter : {A : Type 0} → Told A → List ℕ → List ℕ
 areaAfter (answer a) work = cleared work
 areaAfter (refused n p) work = work
 
--- ---- the layout: the echelon form at the front, then a row to solve for, the generators and the standard generators
+-- ---- the layout: the echelon form at the front, then a row to solve for, the generators, the standard generators and a further list
 
 abbrev pub targetAt : ℕ
 targetAt = 1040
@@ -37,6 +37,10 @@ listAt = 1056
 
 abbrev pub standardAt : ℕ
 standardAt = 1712
+
+-- a further list
+abbrev pub spareAt : ℕ
+spareAt = 2368
 
 -- R's part of a row: two times 128 columns
 abbrev pub rowWords : ℕ

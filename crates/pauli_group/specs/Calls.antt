@@ -18,6 +18,7 @@ use Rattle.pauli_theory.specs.Group.{Promise}
 use Rattle.pauli_theory.specs.Standard.{ifZero, standard, rank, nonabelian, phaseStep, log2Size, stabilizer}
 use Rattle.pauli_theory.specs.Membership.{Factorization, factorizationOf}
 use Rattle.pauli_theory.specs.Order.{Order, partialCmp}
+use Rattle.pauli_theory.specs.Symplectic.{symplecticForm}
 use Rattle.pauli_group.specs.Area.{enough}
 
 -- "A list is the Paulis of a roll in its order"
@@ -118,3 +119,11 @@ twoLists l r words =
 
 unfoldable pub orderCall : Promise → Promise → List ℕ → List ℕ → ℕ → Told Order
 orderCall left right l r words = mapTold (λ b. partialCmp left right (b .left) (b .right)) (twoLists l r words)
+
+-- ---- symplectic pairing
+
+unfoldable pub symplecticBytes : List Pauli → List ℕ
+symplecticBytes gs = write (map sparseOf (symplecticForm gs))
+
+unfoldable pub symplecticCall : List ℕ → ℕ → Told (List ℕ)
+symplecticCall b words = mapTold symplecticBytes (oneList b words)

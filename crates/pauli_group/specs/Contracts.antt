@@ -17,11 +17,16 @@ use Rattle.pauli_group.specs.declared.answers.MemberFound.{MemberFound}
 use Rattle.pauli_group.specs.declared.answers.OrderFound.{OrderFound}
 use Rattle.pauli_group.specs.Answers.{toldRank, toldPhases, toldDecided, toldSize, toldFactored, toldOrder}
 use Rattle.pauli_group.specs.Area.{areaAfter}
-use Rattle.pauli_group.specs.Calls.{oneList, standardGenerators, rankCall, phasesCall, abelianCall, stabilizerCall, sizeCall, question, factorizationCall, toldMember, memberLeft, twoLists, orderCall}
+use Rattle.pauli_group.specs.Calls.{oneList, standardGenerators, rankCall, phasesCall, abelianCall, stabilizerCall, sizeCall, question, factorizationCall, toldMember, memberLeft, twoLists, orderCall, symplecticCall}
 
 pub record StandardCall (b work out : List ℕ) (r : Wrote) (work′ out′ : List ℕ) : Type 0 where
   pub told : toldWrote r ≡ toldBytes (standardGenerators b (length work)) out
   pub left : out′ ≡ leftIn (standardGenerators b (length work)) out
+  pub area : work′ ≡ areaAfter (oneList b (length work)) work
+
+pub record SymplecticCall (b work out : List ℕ) (r : Wrote) (work′ out′ : List ℕ) : Type 0 where
+  pub told : toldWrote r ≡ toldBytes (symplecticCall b (length work)) out
+  pub left : out′ ≡ leftIn (symplecticCall b (length work)) out
   pub area : work′ ≡ areaAfter (oneList b (length work)) work
 
 pub record RankCall (b work : List ℕ) (r : RankFound) (work′ : List ℕ) : Type 0 where

@@ -6,4 +6,5 @@ pub mod Contracts
 pub mod Groups
 pub mod Members
 pub mod Compare
+pub mod Pairs
 pub mod DemandThree

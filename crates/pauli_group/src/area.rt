@@ -1,4 +1,5 @@
-// The work area. The echelon form stands at its front; then come a row to solve for, the generators and the standard generators.
+// The work area. The echelon form stands at its front; then come a row to solve for, the generators, the standard
+// generators and a further list.
 
 // A work area has at least so many words, and only these are used.
 pub const WORK_WORDS: usize = 4096;
@@ -8,5 +9,7 @@ pub const TARGET: usize = 1040;
 pub const LIST: usize = 1056;
 // Where the standard generators stand, five words each.
 pub const STANDARD: usize = 1712;
+// Where a further list stands, five words each.
+pub const SPARE: usize = 2368;
 // R's words of a row of the form.
 pub const ROW_WORDS: usize = 4;

@@ -24,3 +24,5 @@ pub mod calls;
 pub mod factorization;
 // The call for comparison.
 pub mod order;
+// The call for symplectic pairing.
+pub mod symplectic;

@@ -1,4 +1,4 @@
-// Calls in, one line out for each: operations 0 to 7 and 10 to 14.
+// Calls in, one line out for each: operations 0 to 7 and 9 to 14.
 //
 // A request is 28 bytes, little-endian, and two byte strings. Byte 0 is the operation, bytes 1 and 2 the promises, byte 3 the
 // byte that fills the output and the work area before the call; from byte 4 on six numbers of four bytes: a, b, the bytes of
@@ -37,6 +37,7 @@ use pauli_group::calls::rank;
 use pauli_group::calls::standard_generators;
 use pauli_group::factorization::indexed_factorization_of;
 use pauli_group::order::partial_cmp;
+use pauli_group::symplectic::symplectic_form_of;
 
 const MOST_BYTES: usize = 262144;
 
@@ -435,6 +436,12 @@ fn run_group(
     }
     if op == 7 {
         run_member(first, second, a, p, work, out, f);
+        return true;
+    }
+    if op == 9 {
+        let w = symplectic_form_of(first, work, out);
+        let n = print_wrote(w);
+        end_work_line(out, n, work, f);
         return true;
     }
     if op == 14 {
