@@ -20,3 +20,5 @@ pub mod DemandJoined
 pub mod DemandStandard
 pub mod DemandThree
 pub mod PairLaws
+pub mod ListingLaws
+pub mod PageLaws

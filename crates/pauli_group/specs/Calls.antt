@@ -18,6 +18,7 @@ use Rattle.pauli_theory.specs.Group.{Promise}
 use Rattle.pauli_theory.specs.Standard.{ifZero, standard, rank, nonabelian, phaseStep, log2Size, stabilizer}
 use Rattle.pauli_theory.specs.Membership.{Factorization, factorizationOf}
 use Rattle.pauli_theory.specs.Order.{Order, partialCmp}
+use Rattle.pauli_theory.specs.Listing.{elementsOf, page}
 use Rattle.pauli_theory.specs.Symplectic.{symplecticForm}
 use Rattle.pauli_group.specs.Area.{enough}
 
@@ -127,3 +128,17 @@ symplecticBytes gs = write (map sparseOf (symplecticForm gs))
 
 unfoldable pub symplecticCall : List ℕ → ℕ → Told (List ℕ)
 symplecticCall b words = mapTold symplecticBytes (oneList b words)
+
+-- ---- listing
+
+-- "listing with rank above 16"
+abbrev pub mostListed : ℕ
+mostListed = 16
+
+unfoldable pub pageBytes : Promise → ℕ → ℕ → List Pauli → List ℕ
+pageBytes promise start count gs = write (map sparseOf (page start count (elementsOf promise gs)))
+
+-- after the work area (9) the rank (10)
+unfoldable pub elementsCall : Promise → ℕ → ℕ → List ℕ → ℕ → Told (List ℕ)
+elementsCall promise start count b words =
+    andThen (oneList b words) λ gs. refuseIf (ltb mostListed (rank gs)) 10 0 (answer (pageBytes promise start count gs))

@@ -17,7 +17,7 @@ use Rattle.pauli_group.specs.declared.answers.MemberFound.{MemberFound}
 use Rattle.pauli_group.specs.declared.answers.OrderFound.{OrderFound}
 use Rattle.pauli_group.specs.Answers.{toldRank, toldPhases, toldDecided, toldSize, toldFactored, toldOrder}
 use Rattle.pauli_group.specs.Area.{areaAfter}
-use Rattle.pauli_group.specs.Calls.{oneList, standardGenerators, rankCall, phasesCall, abelianCall, stabilizerCall, sizeCall, question, factorizationCall, toldMember, memberLeft, twoLists, orderCall, symplecticCall}
+use Rattle.pauli_group.specs.Calls.{oneList, standardGenerators, rankCall, phasesCall, abelianCall, stabilizerCall, sizeCall, question, factorizationCall, toldMember, memberLeft, twoLists, orderCall, symplecticCall, elementsCall}
 
 pub record StandardCall (b work out : List ℕ) (r : Wrote) (work′ out′ : List ℕ) : Type 0 where
   pub told : toldWrote r ≡ toldBytes (standardGenerators b (length work)) out
@@ -27,6 +27,11 @@ pub record StandardCall (b work out : List ℕ) (r : Wrote) (work′ out′ : Li
 pub record SymplecticCall (b work out : List ℕ) (r : Wrote) (work′ out′ : List ℕ) : Type 0 where
   pub told : toldWrote r ≡ toldBytes (symplecticCall b (length work)) out
   pub left : out′ ≡ leftIn (symplecticCall b (length work)) out
+  pub area : work′ ≡ areaAfter (oneList b (length work)) work
+
+pub record ElementsCall (promise : Promise) (start count : ℕ) (b work out : List ℕ) (r : Wrote) (work′ out′ : List ℕ) : Type 0 where
+  pub told : toldWrote r ≡ toldBytes (elementsCall promise start count b (length work)) out
+  pub left : out′ ≡ leftIn (elementsCall promise start count b (length work)) out
   pub area : work′ ≡ areaAfter (oneList b (length work)) work
 
 pub record RankCall (b work : List ℕ) (r : RankFound) (work′ : List ℕ) : Type 0 where

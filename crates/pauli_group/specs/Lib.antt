@@ -7,4 +7,5 @@ pub mod Groups
 pub mod Members
 pub mod Compare
 pub mod Pairs
+pub mod Listed
 pub mod DemandThree

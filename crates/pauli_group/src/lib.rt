@@ -26,3 +26,5 @@ pub mod factorization;
 pub mod order;
 // The call for symplectic pairing.
 pub mod symplectic;
+// The call for the listing.
+pub mod listing;

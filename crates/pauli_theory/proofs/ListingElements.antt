@@ -100,7 +100,7 @@ module _ (gs : List Pauli) where
       ∙ nontrivial-append (basis gs) rest (all-map (λ p h. bare-weight p (h 1)) (basis gs) (basis-bare gs))
       ∙ ap (basis gs ++_) (appended-trivial _ (basis gs)) ∙ append-nil (basis gs)
 
-  first-standard : take (rank gs) (standard gs) ≡ basis gs
+  pub first-standard : take (rank gs) (standard gs) ≡ basis gs
   first-standard = ap (take (rank gs)) standard-parts ∙ take-at (basis gs) rest (rank gs) (basis-count gs)
 
 -- ---- lists of one length in a row
@@ -157,7 +157,7 @@ module _ (m : ℕ) where
       ∙ ap₂ (λ (k : ℕ) (t : List Pauli). turned k (product t)) (multiple-at r lr) (sym (subset-at ps q lq))
 
 -- ---- sets of the first generators
-select-first : {A : Type 0} (s : ℕ) (xs ys : List A) → s < 2 ^ length xs → select s (xs ++ ys) ≡ select s xs
+pub select-first : {A : Type 0} (s : ℕ) (xs ys : List A) → s < 2 ^ length xs → select s (xs ++ ys) ≡ select s xs
 unfolding select
 select-first s [] ys h = let e : s ≡ 0 = omega arith in ap (λ (t : ℕ). select t ys) e ∙ select-none ys
 select-first s (x ∷ xs) ys h =

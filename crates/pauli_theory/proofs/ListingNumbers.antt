@@ -93,7 +93,7 @@ module _ (f n k i : ℕ) where
   unfolding ofSizesAt
   sizes-past = when-past i (binomial n k) (chosenAt n k i) (ofSizesAt f n (suc k) (i - binomial n k))
 
-ofSizesAt-lt : (f n k i : ℕ) → ofSizesAt f n k i < 2 ^ n
+pub ofSizesAt-lt : (f n k i : ℕ) → ofSizesAt f n k i < 2 ^ n
 unfolding ofSizesAt
 ofSizesAt-lt zero n k i = chosenAt-lt n k i
 ofSizesAt-lt (suc f) n k i = elim (decLt i (binomial n k)) [

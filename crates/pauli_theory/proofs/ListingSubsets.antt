@@ -26,7 +26,7 @@ unfolding binomial
 binomial-zero zero = refl
 binomial-zero (suc n) = refl
 
-binomial-past : (n k : ℕ) → n < k → binomial n k ≡ 0
+pub binomial-past : (n k : ℕ) → n < k → binomial n k ≡ 0
 unfolding binomial
 binomial-past n zero h = absurd (omega arith)
 binomial-past zero (suc k) h = refl

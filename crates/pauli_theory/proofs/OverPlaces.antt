@@ -67,12 +67,12 @@ pub use Rattle.pauli_theory.proofs.Membership.{outside-on, on-outside}
 unfoldable pub use Rattle.pauli_theory.specs.Listing.{countFrom, upTo}
 
 -- ---- the numbers below n
-count-length : (k n : ℕ) → length (countFrom k n) ≡ n
+pub count-length : (k n : ℕ) → length (countFrom k n) ≡ n
 unfolding countFrom
 count-length k zero = refl
 count-length k (suc n) = ap suc (count-length (suc k) n)
 
-count-at : (k n i : ℕ) → i < n → getD (countFrom k n) i 0 ≡ k + i
+pub count-at : (k n i : ℕ) → i < n → getD (countFrom k n) i 0 ≡ k + i
 unfolding countFrom
 count-at k zero i l = absurd (omega arith)
 count-at k (suc n) zero l = omega arith

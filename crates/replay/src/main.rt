@@ -1,4 +1,4 @@
-// Calls in, one line out for each: operations 0 to 7 and 9 to 14.
+// Calls in, one line out for each: operations 0 to 14.
 //
 // A request is 28 bytes, little-endian, and two byte strings. Byte 0 is the operation, bytes 1 and 2 the promises, byte 3 the
 // byte that fills the output and the work area before the call; from byte 4 on six numbers of four bytes: a, b, the bytes of
@@ -36,6 +36,7 @@ use pauli_group::calls::phases;
 use pauli_group::calls::rank;
 use pauli_group::calls::standard_generators;
 use pauli_group::factorization::indexed_factorization_of;
+use pauli_group::listing::elements;
 use pauli_group::order::partial_cmp;
 use pauli_group::symplectic::symplectic_form_of;
 
@@ -415,6 +416,7 @@ fn run_member(
 fn run_group(
     op: u8,
     a: usize,
+    b: usize,
     p: Promise,
     q: Promise,
     first: &[u8],
@@ -436,6 +438,12 @@ fn run_group(
     }
     if op == 7 {
         run_member(first, second, a, p, work, out, f);
+        return true;
+    }
+    if op == 8 {
+        let w = elements(first, p, a as u32, b as u32, work, out);
+        let n = print_wrote(w);
+        end_work_line(out, n, work, f);
         return true;
     }
     if op == 9 {
@@ -545,6 +553,7 @@ fn run<'a>(
     run_group(
         request[0],
         a,
+        b,
         promise_of(request[1]),
         promise_of(request[2]),
         first,
