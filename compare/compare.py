@@ -16,7 +16,7 @@ import tempfile
 
 PROMISE = {"n": 0, "t": 1, "f": 2}
 ORDER = {"equal": "equal", "less": "less", "greater": "greater", "none": "no order"}
-KINDS = ["standard", "rank", "phases", "abelian", "stabilizer", "log2size", "member", "product", "join", "compare"]
+KINDS = ["standard", "rank", "phases", "abelian", "stabilizer", "log2size", "member", "elements", "symplectic", "product", "join", "compare"]
 
 
 def raw(word):
@@ -53,6 +53,10 @@ def translate(line, answer):
         return (op, PROMISE[w[1]], 0, 0, 0, raw(w[2]), b"", b"", f"{name} {answer}; out - kept; work zeroed")
     if kind == "member":
         return (7, PROMISE[w[1]], 0, int(w[4]), 0, raw(w[2]), raw(w[3]), *member_line(answer))
+    if kind == "elements":
+        return (8, PROMISE[w[1]], 0, int(w[3]), int(w[4]), raw(w[2]), b"", *roll_line(answer, "zeroed"))
+    if kind == "symplectic":
+        return (9, 0, 0, 0, 0, raw(w[1]), b"", *roll_line(answer, "zeroed"))
     if kind == "product":
         return (10, 0, 0, int(w[2]), int(w[4]), raw(w[1]), raw(w[3]), *roll_line(answer, "none"))
     if kind == "join":
