@@ -416,7 +416,8 @@ fn run_member(
 fn run_group(
     op: u8,
     a: usize,
-    b: usize,
+    start: u32,
+    count: u32,
     p: Promise,
     q: Promise,
     first: &[u8],
@@ -441,7 +442,7 @@ fn run_group(
         return true;
     }
     if op == 8 {
-        let w = elements(first, p, a as u32, b as u32, work, out);
+        let w = elements(first, p, start, count, work, out);
         let n = print_wrote(w);
         end_work_line(out, n, work, f);
         return true;
@@ -553,7 +554,8 @@ fn run<'a>(
     run_group(
         request[0],
         a,
-        b,
+        u32_at(request, 4),
+        u32_at(request, 8),
         promise_of(request[1]),
         promise_of(request[2]),
         first,
