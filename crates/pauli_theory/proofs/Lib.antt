@@ -40,3 +40,4 @@ pub mod ListingPages
 pub mod ListingElements
 pub mod SymplecticPlaces
 pub mod ListingTheorems
+pub mod ModuloPlaces

@@ -112,7 +112,7 @@ module _ (hs : List Pauli) where
   abbrev pivots : List ℕ
   pivots = formOf hs .pivots
 
-  pivots-low : All (λ c. c < 2 * length qs) pivots
+  pub pivots-low : All (λ c. c < 2 * length qs) pivots
   unfolding formOf
   pivots-low = pivots-in (R-reduced (2 * length qs) (map (rowOf qs) hs))
 

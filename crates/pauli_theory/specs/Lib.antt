@@ -4,6 +4,7 @@ pub mod Listing
 pub mod Membership
 pub mod Order
 pub mod Modulo
+pub mod ModuloPlaces
 pub mod Symplectic
 pub mod Theorems
 pub mod ListingTheorems
