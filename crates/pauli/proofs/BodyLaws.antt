@@ -4,15 +4,15 @@ use mathlib.Core.List.{List, [], _∷_}
 use Prim.Native.Nat.{ℕ, zero, suc, _+_, _*_, _≤_, _<_}
 use native.Mathlib.Omega.{arith}
 use lib.ListN.{length, getD}
-use Rattle.pauli.specs.declared.roll.Entry.{Entry as CodeEntry}
-use Rattle.pauli.specs.Answers.{toldEntry}
-use Rattle.pauli.specs.Told.{answer}
-use Rattle.pauli.specs.Bytes.{u16At, numbersAt}
-use Rattle.pauli.specs.Roll.{Sparse, Entry, entryAt, entriesAt, read}
+use Rattle.rolls.specs.declared.roll.Entry.{Entry as CodeEntry}
+use Rattle.rolls.specs.Answers.{toldEntry}
+use Rattle.rolls.specs.Told.{answer}
+use Rattle.rolls.specs.Bytes.{u16At, numbersAt}
+use Rattle.rolls.specs.Roll.{Sparse, Entry, entryAt, entriesAt, read}
 use Rattle.pauli.specs.Condense.{listOf, nothing}
-use Rattle.pauli.proofs.Entries.{length-entries, getD-entries}
-use Rattle.pauli.proofs.Paulis.{counted, Placed, bodyAt}
-use Rattle.pauli.proofs.RollLaws.{Parts, answer-parts, parts-count, read-pauli}
+use Rattle.rolls.proofs.Entries.{length-entries, getD-entries}
+use Rattle.rolls.proofs.Paulis.{counted, Placed, bodyAt}
+use Rattle.rolls.proofs.RollLaws.{Parts, answer-parts, parts-count, read-pauli}
 
 -- the bodies of the entries of a table stand one behind the other
 placed-room : (before : ℕ) (es : List Entry) → Placed before es → (m : ℕ) → m < length es → (d : Entry)

@@ -11,17 +11,17 @@ use Rattle.binar.specs.Row.{bit}
 use Rattle.binar.proofs.Bits.{bit-of-zero, ext}
 use Rattle.binar.proofs.Scan.{one-shifted}
 use Rattle.pauli.specs.declared.signed.Places.{Places}
-use Rattle.pauli.specs.Bytes.{u32At, numbersAt}
-use Rattle.pauli.specs.RollTheorems.{All, Rising}
-use Rattle.pauli.specs.Known.{lower}
+use Rattle.rolls.specs.Bytes.{u32At, numbersAt}
+use Rattle.rolls.specs.RollTheorems.{All, Rising}
+use Rattle.rolls.specs.Known.{lower}
 use Rattle.pauli.specs.Sets.{setOf, condense}
 use Rattle.pauli.specs.Signed.{setIn}
 use Rattle.pauli.specs.Condense.{Covered}
 use Rattle.pauli.proofs.Halves.{Words}
 use Rattle.pauli.proofs.MoreBits.{bit-or, bit-unit, bit-unit-other}
 use Rattle.pauli.proofs.Places.{condense-or}
-use Rattle.pauli.proofs.SupportLaws.{rising-least, insert-known}
-use Rattle.pauli.proofs.Walk.{lower-stop, lower-go, lower-next, numbers-next, numbers-end}
+use Rattle.rolls.proofs.SupportLaws.{rising-least, insert-known}
+use Rattle.rolls.proofs.Walk.{lower-stop, lower-go, lower-next, numbers-next, numbers-end}
 
 -- ---- one place more
 

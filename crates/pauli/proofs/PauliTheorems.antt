@@ -1,9 +1,9 @@
 -- The laws of specs/PauliTheorems.antt that no other module puts together; `place-law` and `condense-law` are in Places, `row-law` in Rows.
 use mathlib.Core.List.{List, List·Memᴰ as Mem, Memᴰ·append-left, Memᴰ·append-right}
-use Rattle.pauli.specs.Roll.{Sparse, support}
+use Rattle.rolls.specs.Roll.{Sparse, support}
 use Rattle.pauli.specs.Sets.{pauliOf}
 use Rattle.pauli.specs.PauliTheorems.{ActionLaw, AlgebraLaw, SetLaw, PauliOn, SupportLaw}
-use Rattle.pauli.proofs.SupportLaws.{support-rises, sets-in-support, in-support}
+use Rattle.rolls.proofs.SupportLaws.{support-rises, sets-in-support, in-support}
 use Rattle.pauli.proofs.Action.{act-times, same-acts, acts-same}
 use Rattle.pauli.proofs.Algebra.{times-assoc, I-times, times-I, times-same, times-lt, turned-four, times-swap, times-self}
 use Rattle.pauli.proofs.Algebra.{anticommute-comm, anticommute-times-l, anticommute-times-r, orderFour-times}

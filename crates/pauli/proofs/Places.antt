@@ -12,12 +12,13 @@ use lib.ListN.{length, getD}
 use borrow.Author.Tests.{eq-eqb, ne-eqb}
 use Rattle.binar.specs.Row.{_⊕_, bit, dot, weight}
 use Rattle.binar.proofs.Bits.{bit-zero, bit-suc, bit-lt, bit-xor, xor-lt, bit-and, ones-zero}
-use Rattle.pauli.specs.RollTheorems.{Rising}
+use Rattle.rolls.specs.RollTheorems.{Rising}
 use Rattle.pauli.specs.Pauli.{consIf, select}
-use Rattle.pauli.specs.Sets.{setOf, placeOf, condense, expand}
+use Rattle.pauli.specs.Sets.{setOf, condense, expand}
+use Rattle.rolls.specs.Known.{placeOf}
 use Rattle.pauli.specs.PauliTheorems.{On, PlaceLaw, CondenseLaw}
-use Rattle.pauli.proofs.Lists.{in-getD}
-use Rattle.pauli.proofs.SupportLaws.{Inside, rising-least}
+use Rattle.rolls.proofs.Lists.{in-getD}
+use Rattle.rolls.proofs.SupportLaws.{Inside, rising-least}
 use Rattle.pauli.proofs.MoreBits.{bit-or, in-and, same-bit, ext-ones, ext-below}
 use Rattle.pauli.proofs.Sets.{set-has, set-only, consIf-rises, length-consIf, set-weight}
 

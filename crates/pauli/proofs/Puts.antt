@@ -10,10 +10,10 @@ use lib.Seq.{length-take-le, take-suc-set, drop-set-lt, take-append-add, drop-ap
 use lib.Pow.{shr-shr}
 use Rattle.binar.specs.Row.{bit}
 use Rattle.binar.proofs.Bits.{bit-lt}
-use Rattle.pauli.specs.Bytes.{le16, le32, le32s}
+use Rattle.rolls.specs.Bytes.{le16, le32, le32s}
 use Rattle.pauli.specs.Pauli.{consIf, select}
 use Rattle.pauli.specs.Writing.{putBytes, entryBytes}
-use Rattle.pauli.proofs.BytesLaws.{length-le32, length-le32s}
+use Rattle.rolls.proofs.BytesLaws.{length-le32, length-le32s}
 use Rattle.pauli.proofs.SignedLaws.{zero-bit}
 
 pub put-nothing : (out : List ℕ) (i : ℕ) → putBytes out i [] ≡ out

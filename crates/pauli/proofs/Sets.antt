@@ -12,10 +12,10 @@ use lib.ListN.{length}
 use lib.Pow.{pow-pos}
 use Rattle.binar.specs.Row.{bit, weight}
 use Rattle.binar.proofs.Bits.{bit-lt, bit-of-zero, ones-zero}
-use Rattle.pauli.specs.RollTheorems.{Rising}
+use Rattle.rolls.specs.RollTheorems.{Rising}
 use Rattle.pauli.specs.Pauli.{consIf}
 use Rattle.pauli.specs.Sets.{setOf, membersFrom, members}
-use Rattle.pauli.proofs.SupportLaws.{rising-from, rising-ext}
+use Rattle.rolls.proofs.SupportLaws.{rising-from, rising-ext}
 use Rattle.pauli.proofs.MoreBits.{bit-or, bit-unit, bit-unit-other}
 
 -- ---- the set of a list

@@ -10,13 +10,13 @@ use lib.ListN.{length, take, drop, length-append, length-map}
 use Rattle.binar.specs.Row.{weight}
 use Rattle.binar.proofs.Bits.{ones-zero}
 use Rattle.pauli.specs.declared.signed.Pauli.{Pauli as Held}
-use Rattle.pauli.specs.Bytes.{le16, le32, le32s}
-use Rattle.pauli.specs.Roll.{Sparse, numbers, entry, table, bodies, encode}
+use Rattle.rolls.specs.Bytes.{le16, le32, le32s}
+use Rattle.rolls.specs.Roll.{Sparse, numbers, entry, table, bodies, encode}
 use Rattle.pauli.specs.Pauli.{Pauli, normal, consIf, select}
 use Rattle.pauli.specs.Signed.{setIn, held, pauliIn, listIn}
-use Rattle.pauli.specs.Told.{Told, answer, refused, refuseIf}
+use Rattle.rolls.specs.Told.{Told, answer, refused, refuseIf}
 use Rattle.pauli.specs.Writing.{putBytes, entryBytes, numbersOf, tableOf, sparseOver, OnPlaces, rollOver, toldBytes, leftIn}
-use Rattle.pauli.proofs.BytesLaws.{length-le32s, le32s-append}
+use Rattle.rolls.proofs.BytesLaws.{length-le32s, le32s-append}
 use Rattle.pauli.proofs.Puts.{put-append, Left, left-step, left-room}
 
 -- ---- a Pauli that was loaded

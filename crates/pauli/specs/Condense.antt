@@ -3,10 +3,10 @@ use mathlib.Core.Path.{_≡_}
 use mathlib.Core.List.{List, [], _∷_, List·Memᴰ as Mem}
 use Prim.Native.Nat.{ℕ, _+_, _*_, _<_}
 use lib.ListN.{length, getD}
-use Rattle.pauli.specs.Told.{answer}
-use Rattle.pauli.specs.Bytes.{u16At}
-use Rattle.pauli.specs.Roll.{Sparse, entriesAt, paulisAt, read}
-use Rattle.pauli.specs.RollTheorems.{All, Rising}
+use Rattle.rolls.specs.Told.{answer}
+use Rattle.rolls.specs.Bytes.{u16At}
+use Rattle.rolls.specs.Roll.{Sparse, entriesAt, paulisAt, read}
+use Rattle.rolls.specs.RollTheorems.{All, Rising}
 use Rattle.pauli.specs.Pauli.{Pauli}
 use Rattle.pauli.specs.Sets.{condense}
 

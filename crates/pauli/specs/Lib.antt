@@ -1,15 +1,7 @@
-pub mod Told
-pub mod Answers
-pub mod Bytes
-pub mod Roll
-pub mod Known
-pub mod RollTheorems
 pub mod Pauli
 pub mod Sets
 pub mod Signed
 pub mod Writing
+pub mod Answers
 pub mod Condense
-pub mod Calls
-pub mod JoinTheorems
-pub mod Product
 pub mod PauliTheorems

@@ -5,10 +5,11 @@ use Prim.Native.Nat.{ℕ, _+_, _*_, _%_, _^_, _<_}
 use lib.Bits.{bitOr}
 use lib.ListN.{length, getD}
 use Rattle.binar.specs.Row.{_⊕_, bit, dot, weight}
-use Rattle.pauli.specs.Roll.{Sparse, support}
-use Rattle.pauli.specs.RollTheorems.{All, Rising}
+use Rattle.rolls.specs.Roll.{Sparse, support}
+use Rattle.rolls.specs.RollTheorems.{All, Rising}
 use Rattle.pauli.specs.Pauli.{Pauli, I, normal, Same, times, turned, anticommute, pauliWeight, orderFour, product, State, act}
-use Rattle.pauli.specs.Sets.{setOf, members, pauliOf, placeOf, condense, expand, rowOf, pauliOfRow}
+use Rattle.pauli.specs.Sets.{setOf, members, pauliOf, condense, expand, rowOf, pauliOfRow}
+use Rattle.rolls.specs.Known.{placeOf}
 
 -- 1. A product acts as its factors do, the right one first; and Paulis are equal exactly when they act alike
 pub record ActionLaw : Type 0 where

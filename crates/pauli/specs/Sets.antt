@@ -1,12 +1,10 @@
 -- Sets of qubits as numbers, as rising lists and as places in a support; Paulis from the lists of a roll, and as rows.
-use mathlib.Core.Bool.{cond}
 use mathlib.Core.List.{List, [], _∷_}
 use Prim.Native.Nat.{ℕ, zero, suc, _+_, _*_, _/_, _%_, _^_}
 use lib.Bits.{bitOr}
-use lib.Dec.{eqb}
 use lib.ListN.{length}
 use Rattle.binar.specs.Row.{bit}
-use Rattle.pauli.specs.Roll.{Sparse}
+use Rattle.rolls.specs.Roll.{Sparse}
 use Rattle.pauli.specs.Pauli.{Pauli, consIf, select}
 
 -- the set with these members
@@ -28,11 +26,9 @@ members v = membersFrom v 0 v
 unfoldable pub pauliOf : Sparse → Pauli
 pauliOf p = record { e = p .e; x = setOf (p .xs); z = setOf (p .zs) }
 
--- "A qubit's number and its place in the support are two counters, as in `condense` and `expand`": the place of qubit q, which is
--- the support's length if q is not in it; the qubit at place i is `getD support i 0`
-unfoldable pub placeOf : List ℕ → ℕ → ℕ
-placeOf [] q = 0
-placeOf (r ∷ rs) q = cond (eqb r q) 0 (suc (placeOf rs q))
+-- a Pauli as a roll holds it
+unfoldable pub sparseOf : Pauli → Sparse
+sparseOf p = record { e = p .e; xs = members (p .x); zs = members (p .z) }
 
 -- a set of qubits as a set of places
 unfoldable pub condense : List ℕ → ℕ → ℕ

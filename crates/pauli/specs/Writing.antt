@@ -5,10 +5,10 @@ use Prim.Native.Nat.{ℕ, _+_, _*_, _%_, _^_, _<_}
 use lib.Dec.{ltb}
 use lib.ListN.{length, take, drop}
 use Rattle.binar.specs.Row.{weight}
-use Rattle.pauli.specs.Told.{Told, answer, refused, refuseIf}
-use Rattle.pauli.specs.Bytes.{le16, le32}
-use Rattle.pauli.specs.Roll.{Sparse, encode}
-use Rattle.pauli.specs.RollTheorems.{All}
+use Rattle.rolls.specs.Told.{Told, answer, refused, refuseIf}
+use Rattle.rolls.specs.Bytes.{le16, le32}
+use Rattle.rolls.specs.Roll.{Sparse, encode}
+use Rattle.rolls.specs.RollTheorems.{All}
 use Rattle.pauli.specs.Pauli.{Pauli, select}
 
 -- the bytes bs in an output, from byte i on

@@ -3,17 +3,17 @@ ghost use mathlib.Core.Path.{_≡_};
 ghost use Prim.Native.Nat.{_+_, _*_, _^_, _≤_, _<_};
 ghost use lib.Bits.{bitOr};
 ghost use lib.ListN.{length, getD, take};
-ghost use Rattle.pauli.specs.Bytes.{numbersAt};
+ghost use Rattle.rolls.specs.Bytes.{numbersAt};
 ghost use Rattle.pauli.specs.Sets.{setOf, condense, pauliOf};
 ghost use Rattle.pauli.specs.Signed.{setIn, held};
 ghost use Rattle.pauli.specs.Condense.{Covered, Readable, listOf, condensed, nothing};
-use crate::bytes::u32_at;
-use crate::roll::entry_at;
 use crate::signed::Pauli;
 use crate::signed::Places;
-use crate::support::Place;
-use crate::support::Qubit;
-use crate::support::place_from;
+use rolls::bytes::u32_at;
+use rolls::roll::entry_at;
+use rolls::support::Place;
+use rolls::support::Qubit;
+use rolls::support::place_from;
 
 // The set with one place more.
 fn with_place(set: Places, p: Place) -> Places

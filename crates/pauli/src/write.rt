@@ -2,18 +2,18 @@
 ghost use mathlib.Core.Path.{_≡_};
 ghost use Prim.Native.Nat.{ℕ, _+_, _*_, _%_, _^_, _≤_, _<_};
 ghost use lib.ListN.{length, take};
-ghost use Rattle.pauli.specs.Bytes.{le16, le32, le32s};
+ghost use Rattle.rolls.specs.Bytes.{le16, le32, le32s};
 ghost use Rattle.pauli.specs.Pauli.{select};
-ghost use Rattle.pauli.specs.Roll.{numbers};
+ghost use Rattle.rolls.specs.Roll.{numbers};
 ghost use Rattle.pauli.specs.Answers.{toldWrote};
 ghost use Rattle.pauli.specs.Signed.{setIn, listIn};
-ghost use Rattle.pauli.specs.Told.{answer};
+ghost use Rattle.rolls.specs.Told.{answer};
 ghost use Rattle.pauli.specs.Writing.{putBytes, entryBytes, numbersOf, tableOf, sparseOver, OnPlaces, rollOver, toldBytes, leftIn};
 ghost use mathlib.Core.List.{map};
-use crate::refusal::Reason;
-use crate::refusal::Refusal;
 use crate::signed::Places;
 use crate::signed::load;
+use rolls::refusal::Reason;
+use rolls::refusal::Refusal;
 
 // What a call that writes a roll tells: how many bytes it wrote, or why it is refused.
 pub enum Wrote {

@@ -14,16 +14,16 @@ use Rattle.pauli.specs.declared.signed.Pauli.{Pauli as Held}
 use Rattle.pauli.specs.Condense.{condensed}
 use Rattle.pauli.specs.Pauli.{Pauli, I, normal, times, turned, select, product, indexedProduct}
 use Rattle.pauli.specs.PauliTheorems.{PauliOn}
-use Rattle.pauli.specs.RollTheorems.{All, Rising}
+use Rattle.rolls.specs.RollTheorems.{All, Rising}
 use Rattle.pauli.specs.Signed.{held, listIn, pauliWords}
-use Rattle.pauli.specs.Told.{Told, answer, refused, refuseIf, andThen}
+use Rattle.rolls.specs.Told.{Told, answer, refused, refuseIf, andThen}
 use Rattle.pauli.specs.Writing.{OnPlaces, rollOver}
 use Rattle.pauli.proofs.Algebra.{pauli-path}
-use Rattle.pauli.proofs.ProductLaws.{condensed-times}
+use Rattle.pauli.proofs.Condensed.{condensed-times}
 use Rattle.pauli.proofs.Products.{product-none, indexed-cons}
 use Rattle.pauli.proofs.Rows.{on-I}
 use Rattle.pauli.proofs.SignedLaws.{byte-value}
-use Rattle.pauli.proofs.Told.{test-pass, test-refuses}
+use Rattle.rolls.proofs.Told.{test-pass, test-refuses}
 use Rattle.pauli.proofs.Writers.{length-list}
 use Rattle.pauli_theory.specs.Group.{Promise}
 use Rattle.pauli_theory.specs.Listing.{countFrom, subsetAt, phaseCount, elementsOf, pageSize, page}
@@ -39,16 +39,16 @@ use Rattle.pauli_theory.proofs.Placed.{condensed-I, condensed-on}
 use Rattle.pauli_theory.proofs.Rows.{support-rises, on-subgroup}
 use Rattle.pauli_theory.proofs.StandardLaw.{standard-law}
 use Rattle.pauli_theory.proofs.Written.{written-over}
-use Rattle.pauli_group.specs.Area.{standardAt, spareAt}
+use Rattle.standard_form.specs.Area.{standardAt, spareAt}
 use Rattle.pauli_group.specs.Calls.{oneList, mostListed, pageBytes, elementsCall}
-use Rattle.pauli_group.specs.Groups.{overSupport, Grouped}
-use Rattle.pauli_group.specs.Lists.{clashOf, stepOf, stabilizerOf}
-use Rattle.pauli_group.specs.declared.standard.Signs.{Signs}
+use Rattle.standard_form.specs.Groups.{overSupport, Grouped}
+use Rattle.standard_form.specs.Lists.{clashOf, stepOf, stabilizerOf}
+use Rattle.standard_form.specs.declared.standard.Signs.{Signs}
 use Rattle.pauli_group.specs.Listed.{elementAt, elementsFrom}
 use Rattle.pauli_group.proofs.ListingLaws.{pow-small, one-shifted}
-use Rattle.pauli_group.proofs.CallLaws.{step-kinds}
-use Rattle.pauli_group.proofs.GroupLaws.{described}
-use Rattle.pauli_group.proofs.ListLaws.{StoredUpTo, list-append, list-kept, stored-none, stored-step, stored-all}
+use Rattle.standard_form.proofs.GroupedLaws.{step-kinds}
+use Rattle.standard_form.proofs.GroupLaws.{described}
+use Rattle.standard_form.proofs.ListLaws.{StoredUpTo, list-append, list-kept, stored-none, stored-step, stored-all}
 
 -- ---- phases
 

@@ -13,26 +13,26 @@ use Rattle.pauli.specs.declared.signed.Pauli.{Pauli as Held}
 use Rattle.pauli.specs.Pauli.{Pauli, I, normal, times, anticommute}
 use Rattle.pauli.specs.Signed.{held, pauliIn, pauliWords, listIn}
 use Rattle.pauli.specs.Condense.{listOf}
-use Rattle.pauli.specs.Known.{Gathered}
-use Rattle.pauli.specs.Roll.{support, countOf}
-use Rattle.pauli.specs.Told.{answer}
+use Rattle.rolls.specs.Known.{Gathered}
+use Rattle.rolls.specs.Roll.{support, countOf}
+use Rattle.rolls.specs.Told.{answer}
 use Rattle.pauli.specs.Writing.{OnPlaces, rollOver}
 use Rattle.pauli.proofs.Algebra.{pauli-path, normal-times, times-normal-l, times-normal-r}
 use Rattle.pauli.proofs.Writers.{listFrom, list-start, list-next, list-end, length-list}
 use Rattle.pauli_theory.specs.Symplectic.{position, swapRemove, timesIf, cleared, onPosition, pairedFrom, symplecticForm}
 use Rattle.pauli_theory.proofs.Form.{map-take}
 use Rattle.pauli_theory.proofs.Symplectic.{cleared-length, removed-length}
-use Rattle.pauli_group.specs.Area.{Outside, listAt, standardAt, spareAt}
+use Rattle.standard_form.specs.Area.{Outside, listAt, standardAt, spareAt}
 use Rattle.pauli_theory.proofs.OverPlaces.{placed}
 use Rattle.pauli_theory.proofs.SymplecticPlaces.{paired-alike, written-symplectic, symplectic-places-on}
 use Rattle.pauli_theory.proofs.Written.{support-of}
-use Rattle.pauli_group.specs.Calls.{paulis, symplecticBytes}
-use Rattle.pauli_group.specs.Groups.{overSupport}
-use Rattle.pauli_group.specs.Lists.{overPlaces}
+use Rattle.standard_form.specs.Groups.{paulis, overSupport}
+use Rattle.pauli_group.specs.Calls.{symplecticBytes}
+use Rattle.standard_form.specs.Lists.{overPlaces}
 use Rattle.pauli_group.specs.Pairs.{pairedIn, Plain, PairedTo}
 use Rattle.pauli_group.specs.declared.symplectic.Pairing.{Pairing}
-use Rattle.pauli_group.proofs.GroupLaws.{own-few, known-is, listed, size-same}
-use Rattle.pauli_group.proofs.ListLaws.{
+use Rattle.standard_form.proofs.GroupLaws.{own-few, known-is, listed, size-same}
+use Rattle.standard_form.proofs.ListLaws.{
   pauli-kept,
   list-kept,
   list-kept-after,

@@ -10,32 +10,34 @@ use lib.Dec.{ltb, leb}
 use lib.ListN.{length, getD, take, drop, length-map}
 use Rattle.binar.specs.Row.{weight}
 use Rattle.binar.proofs.Theorems.{solve-law}
-use Rattle.pauli.specs.declared.joined.CountsFound.{CountsFound}
-use Rattle.pauli.specs.declared.joined.CountsFound.the-variants.{Counts as CountsTold, Refused as CountsRefused}
-use Rattle.pauli.specs.declared.joined.JoinedCounts.{JoinedCounts}
-use Rattle.pauli.specs.declared.refusal.Reason.the-variants.{Output}
-use Rattle.pauli.specs.declared.refusal.Refusal.{Refusal}
-use Rattle.pauli.specs.Answers.{toldRefusal, toldCounts}
-use Rattle.pauli.specs.Calls.{Lists, readBoth, within, Counts}
+use Rattle.joining.specs.declared.joined.CountsFound.{CountsFound}
+use Rattle.joining.specs.declared.joined.CountsFound.the-variants.{Counts as CountsTold, Refused as CountsRefused}
+use Rattle.joining.specs.declared.joined.JoinedCounts.{JoinedCounts}
+use Rattle.rolls.specs.declared.refusal.Reason.the-variants.{Output}
+use Rattle.rolls.specs.declared.refusal.Refusal.{Refusal}
+use Rattle.rolls.specs.Answers.{toldRefusal}
+use Rattle.joining.specs.Answers.{toldCounts}
+use Rattle.joining.specs.Calls.{Lists, readBoth, within, Counts}
 use Rattle.pauli.specs.Condense.{listOf, nothing}
 use Rattle.pauli.specs.Pauli.{Pauli, indexedProduct}
-use Rattle.pauli.specs.Roll.{mostPaulis, read, countOf}
+use Rattle.rolls.specs.Roll.{mostPaulis, read, countOf}
 use Rattle.pauli.specs.Sets.{members, rowOf, pauliOf}
-use Rattle.pauli.specs.Told.{Told, answer, refused, refuseIf, andThen, mapTold}
+use Rattle.rolls.specs.Told.{Told, answer, refused, refuseIf, andThen, mapTold}
 use Rattle.pauli.specs.Writing.{putBytes}
-use Rattle.pauli.proofs.JoinLaws.{accepted, accepted-few}
-use Rattle.pauli.proofs.Told.{refused-none, test-pass, test-refuses, test-passed}
+use Rattle.joining.proofs.JoinLaws.{accepted, accepted-few}
+use Rattle.rolls.proofs.Told.{refused-none, test-pass, test-refuses, test-passed, map-refused}
 use Rattle.pauli_theory.specs.Group.{Promise}
 use Rattle.pauli_theory.specs.Membership.{Factorization, outside, exponentLeft, withPhase, factorizationOf}
 use Rattle.pauli_theory.specs.Standard.{supportOf, formOf, phaseStep}
 use Rattle.pauli_theory.proofs.IfZero.{ifZero-some}
 use Rattle.pauli_group.specs.declared.answers.MemberFound.the-variants.{Member, NotMember, Refused}
-use Rattle.pauli_group.specs.Area.{workWords, enough, cleared, areaAfter}
-use Rattle.pauli_group.specs.Calls.{paulis, question, questionCounts, factorizationCall}
-use Rattle.pauli_group.specs.Calls.{le16s, indexBytes, factored, toldMember, memberLeft}
+use Rattle.standard_form.specs.Area.{workWords, enough, cleared, areaAfter}
+use Rattle.standard_form.specs.Groups.{paulis}
+use Rattle.pauli_group.specs.Calls.{question, questionCounts, factorizationCall, indexBytes, factored, toldMember, memberLeft}
+use Rattle.standard_form.specs.Members.{le16s}
 use Rattle.pauli_group.specs.Contracts.{MemberCall}
-use Rattle.pauli_group.proofs.CallLaws.{map-refused, cleared-part, list-length}
-use Rattle.pauli_group.proofs.MemberLaws.{length-indexes}
+use Rattle.standard_form.proofs.GroupedLaws.{cleared-part, list-length}
+use Rattle.standard_form.proofs.MemberLaws.{length-indexes}
 
 -- ---- the checks
 

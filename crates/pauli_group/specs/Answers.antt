@@ -2,11 +2,8 @@
 use Prim.Native.Nat.{ℕ}
 use mathlib.Core.Option.{Option, some}
 use mathlib.Core.Option.{none as nothing}
-use Rattle.pauli.specs.Answers.{toldRefusal}
-use Rattle.pauli.specs.Told.{Told, answer}
-use Rattle.pauli_theory.specs.Group.{Promise as Promised, none, abelian, notAbelian}
-use Rattle.pauli_group.specs.declared.answers.Promise.{Promise}
-use Rattle.pauli_group.specs.declared.answers.Promise.the-variants.{None, Abelian, NotAbelian}
+use Rattle.rolls.specs.Answers.{toldRefusal}
+use Rattle.rolls.specs.Told.{Told, answer}
 use Rattle.pauli_group.specs.declared.answers.Phases.{Phases}
 use Rattle.pauli_group.specs.declared.answers.Phases.the-variants.{Zero, ZeroTwo, All}
 use Rattle.pauli_group.specs.declared.answers.RankFound.{RankFound}
@@ -20,17 +17,7 @@ use Rattle.pauli_group.specs.declared.answers.SizeFound.the-variants.{Lo
 use Rattle.pauli_group.specs.declared.answers.Factors.{Factors}
 use Rattle.pauli_group.specs.declared.answers.MemberFound.{MemberFound}
 use Rattle.pauli_group.specs.declared.answers.MemberFound.the-variants.{Member, NotMember, Refused as MemberRefused}
-use Rattle.pauli_group.specs.declared.answers.Order.{Order}
-use Rattle.pauli_group.specs.declared.answers.Order.the-variants.{Equal, Less, Greater, NoOrder}
-use Rattle.pauli_group.specs.declared.answers.OrderFound.{OrderFound}
-use Rattle.pauli_group.specs.declared.answers.OrderFound.the-variants.{Order as OrderTold, Refused as OrderRefused}
-use Rattle.pauli_theory.specs.Order.{Order as Compared, equal, less, greater, noOrder}
 use Rattle.pauli_group.specs.Calls.{Factored}
-
-abbrev pub promiseOf : Promise → Promised
-promiseOf None = none
-promiseOf Abelian = abelian
-promiseOf NotAbelian = notAbelian
 
 -- the phases are the multiples, below 4, of this number
 abbrev pub stepTold : Phases → ℕ
@@ -64,13 +51,3 @@ abbrev pub toldFactored : MemberFound → Told (Option Factored)
 toldFactored (Member f) = answer (some (factorsIn f))
 toldFactored NotMember = answer nothing
 toldFactored (MemberRefused r) = toldRefusal r
-
-abbrev pub orderOf : Order → Compared
-orderOf Equal = equal
-orderOf Less = less
-orderOf Greater = greater
-orderOf NoOrder = noOrder
-
-abbrev pub toldOrder : OrderFound → Told Compared
-toldOrder (OrderTold o) = answer (orderOf o)
-toldOrder (OrderRefused r) = toldRefusal r

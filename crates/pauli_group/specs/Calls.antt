@@ -1,30 +1,26 @@
 -- The group calls, as functions of the bytes lent: document 01, "Group", with the order of refusals of "Turned back".
 use mathlib.Core.Bool.{cond}
-use mathlib.Core.List.{List, [], _∷_, _++_, map}
+use mathlib.Core.List.{List, map}
 use mathlib.Core.Option.{Option, some, none}
-use Prim.Native.Nat.{ℕ, _+_, _*_}
+use Prim.Native.Nat.{ℕ}
 use lib.Dec.{ltb}
 use lib.ListN.{length, getD}
 use Rattle.binar.specs.Row.{weight}
-use Rattle.pauli.specs.Bytes.{le16}
-use Rattle.pauli.specs.Calls.{readBoth, fewQubits, within, Counts, sparseOf}
+use Rattle.joining.specs.Calls.{readBoth, within, Counts}
+use Rattle.pauli.specs.Sets.{sparseOf, members, pauliOf}
 use Rattle.pauli.specs.Condense.{nothing}
 use Rattle.pauli.specs.Pauli.{Pauli}
-use Rattle.pauli.specs.Roll.{mostPaulis, Sparse, read, write}
-use Rattle.pauli.specs.Sets.{members, pauliOf}
-use Rattle.pauli.specs.Told.{Told, answer, refused, refuseIf, andThen, mapTold}
+use Rattle.rolls.specs.Roll.{read, write}
+use Rattle.rolls.specs.Told.{Told, answer, refused, refuseIf, andThen, mapTold}
 use Rattle.pauli.specs.Writing.{putBytes}
 use Rattle.pauli_theory.specs.Group.{Promise}
 use Rattle.pauli_theory.specs.Standard.{ifZero, standard, rank, nonabelian, phaseStep, log2Size, stabilizer}
 use Rattle.pauli_theory.specs.Membership.{Factorization, factorizationOf}
-use Rattle.pauli_theory.specs.Order.{Order, partialCmp}
 use Rattle.pauli_theory.specs.Listing.{elementsOf, page}
 use Rattle.pauli_theory.specs.Symplectic.{symplecticForm}
-use Rattle.pauli_group.specs.Area.{enough}
-
--- "A list is the Paulis of a roll in its order"
-unfoldable pub paulis : List Sparse → List Pauli
-paulis ps = map pauliOf ps
+use Rattle.standard_form.specs.Area.{enough}
+use Rattle.standard_form.specs.Groups.{paulis}
+use Rattle.standard_form.specs.Members.{le16s}
 
 -- ---- calls on one list
 
@@ -77,11 +73,6 @@ questionCounts b e n words =
 unfoldable pub factorizationCall : Promise → List ℕ → List ℕ → ℕ → ℕ → Told (Option Factorization)
 factorizationCall promise b e n words = mapTold (λ q. factorizationOf promise (q .generators) (q .element)) (question b e n words)
 
--- numbers as two bytes each
-unfoldable pub le16s : List ℕ → List ℕ
-le16s [] = []
-le16s (n ∷ ns) = le16 n ++ le16s ns
-
 -- "The indexes go to the output, rising, 2 bytes each, little-endian"
 unfoldable pub indexBytes : Factorization → List ℕ
 indexBytes f = le16s (members (f .indexes))
@@ -104,22 +95,6 @@ unfoldable pub memberLeft : Told (Option Factorization) → List ℕ → List �
 memberLeft (answer (some f)) out = cond (ltb (length out) (length (indexBytes f))) out (putBytes out 0 (indexBytes f))
 memberLeft (answer none) out = out
 memberLeft (refused n p) out = out
-
--- ---- comparison
-
--- two lists that can be joined
-pub record Pair : Type 0 where
-  pub left : List Pauli
-  pub right : List Pauli
-
--- both rolls (1 to 7), the joined limits (2, 7), the work area (9)
-unfoldable pub twoLists : List ℕ → List ℕ → ℕ → Told Pair
-twoLists l r words =
-    andThen (readBoth l r) λ b. refuseIf (ltb mostPaulis (length (b .left) + length (b .right))) 2 0
-    (fewQubits b (enough words (answer (record { left = paulis (b .left); right = paulis (b .right) }))))
-
-unfoldable pub orderCall : Promise → Promise → List ℕ → List ℕ → ℕ → Told Order
-orderCall left right l r words = mapTold (λ b. partialCmp left right (b .left) (b .right)) (twoLists l r words)
 
 -- ---- symplectic pairing
 

@@ -4,8 +4,6 @@ use mathlib.Core.List.{List}
 use Prim.Native.Nat.{ℕ}
 use lib.ListN.{length}
 use Rattle.pauli.specs.Answers.{toldWrote}
-use Rattle.pauli.specs.Calls.{joinOf}
-use Rattle.pauli.specs.Told.{Told}
 use Rattle.pauli.specs.Writing.{toldBytes, leftIn}
 use Rattle.pauli.specs.declared.write.Wrote.{Wrote}
 use Rattle.pauli_theory.specs.Group.{Promise}
@@ -14,10 +12,9 @@ use Rattle.pauli_group.specs.declared.answers.PhasesFound.{PhasesFound}
 use Rattle.pauli_group.specs.declared.answers.Decided.{Decided}
 use Rattle.pauli_group.specs.declared.answers.SizeFound.{SizeFound}
 use Rattle.pauli_group.specs.declared.answers.MemberFound.{MemberFound}
-use Rattle.pauli_group.specs.declared.answers.OrderFound.{OrderFound}
-use Rattle.pauli_group.specs.Answers.{toldRank, toldPhases, toldDecided, toldSize, toldFactored, toldOrder}
-use Rattle.pauli_group.specs.Area.{areaAfter}
-use Rattle.pauli_group.specs.Calls.{oneList, standardGenerators, rankCall, phasesCall, abelianCall, stabilizerCall, sizeCall, question, factorizationCall, toldMember, memberLeft, twoLists, orderCall, symplecticCall, elementsCall}
+use Rattle.pauli_group.specs.Answers.{toldRank, toldPhases, toldDecided, toldSize, toldFactored}
+use Rattle.standard_form.specs.Area.{areaAfter}
+use Rattle.pauli_group.specs.Calls.{oneList, standardGenerators, rankCall, phasesCall, abelianCall, stabilizerCall, sizeCall, question, factorizationCall, toldMember, memberLeft, symplecticCall, elementsCall}
 
 pub record StandardCall (b work out : List ℕ) (r : Wrote) (work′ out′ : List ℕ) : Type 0 where
   pub told : toldWrote r ≡ toldBytes (standardGenerators b (length work)) out
@@ -59,12 +56,3 @@ pub record MemberCall (promise : Promise) (b e : List ℕ) (n : ℕ) (work out :
   pub told : toldFactored r ≡ toldMember (factorizationCall promise b e n (length work)) out
   pub left : out′ ≡ memberLeft (factorizationCall promise b e n (length work)) out
   pub area : work′ ≡ areaAfter (question b e n (length work)) work
-
-pub record OrderCall (left right : Promise) (l r work : List ℕ) (found : OrderFound) (work′ : List ℕ) : Type 0 where
-  pub told : toldOrder found ≡ orderCall left right l r (length work)
-  pub area : work′ ≡ areaAfter (twoLists l r (length work)) work
-
--- joining, which crate pauli has: the two clauses of its `ensures`
-pub record JoinCall (a b out : List ℕ) (r : Wrote) (out′ : List ℕ) : Type 0 where
-  pub told : toldWrote r ≡ toldBytes (joinOf a b) out
-  pub left : out′ ≡ leftIn (joinOf a b) out

@@ -1,11 +1,5 @@
-pub mod Area
-pub mod Lists
 pub mod Calls
 pub mod Answers
 pub mod Contracts
-pub mod Groups
-pub mod Members
-pub mod Compare
 pub mod Pairs
 pub mod Listed
-pub mod DemandThree

@@ -6,7 +6,7 @@ use Rattle.pauli.specs.Pauli.{Pauli, normal}
 use Rattle.pauli.specs.Signed.{listIn}
 use Rattle.pauli_theory.specs.Symplectic.{pairedFrom}
 use Rattle.pauli_group.specs.declared.symplectic.Pairing.{Pairing}
-use Rattle.pauli_group.specs.Area.{listAt, standardAt, spareAt}
+use Rattle.standard_form.specs.Area.{listAt, standardAt, spareAt}
 
 -- what the pairing comes to from here on: of the Paulis left in the list, with the conjugate and the commuting elements so far
 unfoldable pub pairedIn : List ℕ → Pairing → List Pauli

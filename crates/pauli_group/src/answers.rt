@@ -1,12 +1,5 @@
-// What the group calls are told and what they answer.
-use pauli::refusal::Refusal;
-
-// What the caller promises of a list.
-pub enum Promise {
-    None,
-    Abelian,
-    NotAbelian,
-}
+// What the calls on one list answer.
+use rolls::refusal::Refusal;
 
 // The phases of a group.
 pub enum Phases {
@@ -45,18 +38,5 @@ pub struct Factors {
 pub enum MemberFound {
     Member(Factors),
     NotMember,
-    Refused(Refusal),
-}
-
-// How two groups compare: the left one is the same, inside the right one or around it, or none of these.
-pub enum Order {
-    Equal,
-    Less,
-    Greater,
-    NoOrder,
-}
-
-pub enum OrderFound {
-    Order(Order),
     Refused(Refusal),
 }

@@ -7,7 +7,7 @@ use native.Mathlib.Nat.{add-zero, mod-mod}
 use native.Mathlib.Omega.{arith}
 use Rattle.binar.specs.Row.{_⊕_, dot}
 use Rattle.binar.proofs.Span.{ifBit-case}
-use Rattle.pauli.specs.RollTheorems.{All}
+use Rattle.rolls.specs.RollTheorems.{All}
 use Rattle.pauli.specs.Pauli.{Pauli, I, normal, Same, times, turned, product, indexedProduct, select}
 use Rattle.pauli.proofs.Products.{product-cons, product-none, indexed-cons}
 use Rattle.pauli_theory.specs.Standard.{exponentMod}

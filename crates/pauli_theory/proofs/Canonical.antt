@@ -11,7 +11,7 @@ use Rattle.binar.specs.Space.{RowSpace, SameSpace}
 use Rattle.binar.proofs.Lists.{all-map, all-zip, all-over}
 use Rattle.binar.proofs.Span.{same-space}
 use Rattle.binar.proofs.Theorems.{unique-law}
-use Rattle.pauli.specs.RollTheorems.{All}
+use Rattle.rolls.specs.RollTheorems.{All}
 use Rattle.pauli.specs.Pauli.{Pauli}
 use Rattle.pauli.specs.Sets.{rowOf}
 use Rattle.pauli.proofs.Algebra.{pauli-path}

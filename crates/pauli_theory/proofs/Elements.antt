@@ -11,7 +11,7 @@ use Rattle.binar.specs.Space.{Independent}
 use Rattle.binar.proofs.Bits.{xor-self, xor-cancel, xor-lt}
 use Rattle.binar.proofs.Lists.{all-of, all-by, map-same}
 use Rattle.binar.proofs.Span.{rowSum-xor, rowSum-mod}
-use Rattle.pauli.specs.RollTheorems.{All}
+use Rattle.rolls.specs.RollTheorems.{All}
 use Rattle.pauli.specs.Pauli.{Pauli, I, indexedProduct}
 use Rattle.pauli.specs.Sets.{rowOf}
 use Rattle.pauli.proofs.Algebra.{times-I}

@@ -14,7 +14,7 @@ use Rattle.binar.proofs.Bits.{bit-of-zero, xor-zero-l, xor-zero-r}
 use Rattle.binar.proofs.Lists.{all-of, all-by, all-over, all-under, map-same, same-map}
 use Rattle.binar.proofs.Span.{Subspace, sum-in, rowSum-rowSum, space-subspace, space-rows}
 use Rattle.binar.proofs.Theorems.{transform-law, reduced-law, space-law}
-use Rattle.pauli.specs.RollTheorems.{All}
+use Rattle.rolls.specs.RollTheorems.{All}
 use Rattle.pauli_theory.specs.Standard.{zeroRows, nonzeroRows}
 use Rattle.pauli_theory.proofs.IfZero.{ifZero-zero, ifZero-more}
 use Rattle.pauli_theory.proofs.Spaces.{columns-narrow, below-in, rowSum-append, rowSum-zeros, free-zero}

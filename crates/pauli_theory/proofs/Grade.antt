@@ -8,7 +8,7 @@ use native.Mathlib.Omega.{arith}
 use lib.ListN.{length}
 use Rattle.binar.specs.Row.{rowSum}
 use Rattle.binar.proofs.Lists.{all-of, all-map, all-zip, all-over, all-under}
-use Rattle.pauli.specs.RollTheorems.{All}
+use Rattle.rolls.specs.RollTheorems.{All}
 use Rattle.pauli.specs.Pauli.{Pauli, I, anticommute, orderFour, indexedProduct}
 use Rattle.pauli.specs.Sets.{rowOf}
 use Rattle.pauli.proofs.Algebra.{I-times, orderFour-lt}

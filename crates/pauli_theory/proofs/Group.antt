@@ -4,7 +4,7 @@ use mathlib.Core.List.{List, [], _∷_, _++_, map, map-append}
 use Prim.Native.Nat.{ℕ, _<_}
 use lib.ListN.{length, getD}
 use Rattle.binar.proofs.Lists.{all-join, all-left, all-right, all-get, all-by, all-over, all-map}
-use Rattle.pauli.specs.RollTheorems.{All}
+use Rattle.rolls.specs.RollTheorems.{All}
 use Rattle.pauli.specs.Pauli.{Pauli, I, times, product, indexedProduct}
 use Rattle.pauli.proofs.Algebra.{times-I}
 use Rattle.pauli.proofs.Products.{product-cons, product-none, product-append}

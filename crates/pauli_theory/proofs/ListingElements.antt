@@ -13,7 +13,7 @@ use lib.Seq.{getD-append-add, take-at}
 use Rattle.binar.specs.Row.{weight}
 use Rattle.binar.proofs.Bits.{ones-zero}
 use Rattle.binar.proofs.Lists.{all-map, all-by}
-use Rattle.pauli.specs.RollTheorems.{All}
+use Rattle.rolls.specs.RollTheorems.{All}
 use Rattle.pauli.specs.Pauli.{Pauli, I, turned, pauliWeight, product, consIf, select, indexedProduct}
 use Rattle.pauli.specs.PauliTheorems.{PauliOn}
 use Rattle.pauli_theory.specs.Group.{Generated, Promise, Honest}

@@ -16,7 +16,7 @@ use Rattle.binar.proofs.Span.{ifBit-case, ifBit-map}
 use Rattle.binar.proofs.Reduced.{pivots-in}
 use Rattle.binar.proofs.Solve.{sweep-clears}
 use Rattle.binar.proofs.Space.{R-reduced}
-use Rattle.pauli.specs.RollTheorems.{All}
+use Rattle.rolls.specs.RollTheorems.{All}
 use Rattle.pauli.specs.Pauli.{Pauli, I, times}
 use Rattle.pauli.specs.Sets.{rowOf}
 use Rattle.pauli.proofs.Rows.{column-x, column-z, row-times}

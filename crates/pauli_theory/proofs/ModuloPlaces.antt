@@ -17,16 +17,16 @@ use Rattle.binar.specs.Echelon.{rank as echelonRank}
 use Rattle.binar.proofs.Bits.{bit-of-zero, bit-past, bit-mod, xor-lt}
 use Rattle.binar.proofs.Lists.{all-of, all-map, all-over, all-left, all-right, map-same}
 use Rattle.binar.proofs.Span.{ifBit-case, ifBit-map}
-use Rattle.pauli.specs.Roll.{write}
-use Rattle.pauli.specs.RollTheorems.{All, Rising}
+use Rattle.rolls.specs.Roll.{write}
+use Rattle.rolls.specs.RollTheorems.{All, Rising}
 use Rattle.pauli.specs.Pauli.{Pauli, I, times}
-use Rattle.pauli.specs.Sets.{placeOf, condense, expand}
+use Rattle.rolls.specs.Known.{placeOf}
+use Rattle.pauli.specs.Sets.{condense, expand, sparseOf}
 use Rattle.pauli.specs.PauliTheorems.{On, PauliOn}
 use Rattle.pauli.specs.Condense.{condensed}
 use Rattle.pauli.specs.Writing.{rollOver, OnPlaces}
-use Rattle.pauli.specs.Calls.{sparseOf}
 use Rattle.pauli.proofs.Algebra.{pauli-path}
-use Rattle.pauli.proofs.Lists.{in-getD}
+use Rattle.rolls.proofs.Lists.{in-getD}
 use Rattle.pauli.proofs.Sets.{members-has, members-only}
 use Rattle.pauli.proofs.MoreBits.{bit-or, in-or, bit-unit, bit-unit-other, same-bit, ext-ones, ext-below}
 use Rattle.pauli.proofs.Places.{
@@ -41,7 +41,7 @@ use Rattle.pauli.proofs.Places.{
   expand-condense,
 }
 use Rattle.pauli.proofs.Rows.{on-times}
-use Rattle.pauli.proofs.ProductLaws.{condensed-times}
+use Rattle.pauli.proofs.Condensed.{condensed-times}
 use Rattle.pauli_theory.specs.Group.{Promise}
 use Rattle.pauli_theory.specs.Standard.{usedBy, supportOf, formOf, rank, appended, ifZero, exponentMod, standard, phaseStep}
 use Rattle.pauli_theory.specs.Modulo.{supportsOther, multiplied, multipliedByAll, modulo}

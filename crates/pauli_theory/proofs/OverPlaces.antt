@@ -13,15 +13,15 @@ use Rattle.binar.specs.Echelon.{echelon, rank as echelonRank}
 use Rattle.binar.specs.Solve.{transposeSolve}
 use Rattle.binar.proofs.Bits.{bit-past}
 use Rattle.binar.proofs.Lists.{all-of, all-map, all-over, all-left, map-drop, map-same}
-use Rattle.pauli.specs.RollTheorems.{All, Rising}
+use Rattle.rolls.specs.RollTheorems.{All, Rising}
 use Rattle.pauli.specs.Pauli.{Pauli, normal, indexedProduct}
 use Rattle.pauli.specs.Sets.{members, condense, rowOf}
 use Rattle.pauli.specs.PauliTheorems.{PauliOn}
 use Rattle.pauli.specs.Condense.{condensed}
 use Rattle.pauli.specs.Writing.{OnPlaces}
-use Rattle.pauli.proofs.Lists.{in-getD}
+use Rattle.rolls.proofs.Lists.{in-getD}
 use Rattle.pauli.proofs.MoreBits.{ext-below}
-use Rattle.pauli.proofs.SupportLaws.{rising-ext}
+use Rattle.rolls.proofs.SupportLaws.{rising-ext}
 use Rattle.pauli.proofs.Sets.{members-rise, members-has, members-only}
 use Rattle.pauli.proofs.Places.{condense-bit, condense-lt, condense-or}
 use Rattle.pauli_theory.specs.Group.{Promise, none, abelian, notAbelian}

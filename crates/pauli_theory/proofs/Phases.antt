@@ -12,7 +12,7 @@ use Rattle.binar.specs.Space.{Independent}
 use Rattle.binar.proofs.Bits.{no-bits, bit-of-zero, dot-zero-l}
 use Rattle.binar.proofs.Lists.{all-map, all-by}
 use Rattle.binar.proofs.Span.{rowSum-unit}
-use Rattle.pauli.specs.RollTheorems.{All}
+use Rattle.rolls.specs.RollTheorems.{All}
 use Rattle.pauli.specs.Pauli.{Pauli, I, turned, orderFour}
 use Rattle.pauli.specs.Sets.{rowOf}
 use Rattle.pauli.proofs.MoreBits.{bit-or}

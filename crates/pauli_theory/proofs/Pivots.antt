@@ -11,7 +11,7 @@ use Rattle.binar.specs.Space.{RowSpace, Independent}
 use Rattle.binar.proofs.Bits.{dot-zero-l}
 use Rattle.binar.proofs.Lists.{all-map, all-zip, all-join, all-left, all-right, all-get, all-by, all-under, map-same}
 use Rattle.binar.proofs.Span.{Subspace}
-use Rattle.pauli.specs.RollTheorems.{All}
+use Rattle.rolls.specs.RollTheorems.{All}
 use Rattle.pauli.specs.Pauli.{Pauli, I, anticommute, orderFour, indexedProduct}
 use Rattle.pauli.specs.Sets.{rowOf, pauliOfRow}
 use Rattle.pauli.proofs.Algebra.{anticommute-comm, orderFour-I, orderFour-times}

@@ -10,7 +10,7 @@ use Rattle.binar.specs.Row.{_⊕_, ifBit}
 use Rattle.binar.proofs.Bits.{bit-of-zero, xor-self}
 use Rattle.binar.proofs.Lists.{all-of, all-map, all-over}
 use Rattle.binar.proofs.Span.{ifBit-case}
-use Rattle.pauli.specs.RollTheorems.{All, Rising}
+use Rattle.rolls.specs.RollTheorems.{All, Rising}
 use Rattle.pauli.specs.Pauli.{Pauli, I, normal, times, anticommute, orderFour, select, indexedProduct}
 use Rattle.pauli.specs.Sets.{condense, expand}
 use Rattle.pauli.specs.PauliTheorems.{On, PauliOn}
@@ -21,7 +21,7 @@ use Rattle.pauli.proofs.Products.{product-none, indexed-cons}
 use Rattle.pauli.proofs.MoreBits.{in-or}
 use Rattle.pauli.proofs.Places.{condense-lt, condense-sum, condense-or, condense-dot, expand-condense}
 use Rattle.pauli.proofs.Rows.{on-I}
-use Rattle.pauli.proofs.ProductLaws.{condensed-times}
+use Rattle.pauli.proofs.Condensed.{condensed-times}
 use Rattle.pauli_theory.specs.Standard.{ifZero, someOrderFour, someAnticommute, phase, appended, exponentMod, bare, someImaginary, someMinus}
 use Rattle.pauli_theory.proofs.Tests.{
   orderFour-largest,

@@ -8,7 +8,7 @@ use Rattle.binar.specs.Row.{_⊕_, ifBit}
 use Rattle.binar.proofs.Bits.{xor-low, xor-half}
 use Rattle.binar.proofs.Lists.{all-map, all-get, all-by}
 use Rattle.binar.proofs.Span.{ifBit-case, Subspace}
-use Rattle.pauli.specs.RollTheorems.{All}
+use Rattle.rolls.specs.RollTheorems.{All}
 use Rattle.pauli.specs.Pauli.{Pauli, I, normal, times, turned, anticommute, orderFour, product, productFrom, consIf, select, indexedProduct}
 use Rattle.pauli.proofs.Algebra.{
   times-assoc,

@@ -9,7 +9,7 @@ use Rattle.binar.specs.Space.{RowSpace, Independent}
 use Rattle.binar.proofs.Dimension.{independent-le}
 use Rattle.binar.proofs.Lists.{all-map, all-over}
 use Rattle.binar.proofs.Theorems.{space-law}
-use Rattle.pauli.specs.RollTheorems.{All}
+use Rattle.rolls.specs.RollTheorems.{All}
 use Rattle.pauli.specs.Pauli.{Pauli, indexedProduct}
 use Rattle.pauli.specs.Sets.{rowOf}
 use Rattle.pauli.proofs.Rows.{row-lt, on-I}

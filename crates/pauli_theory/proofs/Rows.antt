@@ -11,7 +11,7 @@ use Rattle.binar.specs.Space.{RowSpace}
 use Rattle.binar.proofs.Bits.{xor-self, bit-lt, bit-of-zero}
 use Rattle.binar.proofs.Lists.{all-of, all-map, all-over, all-under}
 use Rattle.binar.proofs.Span.{space-subspace, space-rows}
-use Rattle.pauli.specs.RollTheorems.{All, Rising}
+use Rattle.rolls.specs.RollTheorems.{All, Rising}
 use Rattle.pauli.specs.Pauli.{Pauli, I, normal, indexedProduct}
 use Rattle.pauli.specs.Sets.{members, rowOf, pauliOfRow}
 use Rattle.pauli.specs.PauliTheorems.{On, PauliOn}

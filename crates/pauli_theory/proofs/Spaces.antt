@@ -16,7 +16,7 @@ use Rattle.binar.proofs.Dimension.{independent-le}
 use Rattle.binar.proofs.Lists.{all-map, map-same}
 use Rattle.binar.proofs.Span.{ifBit-case, Subspace, sum-in, rowSum-xor, rowSum-mod, rowSum-zero}
 use Rattle.binar.proofs.Theorems.{solve-law}
-use Rattle.pauli.specs.RollTheorems.{All}
+use Rattle.rolls.specs.RollTheorems.{All}
 
 pub columns-narrow : (c : ℕ) (A : List ℕ) → All (λ v. v < 2 ^ c) A → columns c A ≡ A
 unfolding columns

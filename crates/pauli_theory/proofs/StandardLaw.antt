@@ -8,7 +8,7 @@ use lib.ListN.{length, length-append, length-map}
 use Rattle.binar.specs.Echelon.{Row}
 use Rattle.binar.proofs.Lists.{all-of, all-map, all-join, all-over}
 use Rattle.binar.proofs.Transform.{rows-count}
-use Rattle.pauli.specs.RollTheorems.{All}
+use Rattle.rolls.specs.RollTheorems.{All}
 use Rattle.pauli.specs.Pauli.{Pauli}
 use Rattle.pauli.specs.Sets.{rowOf}
 use Rattle.pauli_theory.specs.Standard.{

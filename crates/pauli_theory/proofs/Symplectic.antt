@@ -10,7 +10,7 @@ use lib.Seq.{length-take-le, take-length, take-suc, take-take, take-set-le, getD
 use Rattle.binar.proofs.Bits.{dot-comm}
 use Rattle.binar.proofs.Lists.{all-of, all-map, all-zip, all-join, all-left, all-right, all-get, all-by, all-over, all-under}
 use Rattle.binar.proofs.Span.{ifBit-case}
-use Rattle.pauli.specs.RollTheorems.{All}
+use Rattle.rolls.specs.RollTheorems.{All}
 use Rattle.pauli.specs.Pauli.{Pauli, I, anticommute}
 use Rattle.pauli.proofs.Algebra.{anticommute-lt, anticommute-comm, anticommute-times-r}
 use Rattle.pauli_theory.specs.Symplectic.{position, swapRemove, timesIf, cleared, onPosition, pairedFrom, symplecticForm}

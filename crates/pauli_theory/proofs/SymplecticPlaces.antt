@@ -9,17 +9,17 @@ use native.Mathlib.Omega.{arith}
 use lib.ListN.{length, getD, set, take, drop}
 use Rattle.binar.specs.Row.{ifBit}
 use Rattle.binar.proofs.Lists.{all-of, all-over, map-same}
-use Rattle.pauli.specs.Roll.{Sparse, encode, write}
-use Rattle.pauli.specs.RollTheorems.{All, Rising}
+use Rattle.rolls.specs.Roll.{Sparse, encode, write}
+use Rattle.rolls.specs.RollTheorems.{All, Rising}
 use Rattle.pauli.specs.Pauli.{Pauli, I, normal, Same, times, anticommute, select}
 use Rattle.pauli.specs.PauliTheorems.{PauliOn}
 use Rattle.pauli.specs.Condense.{condensed}
 use Rattle.pauli.specs.Writing.{sparseOver, rollOver, OnPlaces}
-use Rattle.pauli.specs.Calls.{sparseOf}
+use Rattle.pauli.specs.Sets.{sparseOf}
 use Rattle.pauli.proofs.Algebra.{pauli-path, normal-same, times-same}
 use Rattle.pauli.proofs.Places.{condense-lt}
 use Rattle.pauli.proofs.Rows.{on-I, on-times}
-use Rattle.pauli.proofs.ProductLaws.{condensed-times}
+use Rattle.pauli.proofs.Condensed.{condensed-times}
 use Rattle.pauli_theory.specs.Standard.{supportOf}
 use Rattle.pauli_theory.specs.Symplectic.{position, swapRemove, timesIf, cleared, onPosition, pairedFrom, symplecticForm}
 use Rattle.pauli_theory.proofs.Rows.{support-rises, support-on}

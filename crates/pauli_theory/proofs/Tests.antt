@@ -5,7 +5,7 @@ use Prim.Native.Nat.{ℕ, zero, suc, _/_, _%_, _<_, max}
 use native.Mathlib.Omega.{arith}
 use Rattle.binar.proofs.Bits.{dot-comm}
 use Rattle.binar.proofs.Lists.{all-map, all-zip}
-use Rattle.pauli.specs.RollTheorems.{All}
+use Rattle.rolls.specs.RollTheorems.{All}
 use Rattle.pauli.specs.Pauli.{Pauli, anticommute, orderFour}
 use Rattle.pauli.proofs.Algebra.{anticommute-lt, anticommute-comm}
 use Rattle.pauli_theory.specs.Standard.{ifZero, someOrderFour, anticommutesWithSome, someAnticommute, bare, someImaginary, someMinus}

@@ -4,20 +4,19 @@ use mathlib.Core.Logic.{⊎-elim}
 use mathlib.Core.List.{List, map, map-map, List·Memᴰ as Mem, List·Memᴰ·append-cases as in-append, Memᴰ·map}
 use Prim.Native.Nat.{ℕ}
 use Rattle.binar.proofs.Lists.{all-map, all-over, map-same}
-use Rattle.pauli.specs.Roll.{Sparse, support, encode, write, byValue}
-use Rattle.pauli.specs.RollTheorems.{All, Rising}
+use Rattle.rolls.specs.Roll.{Sparse, support, encode, write, byValue}
+use Rattle.rolls.specs.RollTheorems.{All, Rising}
 use Rattle.pauli.specs.Pauli.{Pauli, normal, select}
-use Rattle.pauli.specs.Sets.{setOf, members, pauliOf, condense, expand}
+use Rattle.pauli.specs.Sets.{setOf, members, pauliOf, condense, expand, sparseOf}
 use Rattle.pauli.specs.PauliTheorems.{On, PauliOn}
 use Rattle.pauli.specs.Condense.{condensed}
 use Rattle.pauli.specs.Writing.{sparseOver, rollOver}
-use Rattle.pauli.specs.Calls.{sparseOf}
-use Rattle.pauli.proofs.Lists.{all-in, all-mem}
-use Rattle.pauli.proofs.SupportLaws.{rising-ext, in-support}
+use Rattle.rolls.proofs.Lists.{all-in, all-mem}
+use Rattle.rolls.proofs.SupportLaws.{rising-ext, in-support}
 use Rattle.pauli.proofs.Sets.{set-has, set-only, members-set, members-only}
 use Rattle.pauli.proofs.Places.{select-rises, expand-condense}
 use Rattle.pauli.proofs.PauliTheorems.{support-law}
-use Rattle.pauli.proofs.ProductLaws.{sparse-over}
+use Rattle.pauli.proofs.Condensed.{sparse-over}
 use Rattle.pauli_theory.specs.Standard.{usedBy, supportOf, standard}
 use Rattle.pauli_theory.proofs.Rows.{support-rises, support-on, used-least}
 use Rattle.pauli_theory.proofs.StandardLaw.{standard-law}

@@ -6,7 +6,8 @@ use lib.Dec.{ltb}
 use lib.ListN.{length, getD}
 use Rattle.binar.specs.Row.{bit, ifBit}
 use Rattle.pauli.specs.Pauli.{Pauli, times}
-use Rattle.pauli.specs.Sets.{placeOf, condense, expand}
+use Rattle.rolls.specs.Known.{placeOf}
+use Rattle.pauli.specs.Sets.{condense, expand}
 
 -- a set of places in the first list as the set of the same qubits' places in the second
 unfoldable pub movedSet : List ℕ → List ℕ → ℕ → ℕ

@@ -5,7 +5,7 @@ use mathlib.Core.Option.{some, none}
 use Prim.Native.Nat.{ℕ, _+_, _-_, _*_, _%_, _^_, _≤_, _<_, max}
 use lib.ListN.{length, getD}
 use Rattle.binar.specs.Space.{Dimension}
-use Rattle.pauli.specs.RollTheorems.{All}
+use Rattle.rolls.specs.RollTheorems.{All}
 use Rattle.pauli.specs.Pauli.{Pauli, I, Same, times, turned, anticommute, indexedProduct}
 use Rattle.pauli.specs.Sets.{rowOf}
 use Rattle.pauli.specs.PauliTheorems.{PauliOn}

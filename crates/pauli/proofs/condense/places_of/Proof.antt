@@ -1,7 +1,7 @@
 -- Invariant: the numbers from number k on are left to place.
 use Prim.Native.Nat.{ℕ, _+_, _-_, _*_, _/_, _%_, _^_, _≤_, _<_}
 use Rattle.pauli.proofs.CondenseLaws.{Placing, bytes-start, bytes-end, bytes-from, bytes-in, bytes-next}
-use Rattle.pauli.specs.Bytes.{numbersAt}
+use Rattle.rolls.specs.Bytes.{numbersAt}
 use Rattle.pauli.specs.Sets.{setOf, condense}
 use Rattle.pauli.specs.Signed.{setIn}
 use borrow.Author.Needs.{needs}

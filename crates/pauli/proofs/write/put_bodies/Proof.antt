@@ -1,11 +1,11 @@
 -- Invariant: the bodies of the Paulis from number i on are left to write.
 use Prim.Native.Nat.{ℕ, _+_, _-_, _*_, _/_, _%_, _^_, _≤_, _<_}
-use Rattle.pauli.proofs.BytesLaws.{length-le32s}
+use Rattle.rolls.proofs.BytesLaws.{length-le32s}
 use Rattle.pauli.proofs.Puts.{Left, left-start, left-done}
 use Rattle.pauli.proofs.Writers.{loaded, listFrom, list-start, bodyBytes, body-room, body-room-z, body-step, body-end}
-use Rattle.pauli.specs.Bytes.{le32s}
+use Rattle.rolls.specs.Bytes.{le32s}
 use Rattle.pauli.specs.Pauli.{select}
-use Rattle.pauli.specs.Roll.{numbers}
+use Rattle.rolls.specs.Roll.{numbers}
 use Rattle.pauli.specs.Signed.{listIn, pauliIn, setIn}
 use Rattle.pauli.specs.Writing.{putBytes}
 use lib.ListN.{length, take}

@@ -1,8 +1,8 @@
 -- Invariant: the numbers of the places from p on are left to write.
 use Prim.Native.Nat.{ℕ, _+_, _-_, _*_, _/_, _%_, _^_, _≤_, _<_}
-use Rattle.pauli.proofs.BytesLaws.{length-le32s}
+use Rattle.rolls.proofs.BytesLaws.{length-le32s}
 use Rattle.pauli.proofs.Puts.{chosenFrom, chosen-start, Left, left-start, set-done, set-miss, set-room, set-hit}
-use Rattle.pauli.specs.Bytes.{le32, le32s}
+use Rattle.rolls.specs.Bytes.{le32, le32s}
 use Rattle.pauli.specs.Pauli.{select}
 use Rattle.pauli.specs.Signed.{setIn}
 use Rattle.pauli.specs.Writing.{putBytes}

@@ -1,7 +1,7 @@
 -- Two stores.
 use Prim.Native.Nat.{ℕ, _+_, _-_, _*_, _/_, _%_, _^_, _≤_, _<_}
 use Rattle.pauli.proofs.Puts.{put-two}
-use Rattle.pauli.specs.Bytes.{le16}
+use Rattle.rolls.specs.Bytes.{le16}
 use borrow.Author.Needs.{needs}
 use lib.ListN.{length, length-set}
 use mathlib.Core.Path.{_≡_, refl, sym, ap, ap₂, _∙_}

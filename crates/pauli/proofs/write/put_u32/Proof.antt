@@ -1,7 +1,7 @@
 -- Four stores.
 use Prim.Native.Nat.{ℕ, _+_, _-_, _*_, _/_, _%_, _^_, _≤_, _<_}
 use Rattle.pauli.proofs.Puts.{put-four}
-use Rattle.pauli.specs.Bytes.{le32}
+use Rattle.rolls.specs.Bytes.{le32}
 use borrow.Author.Needs.{needs}
 use lib.ListN.{length, length-set}
 use mathlib.Core.Path.{_≡_, refl, sym, ap, ap₂, _∙_}

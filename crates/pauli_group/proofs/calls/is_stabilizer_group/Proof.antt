@@ -3,9 +3,11 @@ use mathlib.Core.Path.{sym, _∙_}
 use lib.Seq.{length-take-le}
 use Rattle.pauli.specs.Condense.{listOf}
 use Rattle.pauli_theory.specs.Standard.{stabilizer}
-use Rattle.pauli_group.specs.Answers.{promiseOf}
-use Rattle.pauli_group.specs.Calls.{paulis, stabilizerCall}
-use Rattle.pauli_group.proofs.CallLaws.{list-given, list-none, answers, area-cleared, refuses, area-kept, stabilizer-le}
+use Rattle.standard_form.specs.Promises.{promiseOf}
+use Rattle.standard_form.specs.Groups.{paulis}
+use Rattle.pauli_group.specs.Calls.{stabilizerCall}
+use Rattle.pauli_group.proofs.CallLaws.{list-given, list-none, answers, area-cleared, refuses, area-kept}
+use Rattle.standard_form.proofs.GroupedLaws.{stabilizer-le}
 use borrow.Author.Needs.{needs}
 use Rattle.pauli_group.proofs.calls.is_stabilizer_group.Statement.{statement}
 use Rattle.pauli_group.proofs.calls.is_stabilizer_group.Tie as tie

@@ -3,10 +3,11 @@ use mathlib.Core.List.{List}
 use mathlib.Core.Path.{ap, _∙_}
 use Prim.Native.Nat.{ℕ}
 use native.Mathlib.Omega.{arith}
-use Rattle.pauli.specs.Roll.{mostQubits}
-use Rattle.pauli.specs.Told.{answer}
+use Rattle.rolls.specs.Roll.{mostQubits}
+use Rattle.rolls.specs.Told.{answer}
 use Rattle.pauli.specs.Writing.{toldBytes, leftIn}
-use Rattle.pauli_group.proofs.CallLaws.{cleared-whole, group-total, group-places, group-on, group-written}
+use Rattle.standard_form.proofs.GroupedLaws.{cleared-whole, group-total, group-places, group-on}
+use Rattle.pauli_group.proofs.CallLaws.{group-written}
 use borrow.Author.Needs.{needs}
 use Rattle.pauli_group.proofs.calls.write_standard.Statement.{statement}
 use Rattle.pauli_group.proofs.calls.write_standard.Tie as tie
@@ -45,7 +46,7 @@ returns c =
     let out = c .before .before .before .before .before .before .before .before .before .before .before .before .before .before .before .before .before .before .before .args .out .now in
     let group = c .before .before .before .before .before .before .before .before .before .before .before .before .before .group-of in
     let wrote = c .before .before .before .before .before .before .write-roll .ensures in
-    let roll = group-written _ _ (pre .0) (group .ensures) in (
+    let roll = group-written _ (group .ensures) in (
       wrote .0 ∙ ap (λ (bs : List ℕ). toldBytes (answer bs) out) roll,
       (
         wrote .1 ∙ ap (λ (bs : List ℕ). leftIn (answer bs) out) roll,

@@ -1,5 +1,5 @@
 -- The generators' roll, the elements' roll, the number and the work area, in this order.
-use Rattle.pauli.specs.Answers.{toldCount}
+use Rattle.rolls.specs.Answers.{toldCount}
 use Rattle.pauli_group.proofs.QuestionLaws.{counts-left, counts-right, counts-past, counts-short, counts-pass}
 use mathlib.Core.Path.{sym, ap, _∙_}
 use borrow.Author.Needs.{needs}

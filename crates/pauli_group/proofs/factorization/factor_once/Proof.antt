@@ -1,8 +1,8 @@
 -- The group is built, the element is put to it, and the area is cleared.
-use Rattle.pauli.specs.Roll.{mostQubits}
-use Rattle.pauli_group.proofs.CallLaws.{cleared-whole, group-total, group-places, list-few, list-length}
-use Rattle.pauli_group.proofs.FactorLaws.{asked-of}
-use Rattle.pauli_group.specs.Answers.{promiseOf}
+use Rattle.rolls.specs.Roll.{mostQubits}
+use Rattle.standard_form.proofs.GroupedLaws.{cleared-whole, group-total, group-places, list-few, list-length}
+use Rattle.standard_form.proofs.FactorLaws.{asked-of}
+use Rattle.standard_form.specs.Promises.{promiseOf}
 use mathlib.Core.Path.{_∙_}
 use native.Mathlib.Omega.{arith}
 use borrow.Author.Needs.{needs}

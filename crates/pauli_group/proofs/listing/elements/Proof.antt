@@ -3,9 +3,9 @@ use mathlib.Core.List.{List}
 use mathlib.Core.Path.{sym, ap, _∙_}
 use Prim.Native.Nat.{ℕ}
 use lib.Seq.{length-take-le}
-use Rattle.pauli.specs.Told.{Told}
+use Rattle.rolls.specs.Told.{Told}
 use Rattle.pauli.specs.Writing.{toldBytes, leftIn}
-use Rattle.pauli_group.specs.Answers.{promiseOf}
+use Rattle.standard_form.specs.Promises.{promiseOf}
 use Rattle.pauli_group.proofs.CallLaws.{list-given, list-none, area-cleared, area-kept}
 use Rattle.pauli_group.proofs.PageLaws.{call-refused, call-answered}
 use borrow.Author.Needs.{needs}

@@ -4,12 +4,12 @@ use mathlib.Core.Path.{sym, ap, ap₂, _∙_}
 use Prim.Native.Nat.{ℕ, _-_, min}
 use native.Mathlib.Omega.{arith}
 use Rattle.pauli.specs.Condense.{listOf}
-use Rattle.pauli_group.specs.Answers.{promiseOf}
-use Rattle.pauli_group.specs.Calls.{paulis}
-use Rattle.pauli.specs.Roll.{mostQubits}
-use Rattle.pauli.specs.Told.{Told, answer}
+use Rattle.standard_form.specs.Promises.{promiseOf}
+use Rattle.standard_form.specs.Groups.{paulis}
+use Rattle.rolls.specs.Roll.{mostQubits}
+use Rattle.rolls.specs.Told.{Told, answer}
 use Rattle.pauli.specs.Writing.{toldBytes, leftIn}
-use Rattle.pauli_group.proofs.CallLaws.{cleared-whole, group-total, group-places}
+use Rattle.standard_form.proofs.GroupedLaws.{cleared-whole, group-total, group-places}
 use Rattle.pauli_group.proofs.PageLaws.{
   total-is,
   total-small,

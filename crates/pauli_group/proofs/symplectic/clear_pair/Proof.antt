@@ -8,8 +8,8 @@ use Rattle.pauli.specs.Signed.{held, listIn}
 use Rattle.pauli.proofs.Writers.{length-list}
 use Rattle.pauli_theory.specs.Symplectic.{cleared}
 use Rattle.pauli_theory.proofs.Symplectic.{cleared-length}
-use Rattle.pauli_group.specs.Area.{Outside}
-use Rattle.pauli_group.proofs.ListLaws.{StoredUpTo, stored-none, stored-step, stored-all, list-at, pauli-kept-after, outside-refl, store-further}
+use Rattle.standard_form.specs.Area.{Outside}
+use Rattle.standard_form.proofs.ListLaws.{StoredUpTo, stored-none, stored-step, stored-all, list-at, pauli-kept-after, outside-refl, store-further}
 use Rattle.pauli_group.proofs.PairLaws.{clear-after, clear-before}
 use Rattle.pauli_group.proofs.symplectic.clear_pair.Statement.{statement}
 use Rattle.pauli_group.proofs.symplectic.clear_pair.Tie as tie

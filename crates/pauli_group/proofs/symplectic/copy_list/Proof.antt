@@ -4,7 +4,7 @@ use Prim.Native.Nat.{_≤_, _-_}
 use native.Mathlib.Omega.{arith}
 use Rattle.pauli.specs.Pauli.{normal, I}
 use Rattle.pauli.specs.Signed.{listIn}
-use Rattle.pauli_group.proofs.ListLaws.{StoredUpTo, stored-none, stored-step, stored-all, list-at, pauli-kept-after}
+use Rattle.standard_form.proofs.ListLaws.{StoredUpTo, stored-none, stored-step, stored-all, list-at, pauli-kept-after}
 use Rattle.pauli.proofs.Writers.{length-list}
 use Rattle.pauli_group.proofs.symplectic.copy_list.Statement.{statement}
 use Rattle.pauli_group.proofs.symplectic.copy_list.Tie as tie

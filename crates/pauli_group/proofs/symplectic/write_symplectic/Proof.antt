@@ -3,12 +3,12 @@ use mathlib.Core.List.{List}
 use mathlib.Core.Path.{ap, _∙_}
 use Prim.Native.Nat.{ℕ}
 use native.Mathlib.Omega.{arith}
-use Rattle.pauli.proofs.JoinLaws.{accepted, accepted-length, accepted-few}
-use Rattle.pauli.specs.Roll.{mostPaulis, mostQubits}
-use Rattle.pauli.specs.Told.{answer}
+use Rattle.joining.proofs.JoinLaws.{accepted, accepted-length, accepted-few}
+use Rattle.rolls.specs.Roll.{mostPaulis, mostQubits}
+use Rattle.rolls.specs.Told.{answer}
 use Rattle.pauli.specs.Writing.{toldBytes, leftIn}
-use Rattle.pauli_group.proofs.CallLaws.{cleared-whole}
-use Rattle.pauli_group.proofs.GroupLaws.{own-gathered, own-few, places-few, part-readable}
+use Rattle.standard_form.proofs.GroupedLaws.{cleared-whole}
+use Rattle.standard_form.proofs.GroupLaws.{own-gathered, own-few, places-few, part-readable}
 use Rattle.pauli_group.proofs.PairLaws.{pairs-on, pairs-written}
 use borrow.Author.Needs.{needs}
 use Rattle.pauli_group.proofs.symplectic.write_symplectic.Statement.{statement}

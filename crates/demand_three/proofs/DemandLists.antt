@@ -1,0 +1,152 @@
+-- Indexes in an output, index sets and the generators that they name; and lists whose exponents are taken by value.
+use mathlib.Core.Path.{_≡_, refl, sym, ap, _∙_, subst}
+use mathlib.Core.Bool.{Bool, true, false}
+use mathlib.Core.List.{List, [], _∷_, _++_, map, map-append, map-map, List·Memᴰ as Mem}
+use Prim.Native.Nat.{ℕ, zero, suc, _+_, _*_, _/_, _%_, _^_, _≤_, _<_}
+use native.Mathlib.Omega.{arith}
+use native.Mathlib.Decide.{decLt}
+use lib.ListN.{length, getD, take, drop, length-map, List·getD-map}
+use lib.Seq.{take-at, ext-getD}
+use Rattle.binar.specs.Row.{bit}
+use Rattle.binar.proofs.Bits.{bit-past}
+use Rattle.binar.proofs.Lists.{all-map, all-over, all-under}
+use Rattle.rolls.specs.Bytes.{u16At, le16}
+use Rattle.pauli.specs.Pauli.{Pauli, I, normal, consIf, select}
+use Rattle.pauli.specs.PauliTheorems.{On}
+use Rattle.rolls.specs.Roll.{mostPaulis, mostQubits, Sparse, support, read, byValue, write}
+use Rattle.rolls.specs.RollTheorems.{All, Allowed}
+use Rattle.pauli.specs.Sets.{members, pauliOf}
+use Rattle.rolls.specs.Told.{Told, answer, refused, refuseIf, mapTold}
+use Rattle.pauli.specs.Writing.{putBytes, toldBytes, leftIn}
+use Rattle.rolls.proofs.BytesLaws.{length-le16, u16-read}
+use Rattle.rolls.proofs.Checks.{AllowedSets}
+use Rattle.rolls.proofs.Items.{itemsAt, itemsBytes, length-itemsAt, length-itemsBytes, items-read}
+use Rattle.rolls.proofs.Lists.{all-in, in-getD}
+use Rattle.rolls.proofs.RollLaws.{read-law}
+use Rattle.pauli.proofs.Sets.{members-only}
+use Rattle.rolls.proofs.SupportLaws.{support-byValue}
+use Rattle.rolls.proofs.Told.{refused-none, test-passed}
+use Rattle.pauli_theory.specs.Group.{Generated, Inside, SameGroup}
+use Rattle.pauli_theory.proofs.Agree.{four, agree-normal, agree-flip}
+use Rattle.pauli_theory.proofs.Group.{generated-subgroup, generators, inside-by}
+use Rattle.pauli_theory.proofs.OverPlaces.{upTo, upTo-length, upTo-rises, upTo-at, condense-upTo}
+use Rattle.pauli.proofs.Condensed.{select-members}
+use Rattle.standard_form.specs.Groups.{paulis}
+use Rattle.standard_form.specs.Members.{le16s}
+use Rattle.demand_three.specs.DemandThree.{indexesAt}
+
+-- ---- indexes of two bytes each
+
+indexes-items : (b : List ℕ) (i n : ℕ) → indexesAt b i n ≡ itemsAt 2 (u16At b) i n
+unfolding indexesAt itemsAt
+indexes-items b i zero = refl
+indexes-items b i (suc n) = ap (u16At b i ∷_) (indexes-items b (i + 2) n)
+
+le16s-items : (ns : List ℕ) → le16s ns ≡ itemsBytes le16 ns
+unfolding le16s itemsBytes
+le16s-items [] = refl
+le16s-items (n ∷ ns) = ap (le16 n ++_) (le16s-items ns)
+
+pub length-indexes : (b : List ℕ) (i n : ℕ) → length (indexesAt b i n) ≡ n
+length-indexes b i n = rw (indexes-items, length-itemsAt)
+
+pub length-le16s : (ns : List ℕ) → length (le16s ns) ≡ 2 * length ns
+length-le16s ns = rw (le16s-items, length-itemsBytes 2 le16 length-le16)
+
+-- the numbers at the front of an output, read back
+pub indexes-read : (out ns : List ℕ) → All (λ n. n < 2 ^ 16) ns → indexesAt (putBytes out 0 (le16s ns)) 0 (length ns) ≡ ns
+unfolding putBytes
+indexes-read out ns low =
+    let b = putBytes out 0 (le16s ns) in
+    let rest = drop (0 + length (le16s ns)) out in
+    indexes-items b 0 (length ns)
+    ∙ items-read 2 le16 length-le16 b (u16At b) (λ n. n < 2 ^ 16) (u16-read b) ns 0 rest low (ap (_++ rest) (le16s-items ns))
+
+-- bytes at the front of an output
+pub put-front : (out bs : List ℕ) → take (length bs) (putBytes out 0 bs) ≡ bs
+unfolding putBytes
+put-front out bs = take-at bs (drop (0 + length bs) out) (length bs) refl
+
+-- ---- index sets
+
+module _ (n v : ℕ) (h : v < 2 ^ n) where
+  bit-below : (i : ℕ) → bit v i ≡ 1 → i < n
+  bit-below i e = elim (decLt i n) [ yes l ↦ l | no l ↦ absurd (omega (arith, bit-past n v i h (omega arith))) ]
+
+  pub members-below : All (λ i. i < n) (members v)
+  members-below = all-in (λ i. i < n) (members v) (λ i m. bit-below i (members-only v i m))
+
+  on-upTo : On (upTo n) v
+  on-upTo i e =
+      let l = bit-below i e in
+      subst (λ (j : ℕ). Mem j (upTo n)) (upTo-at n i l) (in-getD (upTo n) i 0 (omega (arith, upTo-length n)))
+
+  members-upTo : members v ≡ select v (upTo n)
+  members-upTo = sym (select-members (upTo n) (upTo-rises n) v on-upTo) ∙ ap (λ (u : ℕ). select u (upTo n)) (condense-upTo n v h)
+
+module _ {A B : Type 0} (f : A → B) where
+  map-consIf : (d : ℕ) (x : A) (xs : List A) → map f (consIf d x xs) ≡ consIf d (f x) (map f xs)
+  unfolding consIf
+  map-consIf zero x xs = refl
+  map-consIf (suc d) x xs = refl
+
+  map-select : (s : ℕ) (xs : List A) → map f (select s xs) ≡ select s (map f xs)
+  unfolding select
+  map-select s [] = refl
+  map-select s (x ∷ xs) = map-consIf (s % 2) x (select (s / 2) xs) ∙ ap (consIf (s % 2) (f x)) (map-select (s / 2) xs)
+
+-- below the length the default does not matter
+getD-any : {A : Type 0} (l : List A) (i : ℕ) (d e : A) → i < length l → getD l i d ≡ getD l i e
+getD-any [] i d e h = absurd (omega arith)
+getD-any (a ∷ l) zero d e h = refl
+getD-any (a ∷ l) (suc i) d e h = getD-any l i d e (omega arith)
+
+module _ (gs : List Pauli) where
+  by-place : map (λ i. getD gs i I) (upTo (length gs)) ≡ gs
+  by-place =
+      let n = length gs in
+      let f : ℕ → Pauli = λ i. getD gs i I in
+      let size : length (map f (upTo n)) ≡ n = length-map (upTo n) f ∙ upTo-length n in
+      ext-getD (getD gs 0 I) (map f (upTo n)) gs size λ i l.
+      List·getD-map f (upTo n) i 0 ∙ ap f (upTo-at n i (omega (arith, size))) ∙ getD-any gs i I (getD gs 0 I) (omega (arith, size))
+
+  -- the generators that an index set names
+  pub named-select : (s : ℕ) → s < 2 ^ length gs → map (λ i. getD gs i I) (members s) ≡ select s gs
+  named-select s h =
+      let n = length gs in
+      let f : ℕ → Pauli = λ i. getD gs i I in
+      ap (map f) (members-upTo n s h) ∙ map-select f s (upTo n) ∙ ap (select s) by-place
+
+-- ---- exponents by value
+
+paulis-byValue : (ps : List Sparse) → paulis (map byValue ps) ≡ map normal (paulis ps)
+unfolding paulis pauliOf byValue normal
+paulis-byValue ps = map-map pauliOf byValue ps ∙ sym (map-map normal pauliOf ps)
+
+normal-inside : (gs : List Pauli) → Inside (map normal gs) gs
+normal-inside gs =
+    inside-by (map normal gs) gs
+    (all-over (Generated gs) normal gs
+    (all-map (λ p a. generated-subgroup gs .agrees p (normal p) (agree-flip (agree-normal p four)) a) gs (generators gs)))
+
+inside-normal : (gs : List Pauli) → Inside gs (map normal gs)
+inside-normal gs =
+    let hs = map normal gs in
+    inside-by gs hs
+    (all-map (λ p a. generated-subgroup hs .agrees (normal p) p (agree-normal p four) a) gs
+    (all-under (Generated hs) normal gs (generators hs)))
+
+pub byValue-group : (ps : List Sparse) → SameGroup (paulis ps) (paulis (map byValue ps))
+byValue-group ps = rw paulis-byValue (record { there = inside-normal (paulis ps); back = normal-inside (paulis ps) })
+
+-- ---- what is told
+
+-- where a call tells a size, its output begins with its result
+pub told-bytes : (t : Told (List ℕ)) (out : List ℕ) (n : ℕ) → toldBytes t out ≡ answer n
+    → (bs : List ℕ) × (t ≡ answer bs) × (take n (leftIn t out) ≡ bs)
+unfolding toldBytes leftIn
+told-bytes (refused m p) out n e = absurd (refused-none m p n e)
+told-bytes (answer bs) out n e =
+    let (room, size) = test-passed _ 12 0 _ n e in
+    let same : n ≡ length bs = cc in
+    (bs, refl, rw (room, same) (put-front out bs))

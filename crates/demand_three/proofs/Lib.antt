@@ -1,0 +1,5 @@
+pub mod DemandLists
+pub mod DemandMember
+pub mod DemandJoined
+pub mod DemandStandard
+pub mod DemandThree

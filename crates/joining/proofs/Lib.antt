@@ -1,0 +1,3 @@
+pub mod JoinLaws
+pub mod ProductLaws
+pub mod JoinedLists

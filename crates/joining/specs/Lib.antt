@@ -1,0 +1,5 @@
+pub mod Calls
+pub mod Answers
+pub mod Contracts
+pub mod JoinTheorems
+pub mod Product

@@ -1,0 +1,12 @@
+pub mod Lists
+pub mod Items
+pub mod BytesLaws
+pub mod SupportLaws
+pub mod Walk
+pub mod Told
+pub mod Entries
+pub mod Paulis
+pub mod Checks
+pub mod Limits
+pub mod RollLaws
+pub mod ReaderLaws

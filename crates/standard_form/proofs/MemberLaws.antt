@@ -1,0 +1,140 @@
+-- Laws of numbers that are all in a support, and of index sets written.
+use mathlib.Core.Path.{_≡_, refl, sym, ap, ap₂, _∙_, subst}
+use mathlib.Core.Bool.{true, false, cond}
+use mathlib.Core.List.{List, [], _∷_, _++_, List·Memᴰ as Mem}
+use Prim.Native.Nat.{ℕ, zero, suc, _+_, _-_, _*_, _^_, _≤_, _<_}
+use native.Mathlib.Omega.{arith}
+use native.Mathlib.Decide.{decLt}
+use borrow.Author.Tests.{lt-ltb, le-ltb}
+use lib.Dec.{ltb}
+use lib.ListN.{length, getD, length-append}
+use Rattle.binar.specs.Row.{bit, weight}
+use Rattle.binar.proofs.Bits.{bit-past}
+use Rattle.rolls.specs.declared.roll.Entry.{Entry}
+use Rattle.rolls.specs.Answers.{toldEntry}
+use Rattle.rolls.specs.Bytes.{u32At, numbersAt, le16}
+use Rattle.pauli.specs.Condense.{listOf, nothing}
+use Rattle.rolls.specs.Roll.{entryAt, countOf}
+use Rattle.rolls.specs.Known.{placeOf}
+use Rattle.pauli.specs.Sets.{members}
+use Rattle.pauli.specs.Pauli.{select}
+use Rattle.pauli.specs.PauliTheorems.{On}
+use Rattle.rolls.specs.Told.{answer}
+use Rattle.pauli.specs.Writing.{putBytes}
+use Rattle.pauli.proofs.BodyLaws.{xs-is, zs-is}
+use Rattle.rolls.proofs.BytesLaws.{length-le16}
+use Rattle.joining.proofs.JoinLaws.{accepted}
+use Rattle.rolls.proofs.Lists.{in-getD}
+use Rattle.pauli.proofs.Puts.{chosenFrom, chosen-start, chosen-end, chosen-hit, chosen-miss, Left, left-start, left-done, left-same, left-room, left-step}
+use Rattle.pauli.proofs.Sets.{members-count}
+use Rattle.rolls.proofs.Walk.{numbers-next, numbers-end}
+use Rattle.pauli_theory.proofs.OverPlaces.{upTo, upTo-length, upTo-rises, upTo-at, condense-upTo}
+use Rattle.pauli.proofs.Condensed.{select-members}
+use Rattle.standard_form.specs.Members.{le16s, covered}
+
+-- ---- numbers in a support, one after the other
+
+-- the answer for all numbers is that for those from number k on
+pub record CoveredFrom (qs b : List ℕ) (at total k : ℕ) : Type 0 where
+  pub within : k ≤ total
+  pub same : covered qs (numbersAt b at total) ≡ covered qs (numbersAt b (at + 4 * k) (total - k))
+
+module _ (qs b : List ℕ) (at total : ℕ) where
+  pub covered-start : CoveredFrom qs b at total 0
+  covered-start =
+      let here : at + 4 * 0 ≡ at = omega arith in
+      let all : total - 0 ≡ total = omega arith in
+      record { within = omega arith; same = rw (here, all) }
+
+  module _ (k : ℕ) (f : CoveredFrom qs b at total k) where
+    pub covered-end : total ≤ k → true ≡ covered qs (numbersAt b at total)
+    unfolding covered
+    covered-end h = sym (f .same ∙ ap (covered qs) (numbers-end b at total k h))
+
+    module _ (h : k < total) (q : ℕ) (e : q ≡ u32At b (at + 4 * k)) where
+      next : covered qs (numbersAt b at total)
+          ≡ cond (ltb (placeOf qs q) (length qs)) (covered qs (numbersAt b (at + 4 * (k + 1)) (total - (k + 1)))) false
+      unfolding covered
+      next = f .same ∙ ap (covered qs) (numbers-next b at total k h) ∙ rw e
+
+      pub covered-none : length qs ≤ placeOf qs q → false ≡ covered qs (numbersAt b at total)
+      covered-none l = sym (next ∙ rw (le-ltb (placeOf qs q) (length qs) l))
+
+      pub covered-next : placeOf qs q < length qs → CoveredFrom qs b at total (k + 1)
+      covered-next l = record { within = omega arith; same = next ∙ rw (lt-ltb (placeOf qs q) (length qs) l) }
+
+-- ---- the numbers of a Pauli of a roll
+
+numbers-join : (b : List ℕ) (at m n : ℕ) → numbersAt b at (m + n) ≡ numbersAt b at m ++ numbersAt b (at + 4 * m) n
+unfolding numbersAt
+numbers-join b at zero n =
+    let a : zero + n ≡ n = omega arith in
+    let i : at + 4 * zero ≡ at = omega arith in
+    rw (a, i)
+numbers-join b at (suc m) n =
+    let a : suc m + n ≡ suc (m + n) = omega arith in
+    let i : at + 4 * suc m ≡ at + 4 + 4 * m = omega arith in
+    rw (a, i) (ap (u32At b at ∷_) (numbers-join b (at + 4) m n))
+
+pub body-numbers : (b : List ℕ) (n : ℕ) → countOf b ≡ answer n → (i : ℕ) → i < n
+    → (e : Entry) → toldEntry e ≡ entryAt b (2 + 10 * i)
+    → numbersAt b (2 + 10 * n + 4 * e .start) (e .xcount + e .zcount)
+    ≡ getD (listOf b) i nothing .xs ++ getD (listOf b) i nothing .zs
+body-numbers b n c i h e f =
+    let (r, size) = accepted b n c in
+    numbers-join b (2 + 10 * n + 4 * e .start) (e .xcount) (e .zcount)
+    ∙ sym (ap₂ _++_ (xs-is b (listOf b) r n size i h e f nothing) (zs-is b (listOf b) r n size i h e f nothing))
+
+-- ---- index sets, written
+
+length-le16s : (ns : List ℕ) → length (le16s ns) ≡ 2 * length ns
+unfolding le16s
+length-le16s [] = refl
+length-le16s (n ∷ ns) = length-append (le16 n) (le16s ns) ∙ omega (arith, length-le16 n, length-le16s ns)
+
+pub length-indexes : (s : ℕ) → length (le16s (members s)) ≡ 2 * weight s
+length-indexes s = length-le16s (members s) ∙ ap (2 *_) (members-count s)
+
+module _ (s n : ℕ) (h : s < 2 ^ n) where
+  below : On (upTo n) s
+  below q o =
+      elim (decLt q n) [
+        | yes l ↦ subst (λ r. Mem r (upTo n)) (upTo-at n q l) (in-getD (upTo n) q 0 (omega (arith, upTo-length n)))
+        | no l ↦ absurd (omega (arith, bit-past n s q h (omega arith)))
+      ]
+
+  all-indexes : members s ≡ chosenFrom s (upTo n) 0
+  all-indexes =
+      sym
+      (chosen-start s (upTo n) ∙ ap (λ (v : ℕ). select v (upTo n)) (sym (condense-upTo n s h))
+      ∙ select-members (upTo n) (upTo-rises n) s below)
+
+  pub indexes-start : (out : List ℕ) → 2 * weight s ≤ length out
+      → Left out 0 (le16s (members s)) out 0 (le16s (chosenFrom s (upTo n) 0))
+  indexes-start out room = left-start out 0 _ _ (ap le16s all-indexes) (omega (arith, length-indexes s))
+
+  -- the indexes are being written, and those from i on are left
+  module _ {first out : List ℕ} {next : ℕ} (i : ℕ)
+      (r : Left first 0 (le16s (members s)) out next (le16s (chosenFrom s (upTo n) i))) where
+    pub indexes-done : n ≤ i → out ≡ putBytes first 0 (le16s (members s))
+    unfolding le16s
+    indexes-done l = left-done r (ap le16s (chosen-end s (upTo n) i (rw upTo-length l))) .0
+
+    module _ (l : i < n) where
+      within : i < length (upTo n)
+      within = rw upTo-length l
+
+      pub indexes-miss : (bit s i ≡ 1 → ⊥) → Left first 0 (le16s (members s)) out next (le16s (chosenFrom s (upTo n) (i + 1)))
+      indexes-miss o = left-same r _ (ap le16s (chosen-miss s (upTo n) i within o))
+
+      module _ (o : bit s i ≡ 1) where
+        index : le16s (chosenFrom s (upTo n) i) ≡ le16 i ++ le16s (chosenFrom s (upTo n) (i + 1))
+        unfolding le16s
+        index = ap le16s (chosen-hit s (upTo n) i within o ∙ ap (_∷ chosenFrom s (upTo n) (i + 1)) (upTo-at n i l))
+
+        pub indexes-room : next + 2 ≤ length out
+        indexes-room = left-room r (le16 i) _ 2 index (length-le16 i)
+
+        pub indexes-hit : (u : List ℕ) → u ≡ putBytes out next (le16 i) → length u ≡ length out
+            → Left first 0 (le16s (members s)) u (next + 2) (le16s (chosenFrom s (upTo n) (i + 1)))
+        indexes-hit = left-step r (le16 i) _ 2 index (length-le16 i)

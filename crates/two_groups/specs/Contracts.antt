@@ -1,0 +1,14 @@
+-- What each call promises: its answer and the work area at exit, by what it was lent.
+use mathlib.Core.Path.{_≡_}
+use mathlib.Core.List.{List}
+use Prim.Native.Nat.{ℕ}
+use lib.ListN.{length}
+use Rattle.pauli_theory.specs.Group.{Promise}
+use Rattle.standard_form.specs.Area.{areaAfter}
+use Rattle.two_groups.specs.declared.answers.OrderFound.{OrderFound}
+use Rattle.two_groups.specs.Answers.{toldOrder}
+use Rattle.two_groups.specs.Calls.{twoLists, orderCall}
+
+pub record OrderCall (left right : Promise) (l r work : List ℕ) (found : OrderFound) (work′ : List ℕ) : Type 0 where
+  pub told : toldOrder found ≡ orderCall left right l r (length work)
+  pub area : work′ ≡ areaAfter (twoLists l r (length work)) work

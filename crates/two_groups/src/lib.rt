@@ -1,0 +1,6 @@
+// The calls on two lists of signed Paulis, after the module pauli_group of the crate paulimer of microsoft/qdk-ec.
+
+// What the calls answer.
+pub mod answers;
+// The call for comparison.
+pub mod order;
