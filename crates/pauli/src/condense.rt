@@ -16,7 +16,7 @@ use rolls::support::Qubit;
 use rolls::support::place_from;
 
 // The set with one place more.
-fn with_place(set: Places, p: Place) -> Places
+pub fn with_place(set: Places, p: Place) -> Places
     requires { ⌜ p .0 < 128 ⌝ }
     ensures { λ r. ⌜ setIn r ≡ bitOr (setIn set) (2 ^ (p .0)) ⌝ }
 {

@@ -10,7 +10,7 @@ use Rattle.binar.specs.Words.{matrix}
 use Rattle.binar.proofs.Bounds.{rank-rows}
 use Rattle.pauli.specs.Pauli.{Pauli, indexedProduct}
 use Rattle.pauli.specs.Signed.{listIn, pauliIn}
-use Rattle.standard_form.specs.Area.{listAt, standardAt, rowWords, strideOf, Outside}
+use Rattle.standard_form.specs.Area.{listAt, standardAt, spareAt, rowWords, strideOf, Outside}
 use Rattle.standard_form.specs.Groups.{productsNamed, Built}
 use Rattle.standard_form.specs.Lists.{rowOver, formOver, productsBy, fromProducts}
 use Rattle.standard_form.proofs.AreaLaws.{form-alike, form-room}
@@ -58,4 +58,7 @@ module _ (l f p x : List ℕ) (n s r total : ℕ) (few : n ≤ 128) (size : leng
     list = list-kept later listAt n (omega arith) ∙ list-first;
     count = count ∙ ap (λ (ps : List Pauli). length (fromProducts r ps)) named;
     standards = list ∙ ap (fromProducts r) named;
+    rest =
+        outside-join (outside-wider 0 spareAt formed (omega arith) (omega (arith, form-room n few .0)))
+        (outside-wider 0 spareAt later (omega arith) (omega arith));
   }

@@ -12,7 +12,7 @@ use Rattle.rolls.specs.Roll.{Sparse}
 use Rattle.pauli.specs.Sets.{pauliOf}
 use Rattle.pauli_theory.specs.Group.{Promise}
 use Rattle.pauli_theory.specs.Standard.{supportOf, formOf, standard, rank, nonabelian, phaseStep, stabilizer}
-use Rattle.standard_form.specs.Area.{listAt, standardAt, rowWords, strideOf}
+use Rattle.standard_form.specs.Area.{listAt, standardAt, spareAt, rowWords, strideOf, Outside}
 use Rattle.standard_form.specs.Lists.{formOver, fromProducts}
 
 -- "A list is the Paulis of a roll in its order"
@@ -30,6 +30,8 @@ pub record Built (l : List ℕ) (n s : ℕ) (x : List ℕ) (rank total : ℕ) : 
   pub list : listIn x listAt n ≡ listIn l listAt n
   pub count : total ≡ length (fromProducts rank (productsNamed (formOver s (listIn l listAt n)) (listIn l listAt n)))
   pub standards : listIn x standardAt total ≡ fromProducts rank (productsNamed (formOver s (listIn l listAt n)) (listIn l listAt n))
+  -- the words from the further list on are as they were
+  pub rest : Outside 0 spareAt l x
 
 -- a list over the places of its support, exponents by value
 unfoldable pub overSupport : List Pauli → List Pauli

@@ -10,7 +10,7 @@ ghost use Rattle.rolls.specs.Told.{answer};
 ghost use Rattle.pauli.specs.Writing.{OnPlaces};
 ghost use Rattle.pauli_theory.specs.Group.{none};
 ghost use Rattle.standard_form.specs.Promises.{promiseOf};
-ghost use Rattle.standard_form.specs.Area.{listAt, cleared};
+ghost use Rattle.standard_form.specs.Area.{listAt, spareAt, cleared, Outside};
 ghost use Rattle.standard_form.specs.Groups.{paulis, Built, Grouped, Described};
 use crate::area::LIST;
 use crate::area::WORK_WORDS;
@@ -59,7 +59,8 @@ pub fn build(w: &mut [u64], n: usize, s: usize) -> Group
 // Reads an accepted roll of n Paulis, and builds its group.
 pub fn group_of(b: &[u8], n: usize, known: &mut [u32], w: &mut [u64]) -> Group
     requires { ⌜ (countOf (now b) ≡ answer n) × (mostQubits < length (now known)) × (length (now w) ≡ 4096) ⌝ }
-    ensures { λ r. ⌜ Grouped (paulis (listOf (now (b .entry)))) (now (known .exit)) (now (w .exit)) (r .places) (r .rank) (r .total) ⌝ }
+    ensures group { λ r. ⌜ Grouped (paulis (listOf (now (b .entry)))) (now (known .exit)) (now (w .exit)) (r .places) (r .rank) (r .total) ⌝ }
+    ensures rest { λ _. ⌜ Outside 0 spareAt (now (w .entry)) (now (w .exit)) ⌝ }
 {
     let places = gather(b, 2 + 10 * n, numbers_of(b, n), known, 0);
     read_list(b, n, known, places, w, LIST);

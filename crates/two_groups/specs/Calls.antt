@@ -1,13 +1,16 @@
 -- The calls on two lists, as functions of the bytes lent: document 01, "Group", with the order of refusals of "Turned back".
-use mathlib.Core.List.{List}
+use mathlib.Core.List.{List, map}
+use mathlib.Core.Option.{Option, some, none}
 use Prim.Native.Nat.{ℕ, _+_}
 use lib.Dec.{ltb}
 use lib.ListN.{length}
-use Rattle.rolls.specs.Roll.{mostPaulis}
-use Rattle.rolls.specs.Told.{Told, answer, refuseIf, andThen, mapTold}
+use Rattle.rolls.specs.Roll.{mostPaulis, write}
+use Rattle.rolls.specs.Told.{Told, answer, refused, refuseIf, andThen, mapTold}
 use Rattle.pauli.specs.Pauli.{Pauli}
+use Rattle.pauli.specs.Sets.{sparseOf}
 use Rattle.joining.specs.Calls.{readBoth, fewQubits}
 use Rattle.pauli_theory.specs.Group.{Promise}
+use Rattle.pauli_theory.specs.Modulo.{modulo, tryQuotient}
 use Rattle.pauli_theory.specs.Order.{Order, partialCmp}
 use Rattle.standard_form.specs.Area.{enough}
 use Rattle.standard_form.specs.Groups.{paulis}
@@ -25,3 +28,21 @@ twoLists l r words =
 
 unfoldable pub orderCall : Promise → Promise → List ℕ → List ℕ → ℕ → Told Order
 orderCall left right l r words = mapTold (λ b. partialCmp left right (b .left) (b .right)) (twoLists l r words)
+
+-- ---- modulo and quotient
+
+-- "`modulo` as written": the left list by the right one, whose promise alone is read
+unfoldable pub moduloBytes : Promise → Pair → List ℕ
+moduloBytes right b = write (map sparseOf (modulo right (b .left) (b .right)))
+
+unfoldable pub moduloCall : Promise → List ℕ → List ℕ → ℕ → Told (List ℕ)
+moduloCall right l r words = mapTold (moduloBytes right) (twoLists l r words)
+
+-- "divisor not a subgroup"
+unfoldable pub quotientBytes : Option (List Pauli) → Told (List ℕ)
+quotientBytes (some ps) = answer (write (map sparseOf ps))
+quotientBytes none = refused 11 0
+
+-- "`try_quotient` is the reference": the left list by the right one, the divisor; after the work area (9) the divisor (11)
+unfoldable pub quotientCall : Promise → Promise → List ℕ → List ℕ → ℕ → Told (List ℕ)
+quotientCall left right l r words = andThen (twoLists l r words) λ b. quotientBytes (tryQuotient left right (b .left) (b .right))

@@ -1,14 +1,27 @@
--- What each call promises: its answer and the work area at exit, by what it was lent.
+-- What each call promises: its answer, the output at exit and the work area at exit, by what it was lent.
 use mathlib.Core.Path.{_≡_}
 use mathlib.Core.List.{List}
 use Prim.Native.Nat.{ℕ}
 use lib.ListN.{length}
+use Rattle.pauli.specs.declared.write.Wrote.{Wrote}
+use Rattle.pauli.specs.Answers.{toldWrote}
+use Rattle.pauli.specs.Writing.{toldBytes, leftIn}
 use Rattle.pauli_theory.specs.Group.{Promise}
 use Rattle.standard_form.specs.Area.{areaAfter}
 use Rattle.two_groups.specs.declared.answers.OrderFound.{OrderFound}
 use Rattle.two_groups.specs.Answers.{toldOrder}
-use Rattle.two_groups.specs.Calls.{twoLists, orderCall}
+use Rattle.two_groups.specs.Calls.{twoLists, orderCall, moduloCall, quotientCall}
 
 pub record OrderCall (left right : Promise) (l r work : List ℕ) (found : OrderFound) (work′ : List ℕ) : Type 0 where
   pub told : toldOrder found ≡ orderCall left right l r (length work)
+  pub area : work′ ≡ areaAfter (twoLists l r (length work)) work
+
+pub record ModuloCall (right : Promise) (l r work out : List ℕ) (wrote : Wrote) (work′ out′ : List ℕ) : Type 0 where
+  pub told : toldWrote wrote ≡ toldBytes (moduloCall right l r (length work)) out
+  pub written : out′ ≡ leftIn (moduloCall right l r (length work)) out
+  pub area : work′ ≡ areaAfter (twoLists l r (length work)) work
+
+pub record QuotientCall (left right : Promise) (l r work out : List ℕ) (wrote : Wrote) (work′ out′ : List ℕ) : Type 0 where
+  pub told : toldWrote wrote ≡ toldBytes (quotientCall left right l r (length work)) out
+  pub written : out′ ≡ leftIn (quotientCall left right l r (length work)) out
   pub area : work′ ≡ areaAfter (twoLists l r (length work)) work

@@ -4,3 +4,5 @@
 pub mod answers;
 // The call for comparison.
 pub mod order;
+// Paulis moved from the places of one support to those of another.
+pub(crate) mod moved;

@@ -25,7 +25,7 @@ slice-aggregate-write-roll c = search needs
 write-roll-requires : tie.Need-write-roll-requires
 write-roll-requires c κs =
     let count = c .before .before .before .before .before .before .before .before .before .before .before .before .pre .0 in
-    let group = c .before .before .before .before .before .before .group-of .ensures in
+    let group = c .before .before .before .before .before .before .group-of .ensures .0 in
     let total = group-total _ _ count group in
     let places = group-places _ _ count group in
     let known = c .before .before .before .before .before .before .group-of .kept .1 .1 .0 in
@@ -46,7 +46,7 @@ returns c =
     let out = c .before .before .before .before .before .before .before .before .before .before .before .before .before .before .before .before .before .before .before .args .out .now in
     let group = c .before .before .before .before .before .before .before .before .before .before .before .before .before .group-of in
     let wrote = c .before .before .before .before .before .before .write-roll .ensures in
-    let roll = group-written _ (group .ensures) in (
+    let roll = group-written _ (group .ensures .0) in (
       wrote .0 ∙ ap (λ (bs : List ℕ). toldBytes (answer bs) out) roll,
       (
         wrote .1 ∙ ap (λ (bs : List ℕ). leftIn (answer bs) out) roll,

@@ -21,7 +21,7 @@ group-of-requires c κs =
 signs-of-requires : tie.Need-signs-of-requires
 signs-of-requires c κs =
     let s = c .before .before .before .before .before .before .before .before .before .before in
-    let total = group-total _ _ (s .pre .0) (c .before .before .before .before .group-of .ensures) in
+    let total = group-total _ _ (s .pre .0) (c .before .before .before .before .group-of .ensures .0) in
     omega (arith, c .before .before .before .before .group-of .kept .1 .1 .1 .0, s .pre .3)
 
 slice-aggregate-factor : tie.Need-slice-aggregate-factor
@@ -38,8 +38,8 @@ factor-requires c κs =
       s .pre .2,
       omega arith,
       group .kept .1 .1 .1 .0 ∙ s .pre .3,
-      group-places _ _ (s .pre .0) (group .ensures),
-      asked-of _ _ (s .pre .0) (group .ensures) _ (signs .0) (signs .1 .0) (signs .1 .1),
+      group-places _ _ (s .pre .0) (group .ensures .0),
+      asked-of _ _ (s .pre .0) (group .ensures .0) _ (signs .0) (signs .1 .0) (signs .1 .1),
     )
 
 clear-bits-requires : tie.Need-clear-bits-requires
@@ -58,7 +58,7 @@ returns c =
     let group = made .group-of in
     let signs = told .signs-of .ensures in
     let factor = put .factor .ensures in (
-      factor .0 (asked-of _ _ (s .pre .0) (group .ensures) (promiseOf (s .args .promise)) (signs .0) (signs .1 .0) (signs .1 .1)),
+      factor .0 (asked-of _ _ (s .pre .0) (group .ensures .0) (promiseOf (s .args .promise)) (signs .0) (signs .1 .0) (signs .1 .1)),
       c .before .before .clear-bits .ensures ∙ cleared-whole _ _ (factor .1 .size ∙ group .kept .1 .1 .1 .0 ∙ s .pre .3) (s .pre .3),
     )
 

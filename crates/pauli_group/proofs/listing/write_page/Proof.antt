@@ -44,7 +44,7 @@ returns c =
     let group = c .before .before .before .before .before .before .before .before .before .group-of in
     let pre = c .before .before .before .before .before .before .before .before .before .before .before .before .before .before .before .pre in
     let out = c .before .before .before .before .before .before .before .before .before .before .before .before .before .before .before .args .out .now in
-    let same = sym (page-refused (promiseOf (c .before .before .before .before .before .before .before .before .before .before .before .before .before .before .before .args .promise)) (c .before .before .before .before .before .before .before .before .before .before .before .before .before .before .before .args .start) (c .before .before .before .before .before .before .before .before .before .before .before .before .before .before .before .args .count) (paulis (listOf (c .before .before .before .before .before .before .before .before .before .before .before .before .before .before .before .args .b .now))) (rw (← (group .ensures .rank-is)) (c .before .before .before .before .if1 .taken))) in (
+    let same = sym (page-refused (promiseOf (c .before .before .before .before .before .before .before .before .before .before .before .before .before .before .before .args .promise)) (c .before .before .before .before .before .before .before .before .before .before .before .before .before .before .before .args .start) (c .before .before .before .before .before .before .before .before .before .before .before .before .before .before .before .args .count) (paulis (listOf (c .before .before .before .before .before .before .before .before .before .before .before .before .before .before .before .args .b .now))) (rw (← (group .ensures .0 .rank-is)) (c .before .before .before .before .if1 .taken))) in (
       ap (λ (t : Told (List ℕ)). toldBytes t out) same,
       (
         ap (λ (t : Told (List ℕ)). leftIn t out) same,
@@ -55,16 +55,16 @@ returns c =
 signs-of-requires : tie.Need-signs-of-requires
 signs-of-requires c κs =
     let group = c .before .before .before .before .before .before .group-of in
-    omega (arith, group-total _ _ (c .before .before .before .before .before .before .before .before .before .before .before .before .pre .0) (group .ensures), group .kept .1 .1 .1 .0, c .before .before .before .before .before .before .before .before .before .before .before .before .pre .1)
+    omega (arith, group-total _ _ (c .before .before .before .before .before .before .before .before .before .before .before .before .pre .0) (group .ensures .0), group .kept .1 .1 .1 .0, c .before .before .before .before .before .before .before .before .before .before .before .before .pre .1)
 
 shl-total : tie.Need-shl-total
 shl-total c = search needs
 
 div-total : tie.Need-div-total
-div-total c = omega (arith, signs-some _ (c .before .before .before .before .before .before .before .before .group-of .ensures) (c .before .signs-of .result) (c .before .signs-of .ensures .0) (c .before .signs-of .ensures .1 .0) (c .before .signs-of .ensures .1 .1))
+div-total c = omega (arith, signs-some _ (c .before .before .before .before .before .before .before .before .group-of .ensures .0) (c .before .signs-of .result) (c .before .signs-of .ensures .0) (c .before .signs-of .ensures .1 .0) (c .before .signs-of .ensures .1 .1))
 
 mul-total : tie.Need-mul-total
-mul-total c = omega (arith, total-small (c .before .before .before .before .before .before .before .before .group-of .result .rank) (c .before .signs-of .result .step) (c .before .before .before .if1 .left) (signs-some _ (c .before .before .before .before .before .before .before .before .group-of .ensures) (c .before .signs-of .result) (c .before .signs-of .ensures .0) (c .before .signs-of .ensures .1 .0) (c .before .signs-of .ensures .1 .1)) (signs-few _ (c .before .before .before .before .before .before .before .before .group-of .ensures) (c .before .signs-of .result) (c .before .signs-of .ensures .0) (c .before .signs-of .ensures .1 .0) (c .before .signs-of .ensures .1 .1)))
+mul-total c = omega (arith, total-small (c .before .before .before .before .before .before .before .before .group-of .result .rank) (c .before .signs-of .result .step) (c .before .before .before .if1 .left) (signs-some _ (c .before .before .before .before .before .before .before .before .group-of .ensures .0) (c .before .signs-of .result) (c .before .signs-of .ensures .0) (c .before .signs-of .ensures .1 .0) (c .before .signs-of .ensures .1 .1)) (signs-few _ (c .before .before .before .before .before .before .before .before .group-of .ensures .0) (c .before .signs-of .result) (c .before .signs-of .ensures .0) (c .before .signs-of .ensures .1 .0) (c .before .signs-of .ensures .1 .1)))
 
 page-size-requires : tie.Need-page-size-requires
 page-size-requires c κs = search needs
@@ -77,8 +77,8 @@ put-elements-requires c κs =
     let group = c .before .before .before .before .before .before .before .before .before .before .before .group-of in (
       group .kept .1 .1 .1 .0 ∙ c .before .before .before .before .before .before .before .before .before .before .before .before .before .before .before .before .before .pre .1,
       c .before .before .before .before .before .before .if1 .left,
-      signs-some _ (c .before .before .before .before .before .before .before .before .before .before .before .group-of .ensures) (c .before .before .before .before .signs-of .result) (c .before .before .before .before .signs-of .ensures .0) (c .before .before .before .before .signs-of .ensures .1 .0) (c .before .before .before .before .signs-of .ensures .1 .1),
-      signs-few _ (c .before .before .before .before .before .before .before .before .before .before .before .group-of .ensures) (c .before .before .before .before .signs-of .result) (c .before .before .before .before .signs-of .ensures .0) (c .before .before .before .before .signs-of .ensures .1 .0) (c .before .before .before .before .signs-of .ensures .1 .1),
+      signs-some _ (c .before .before .before .before .before .before .before .before .before .before .before .group-of .ensures .0) (c .before .before .before .before .signs-of .result) (c .before .before .before .before .signs-of .ensures .0) (c .before .before .before .before .signs-of .ensures .1 .0) (c .before .before .before .before .signs-of .ensures .1 .1),
+      signs-few _ (c .before .before .before .before .before .before .before .before .before .before .before .group-of .ensures .0) (c .before .before .before .before .signs-of .result) (c .before .before .before .before .signs-of .ensures .0) (c .before .before .before .before .signs-of .ensures .1 .0) (c .before .before .before .before .signs-of .ensures .1 .1),
       omega (arith, c .before .page-length .ensures, c .before .before .page-size .ensures .1),
       omega (arith, c .before .before .before .before .before .before .before .before .before .before .before .before .before .before .before .before .before .fits),
     )
@@ -90,14 +90,14 @@ write-roll-requires : tie.Need-write-roll-requires
 write-roll-requires c κs =
     let group = c .before .before .before .before .before .before .before .before .before .before .before .before .before .before .before .before .before .group-of in
     let pre = c .before .before .before .before .before .before .before .before .before .before .before .before .before .before .before .before .before .before .before .before .before .before .before .pre in
-    let step = signs-step _ (c .before .before .before .before .before .before .before .before .before .before .before .before .before .before .before .before .before .group-of .ensures) (c .before .before .before .before .before .before .before .before .before .before .signs-of .result) (c .before .before .before .before .before .before .before .before .before .before .signs-of .ensures .0) (c .before .before .before .before .before .before .before .before .before .before .signs-of .ensures .1 .0) (c .before .before .before .before .before .before .before .before .before .before .signs-of .ensures .1 .1) in
+    let step = signs-step _ (c .before .before .before .before .before .before .before .before .before .before .before .before .before .before .before .before .before .group-of .ensures .0) (c .before .before .before .before .before .before .before .before .before .before .signs-of .result) (c .before .before .before .before .before .before .before .before .before .before .signs-of .ensures .0) (c .before .before .before .before .before .before .before .before .before .before .signs-of .ensures .1 .0) (c .before .before .before .before .before .before .before .before .before .before .signs-of .ensures .1 .1) in
     let few = c .before .before .before .before .before .before .before .before .page-size .ensures .1 in
     let size = c .before .before .before .before .before .put-elements .kept .0 in (
       omega (arith, size, group .kept .1 .1 .1 .0, pre .1, c .before .before .before .before .before .before .before .page-length .ensures, few),
       omega (arith, c .before .before .before .before .before .before .before .page-length .ensures, few),
-      group-places _ _ (pre .0) (group .ensures),
-      omega (arith, group-places _ _ (pre .0) (group .ensures), group .kept .1 .1 .0),
-      page-places _ _ (group .ensures) _ step _ _ _ (c .before .before .before .before .before .before .before .page-length .ensures ∙ ap₂ (λ (s : ℕ) (t : ℕ). min s (t - c .before .before .before .before .before .before .before .before .before .before .before .before .before .before .before .before .before .before .before .before .before .before .before .args .start)) (c .before .before .before .before .before .before .before .before .page-size .ensures .0) (total-is _ _ (c .before .before .before .before .before .before .before .before .before .before .before .before .if1 .left))) _ (c .before .before .before .before .before .put-elements .ensures .0),
+      group-places _ _ (pre .0) (group .ensures .0),
+      omega (arith, group-places _ _ (pre .0) (group .ensures .0), group .kept .1 .1 .0),
+      page-places _ _ (group .ensures .0) _ step _ _ _ (c .before .before .before .before .before .before .before .page-length .ensures ∙ ap₂ (λ (s : ℕ) (t : ℕ). min s (t - c .before .before .before .before .before .before .before .before .before .before .before .before .before .before .before .before .before .before .before .before .before .before .before .args .start)) (c .before .before .before .before .before .before .before .before .page-size .ensures .0) (total-is _ _ (c .before .before .before .before .before .before .before .before .before .before .before .before .if1 .left))) _ (c .before .before .before .before .before .put-elements .ensures .0),
     )
 
 clear-bits-requires-2 : tie.Need-clear-bits-requires-2
@@ -114,10 +114,10 @@ returns-2 c =
     let group = c .before .before .before .before .before .before .before .before .before .before .before .before .before .before .before .before .before .before .before .before .before .before .before .before .group-of in
     let pre = c .before .before .before .before .before .before .before .before .before .before .before .before .before .before .before .before .before .before .before .before .before .before .before .before .before .before .before .before .before .before .pre in
     let out = c .before .before .before .before .before .before .before .before .before .before .before .before .before .before .before .before .before .before .before .before .before .before .before .before .before .before .before .before .before .before .args .out .now in
-    let step = signs-step _ (c .before .before .before .before .before .before .before .before .before .before .before .before .before .before .before .before .before .before .before .before .before .before .before .before .group-of .ensures) (c .before .before .before .before .before .before .before .before .before .before .before .before .before .before .before .before .before .signs-of .result) (c .before .before .before .before .before .before .before .before .before .before .before .before .before .before .before .before .before .signs-of .ensures .0) (c .before .before .before .before .before .before .before .before .before .before .before .before .before .before .before .before .before .signs-of .ensures .1 .0) (c .before .before .before .before .before .before .before .before .before .before .before .before .before .before .before .before .before .signs-of .ensures .1 .1) in
+    let step = signs-step _ (c .before .before .before .before .before .before .before .before .before .before .before .before .before .before .before .before .before .before .before .before .before .before .before .before .group-of .ensures .0) (c .before .before .before .before .before .before .before .before .before .before .before .before .before .before .before .before .before .signs-of .result) (c .before .before .before .before .before .before .before .before .before .before .before .before .before .before .before .before .before .signs-of .ensures .0) (c .before .before .before .before .before .before .before .before .before .before .before .before .before .before .before .before .before .signs-of .ensures .1 .0) (c .before .before .before .before .before .before .before .before .before .before .before .before .before .before .before .before .before .signs-of .ensures .1 .1) in
     let wrote = c .before .before .before .before .before .before .write-roll .ensures in
-    let roll = page-written _ _ (group .ensures) _ step _ _ _ (c .before .before .before .before .before .before .before .before .before .before .before .before .before .before .page-length .ensures ∙ ap₂ (λ (s : ℕ) (t : ℕ). min s (t - c .before .before .before .before .before .before .before .before .before .before .before .before .before .before .before .before .before .before .before .before .before .before .before .before .before .before .before .before .before .before .args .start)) (c .before .before .before .before .before .before .before .before .before .before .before .before .before .before .before .page-size .ensures .0) (total-is _ _ (c .before .before .before .before .before .before .before .before .before .before .before .before .before .before .before .before .before .before .before .if1 .left))) _ (c .before .before .before .before .before .before .before .before .before .before .before .before .put-elements .ensures .0) in
-    let same = ap answer roll ∙ sym (page-answered (promiseOf (c .before .before .before .before .before .before .before .before .before .before .before .before .before .before .before .before .before .before .before .before .before .before .before .before .before .before .before .before .before .before .args .promise)) (c .before .before .before .before .before .before .before .before .before .before .before .before .before .before .before .before .before .before .before .before .before .before .before .before .before .before .before .before .before .before .args .start) (c .before .before .before .before .before .before .before .before .before .before .before .before .before .before .before .before .before .before .before .before .before .before .before .before .before .before .before .before .before .before .args .count) (paulis (listOf (c .before .before .before .before .before .before .before .before .before .before .before .before .before .before .before .before .before .before .before .before .before .before .before .before .before .before .before .before .before .before .args .b .now))) (rw (← (group .ensures .rank-is)) (c .before .before .before .before .before .before .before .before .before .before .before .before .before .before .before .before .before .before .before .if1 .left))) in (
+    let roll = page-written _ _ (group .ensures .0) _ step _ _ _ (c .before .before .before .before .before .before .before .before .before .before .before .before .before .before .page-length .ensures ∙ ap₂ (λ (s : ℕ) (t : ℕ). min s (t - c .before .before .before .before .before .before .before .before .before .before .before .before .before .before .before .before .before .before .before .before .before .before .before .before .before .before .before .before .before .before .args .start)) (c .before .before .before .before .before .before .before .before .before .before .before .before .before .before .before .page-size .ensures .0) (total-is _ _ (c .before .before .before .before .before .before .before .before .before .before .before .before .before .before .before .before .before .before .before .if1 .left))) _ (c .before .before .before .before .before .before .before .before .before .before .before .before .put-elements .ensures .0) in
+    let same = ap answer roll ∙ sym (page-answered (promiseOf (c .before .before .before .before .before .before .before .before .before .before .before .before .before .before .before .before .before .before .before .before .before .before .before .before .before .before .before .before .before .before .args .promise)) (c .before .before .before .before .before .before .before .before .before .before .before .before .before .before .before .before .before .before .before .before .before .before .before .before .before .before .before .before .before .before .args .start) (c .before .before .before .before .before .before .before .before .before .before .before .before .before .before .before .before .before .before .before .before .before .before .before .before .before .before .before .before .before .before .args .count) (paulis (listOf (c .before .before .before .before .before .before .before .before .before .before .before .before .before .before .before .before .before .before .before .before .before .before .before .before .before .before .before .before .before .before .args .b .now))) (rw (← (group .ensures .0 .rank-is)) (c .before .before .before .before .before .before .before .before .before .before .before .before .before .before .before .before .before .before .before .if1 .left))) in (
       wrote .0 ∙ ap (λ (t : Told (List ℕ)). toldBytes t out) same,
       (
         wrote .1 ∙ ap (λ (t : Told (List ℕ)). leftIn t out) same,

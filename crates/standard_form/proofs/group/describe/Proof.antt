@@ -21,13 +21,13 @@ unfolding mostQubits
 group-of-requires c κs = (c .before .before .before .before .pre .0, omega arith, c .before .before .before .before .pre .1)
 
 signs-of-requires : tie.Need-signs-of-requires
-signs-of-requires c κs = omega (arith, standards-few (c .before .before .before .before .group-of .ensures) (list-few (c .before .before .before .before .before .before .before .before .before .args .b .now) (c .before .before .before .before .before .before .before .before .before .args .n) (c .before .before .before .before .before .before .before .before .before .pre .0)), c .before .before .before .before .group-of .kept .1 .1 .1 .0, c .before .before .before .before .before .before .before .before .before .pre .1)
+signs-of-requires c κs = omega (arith, standards-few (c .before .before .before .before .group-of .ensures .0) (list-few (c .before .before .before .before .before .before .before .before .before .args .b .now) (c .before .before .before .before .before .before .before .before .before .args .n) (c .before .before .before .before .before .before .before .before .before .pre .0)), c .before .before .before .before .group-of .kept .1 .1 .1 .0, c .before .before .before .before .before .before .before .before .before .pre .1)
 
 same-length : tie.Need-same-length
 same-length c = c .before .before .before .before .before .group-of .kept .1 .1 .1 .0
 
 returns : tie.Need-returns
-returns c = described (c .before .before .before .before .before .group-of .ensures) _ _ _ _ (c .signs-of .ensures .0) (c .signs-of .ensures .1 .0) (c .signs-of .ensures .1 .1)
+returns c = described (c .before .before .before .before .before .group-of .ensures .0) _ _ _ _ (c .signs-of .ensures .0) (c .signs-of .ensures .1 .0) (c .signs-of .ensures .1 .1)
 
 pub describe-spec : {M : Type 1} → statement M
 describe-spec =

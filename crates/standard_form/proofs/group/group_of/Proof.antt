@@ -1,3 +1,5 @@
+use Rattle.standard_form.proofs.ListLaws.{outside-join, outside-wider}
+use Rattle.standard_form.specs.Area.{spareAt}
 use Prim.Native.Nat.{ℕ, _+_, _*_, _≤_, _<_}
 use Rattle.joining.proofs.JoinLaws.{accepted, accepted-length, accepted-few}
 use Rattle.rolls.specs.Roll.{mostPaulis, mostQubits}
@@ -35,7 +37,8 @@ same-length-2 : tie.Need-same-length-2
 same-length-2 c = c .before .before .build .kept .0 ∙ c .before .before .before .before .before .before .read-list .ensures .1 .size
 
 returns : tie.Need-returns
-returns c = let s = c .before .before .before .before .before .before .before .before .before .before .before .before .before .before .before .before .before in let g = own-gathered (s .args .b .now) (s .args .n) (s .pre .0) _ (c .before .before .before .before .before .before .before .before .before .before .before .before .before .numbers-of .ensures) _ _ _ (c .before .before .before .before .before .before .before .before .before .before .before .gather .ensures) in let few = own-few (s .args .b .now) (s .args .n) (s .pre .0) in rw (c .before .before .build .ensures .1) (grouped _ _ _ _ g few _ (s .args .n) (c .before .before .before .before .before .before .read-list .ensures .0) _ _ _ (accepted (s .args .b .now) (s .args .n) (s .pre .0) .1) (c .before .before .build .ensures .0))
+unfolding mostPaulis
+returns c = let s = c .before .before .before .before .before .before .before .before .before .before .before .before .before .before .before .before .before in let g = own-gathered (s .args .b .now) (s .args .n) (s .pre .0) _ (c .before .before .before .before .before .before .before .before .before .before .before .before .before .numbers-of .ensures) _ _ _ (c .before .before .before .before .before .before .before .before .before .before .before .gather .ensures) in let few = own-few (s .args .b .now) (s .args .n) (s .pre .0) in (rw (c .before .before .build .ensures .1) (grouped _ _ _ _ g few _ (s .args .n) (c .before .before .before .before .before .before .read-list .ensures .0) _ _ _ (accepted (s .args .b .now) (s .args .n) (s .pre .0) .1) (c .before .before .build .ensures .0)), outside-join (outside-wider 0 spareAt (c .before .before .before .before .before .before .read-list .ensures .1) (omega arith) (omega (arith, accepted-few (s .args .b .now) (s .args .n) (s .pre .0)))) (c .before .before .build .ensures .0 .rest))
 
 pub group-of-spec : {M : Type 1} → statement M
 group-of-spec =
