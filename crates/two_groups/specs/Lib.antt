@@ -3,3 +3,4 @@ pub mod Answers
 pub mod Contracts
 pub mod Compare
 pub mod Moved
+pub mod Remainder

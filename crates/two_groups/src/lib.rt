@@ -6,3 +6,5 @@ pub mod answers;
 pub mod order;
 // Paulis moved from the places of one support to those of another.
 pub(crate) mod moved;
+// The call for the remainder.
+pub mod modulo;
