@@ -11,7 +11,7 @@ use Rattle.binar.specs.Row.{_⊕_, bit, rowSum, units}
 use Rattle.binar.specs.Echelon.{Row, echelon, R, T, rank}
 use Rattle.binar.specs.Space.{RowSpace, Independent}
 use Rattle.binar.proofs.Bits.{bit-of-zero, xor-zero-l, xor-zero-r}
-use Rattle.binar.proofs.Lists.{all-of, all-by, all-over, all-under, map-same, same-map}
+use Rattle.binar.proofs.Lists.{all-of, all-zip, all-right, all-by, all-over, all-under, map-same, same-map}
 use Rattle.binar.proofs.Span.{Subspace, sum-in, rowSum-rowSum, space-subspace, space-rows}
 use Rattle.binar.proofs.Theorems.{transform-law, reduced-law, space-law}
 use Rattle.rolls.specs.RollTheorems.{All}
@@ -89,12 +89,12 @@ module _ (c : ℕ) (A : List ℕ) where
       all-by (λ q. q .r ≡ 0) (drop n (f .rows)) noRow λ i l.
       ap (λ q. q .r) (getD-drop n (f .rows) i noRow) ∙ row-at (n + i) ∙ reduced-law c A .zeros (n + i) (omega arith)
 
-  pivot-rows-are : nonzeroRows (echelon c A .rows) ≡ take (rank (echelon c A)) (echelon c A .rows)
+  pub pivot-rows-are : nonzeroRows (echelon c A .rows) ≡ take (rank (echelon c A)) (echelon c A .rows)
   pivot-rows-are =
       let f = echelon c A in
       ap nonzeroRows (sym (take-append-drop (rank f) (f .rows))) ∙ nonzero-first (drop (rank f) (f .rows)) last-rows (take (rank f) (f .rows)) first-rows
 
-  zero-rows-are : zeroRows (echelon c A .rows) ≡ drop (rank (echelon c A)) (echelon c A .rows)
+  pub zero-rows-are : zeroRows (echelon c A .rows) ≡ drop (rank (echelon c A)) (echelon c A .rows)
   zero-rows-are =
       let f = echelon c A in
       ap zeroRows (sym (take-append-drop (rank f) (f .rows))) ∙ zero-last (drop (rank f) (f .rows)) last-rows (take (rank f) (f .rows)) first-rows
@@ -160,6 +160,19 @@ module _ (c : ℕ) (A : List ℕ) where
         let rows = echelon c A .rows in
         ap (rowSum u) (sym (map-map (λ t. rowSum t A) (λ q. q .t) rows ∙ map-same (λ q. rowSum (q .t) A) (λ q. q .r) rows rows-made))
         ∙ sym (rowSum-rowSum u (map (λ q. q .t) rows) A)
+
+    pub pivot-rows-in : (v : ℕ) → RowSpace (map (λ q. q .r) (nonzeroRows (echelon c A .rows))) v → RowSpace A v
+    pivot-rows-in v s = record {
+      subset = rowSum (s .subset) (map (λ q. q .t) (echelon c A .rows));
+      sums = sym (R-sum (s .subset)) ∙ R-by-pivots (s .subset) ∙ s .sums;
+    }
+
+    -- the rows of T beside the zero rows name sets that sum to zero
+    pub zero-rows-sum : All (λ q. rowSum (q .t) A ≡ 0) (zeroRows (echelon c A .rows))
+    zero-rows-sum =
+        let D = nonzeroRows (echelon c A .rows) in
+        let Z = zeroRows (echelon c A .rows) in
+        all-zip (λ q e z. e ∙ z) Z (all-right (λ q. rowSum (q .t) A ≡ q .r) D Z (rw rows-split rows-made)) zero-rows-zero
 
     -- a set of rows of A that sums to zero comes from the rows of T beside the zero rows
     module _ {P : ℕ → Type 0} (S : Subspace P) (h : All (λ q. P (q .t)) (zeroRows (echelon c A .rows))) where

@@ -24,3 +24,8 @@ pub ifZero-one : (n : ℕ) → _≡_ {A = ℕ} (ifZero n 1 0) 1 → n ≡ 0
 unfolding ifZero
 ifZero-one zero e = refl
 ifZero-one (suc n) e = absurd (omega arith)
+
+pub ifZero-map {ℓ ℓ′} : {X : Type ℓ} {Y : Type ℓ′} (f : X → Y) (n : ℕ) (x y : X) → f (ifZero n x y) ≡ ifZero n (f x) (f y)
+unfolding ifZero
+ifZero-map f zero x y = refl
+ifZero-map f (suc n) x y = refl

@@ -26,6 +26,9 @@ pub mod Cosets
 pub mod Modulo
 pub mod Quotient
 pub mod Symplectic
+pub mod CommonRows
+pub mod Common
+pub mod CommonPart
 pub mod Theorems
 pub mod Marked
 pub mod ByProducts
@@ -41,3 +44,6 @@ pub mod ListingElements
 pub mod SymplecticPlaces
 pub mod ListingTheorems
 pub mod ModuloPlaces
+pub mod CommonPlaces
+pub mod CommonExponents
+pub mod CommonWritten

@@ -1,7 +1,7 @@
 -- The marked rows hold by computation.
 use mathlib.Core.Path.{refl}
 use lib.Count.{ones}
-use Rattle.binar.specs.Row.{_⊕_, bit, dot, ifBit}
+use Rattle.binar.specs.Row.{_⊕_, bit, dot, ifBit, rowSum}
 use Rattle.binar.specs.Echelon.{
   inColumn,
   byColumns,
@@ -52,6 +52,23 @@ use Rattle.pauli_theory.specs.Membership.{outside, exponentLeft, withPha
 use Rattle.pauli_theory.specs.Order.{ranksOf, sameRanks, noMore, firstOf, partialCmp}
 use Rattle.pauli_theory.specs.Modulo.{supportsOther, multiplied, multipliedByAll, modulo}
 use Rattle.pauli_theory.specs.Symplectic.{position, swapRemove, timesIf, cleared, onPosition, pairedFrom, symplecticForm}
+use Rattle.pauli_theory.specs.Common.{
+  dependencies,
+  commonSums,
+  commonRows,
+  commonBasis,
+  withExponent,
+  ifBoth,
+  commonPhaseFrom,
+  commonPhase,
+  consSome,
+  sharedOf,
+  phasesFrom,
+  commonPhases,
+  commonPart,
+  lesser,
+  bitand,
+}
 use Rattle.pauli_theory.specs.Marked.{Marked}
 
 pub marked : Marked
@@ -61,6 +78,8 @@ unfolding ones _⊕_ bit dot ifBit inColumn byColumns pivotOf swapRows clear unl
     rowGenerators someOrderFour anticommutesWithSome someAnticommute phase appended exponentMod standard nonabelian bare someImaginary someMinus
     phaseStep log2Size outside exponentLeft withPhase factorizationOf ranksOf sameRanks noMore firstOf partialCmp
     supportsOther multiplied multipliedByAll modulo position swapRemove timesIf cleared onPosition pairedFrom symplecticForm
+    rowSum dependencies commonSums commonRows commonBasis withExponent ifBoth commonPhaseFrom commonPhase consSome sharedOf phasesFrom commonPhases
+    commonPart lesser bitand
 marked = record {
   empty-standard = refl;
   empty-phases = refl;
@@ -76,4 +95,18 @@ marked = record {
   no-order = refl;
   remainder = refl;
   symplectic = refl;
+  apart-common = refl;
+  right-inside = refl;
+  left-inside = refl;
+  overlap-common = refl;
+  phases-common = refl;
+  dropped-basis = refl;
+  dropped-phase = refl;
+  dropped-common = refl;
+  smaller-common = refl;
+  first-has = refl;
+  second-has = refl;
+  smaller-signs = refl;
+  first-has-both = refl;
+  second-has-both = refl;
 }

@@ -58,14 +58,14 @@ module _ (gs : List Pauli) (p : Pauli) where
       ∙ xor-self u
 
   -- ---- the bits solve
-  solve : Option ℕ
+  abbrev pub solve : Option ℕ
   solve = transposeSolve (2 * length (supportOf gs)) (formOf gs) (rowOf (supportOf gs) p)
 
   row-narrow : rowOf (supportOf gs) p % 2 ^ (2 * length (supportOf gs)) ≡ rowOf (supportOf gs) p
   row-narrow = mod-eq-of-lt (row-lt (supportOf gs) p)
 
   solve-row : (s : ℕ) → solve ≡ some s → (s < 2 ^ length gs) × (rowOf (supportOf gs) p ≡ rowOf (supportOf gs) (indexedProduct s gs))
-  unfolding solve formOf
+  unfolding formOf
   solve-row s e =
       let qs = supportOf gs in
       let A = map (rowOf qs) gs in
@@ -74,8 +74,8 @@ module _ (gs : List Pauli) (p : Pauli) where
         sym row-narrow ∙ sym (f .1) ∙ ap (rowSum s) (columns-narrow (2 * length qs) A (rows-narrow qs gs)) ∙ sym (row-indexed qs s gs),
       )
 
-  solve-found : RowSpace (map (rowOf (supportOf gs)) gs) (rowOf (supportOf gs) p) → (s : ℕ) × (solve ≡ some s)
-  unfolding solve formOf
+  pub solve-found : RowSpace (map (rowOf (supportOf gs)) gs) (rowOf (supportOf gs) p) → (s : ℕ) × (solve ≡ some s)
+  unfolding formOf
   solve-found h = go solve refl
     where
       qs : List ℕ
@@ -112,7 +112,7 @@ module _ (promise : Promise) (gs : List Pauli) (p : Pauli) (step : phaseStep pro
     outside-none = ifZero-some (outside gs p) _ f e .0
 
     answer : Answer promise gs p (solve gs p) f
-    unfolding factorizationOf solve
+    unfolding factorizationOf
     answer = answer-by promise gs p (solve gs p) f (ifZero-some (outside gs p) _ f e .1)
 
     within : (f .indexes < 2 ^ length gs) × (f .exponent < 4)
@@ -131,7 +131,7 @@ module _ (promise : Promise) (gs : List Pauli) (p : Pauli) (step : phaseStep pro
         (generated-indexed gs (f .indexes)))
 
   complete : Generated gs p → (f : Factorization) × (factorizationOf promise gs p ≡ some f)
-  unfolding factorizationOf withPhase solve
+  unfolding factorizationOf withPhase
   complete a =
       let on = generated-on gs p a in
       let w = solve-found gs p (generated-row (supportOf gs) gs p a) in

@@ -45,7 +45,7 @@ module _ (qs : List ℕ) where
   unfolding condensed I
   condensed-I = pauli-path refl condense-none condense-none
 
-  condensed-phase : (k : ℕ) → condensed qs (phase k) ≡ phase k
+  pub condensed-phase : (k : ℕ) → condensed qs (phase k) ≡ phase k
   unfolding condensed phase
   condensed-phase k = pauli-path refl condense-none condense-none
 

@@ -1,8 +1,8 @@
 -- A true promise changes no answer; and abelian and stabilizer groups are what the definitions find.
 use mathlib.Core.Path.{_≡_, refl, sym, ap, ap₂, _∙_}
-use mathlib.Core.List.{List}
+use mathlib.Core.List.{List, [], _∷_, _++_}
 use mathlib.Core.Option.{Option, some, none}
-use Prim.Native.Nat.{ℕ, _+_, _-_, _*_, _/_}
+use Prim.Native.Nat.{ℕ, zero, suc, _+_, _-_, _*_, _/_}
 use lib.ListN.{length}
 use Rattle.binar.specs.Solve.{transposeSolve}
 use Rattle.pauli.specs.Pauli.{Pauli}
@@ -13,6 +13,18 @@ use Rattle.pauli_theory.specs.Membership.{withPhase, factorizationOf}
 use Rattle.pauli_theory.specs.Order.{Order, ranksOf, partialCmp}
 use Rattle.pauli_theory.specs.Listing.{phaseCount, phasesOf, elementsOf}
 use Rattle.pauli_theory.specs.Modulo.{modulo, tryQuotient, ifBelow}
+use Rattle.pauli_theory.specs.Common.{
+  commonBasis,
+  withExponent,
+  commonPhaseFrom,
+  commonPhase,
+  consSome,
+  sharedOf,
+  commonPhases,
+  commonPart,
+  lesser,
+  bitand,
+}
 use Rattle.pauli_theory.specs.Theorems.{PromiseLaw, PromisesLaw}
 use Rattle.pauli_theory.proofs.Abelian.{promise-nonabelian}
 use Rattle.pauli_theory.proofs.Phases.{phaseStep-grade}
@@ -59,10 +71,26 @@ module _ (left right : Promise) (gs hs : List Pauli) (h : Honest left gs) (k : H
   unfolding modulo
   same-remainder = rw (same-step right hs k)
 
+  same-phase-from : (p : Pauli) (n e : ℕ) → commonPhaseFrom left right gs hs p n e ≡ commonPhaseFrom Promise.none Promise.none gs hs p n e
+  unfolding commonPhaseFrom
+  same-phase-from p zero e = refl
+  same-phase-from p (suc n) e =
+      rw (same-factorization left gs h (withExponent e p), same-factorization right hs k (withExponent e p), same-phase-from p n (suc e))
+
+  same-shared : (ps : List Pauli) → sharedOf left right gs hs ps ≡ sharedOf Promise.none Promise.none gs hs ps
+  unfolding sharedOf commonPhase
+  same-shared [] = refl
+  same-shared (p ∷ ps) = ap₂ (λ (o : Option Pauli) (qs : List Pauli). consSome o qs) (same-phase-from p 4 0) (same-shared ps)
+
+  same-part : commonPart left right gs hs ≡ commonPart Promise.none Promise.none gs hs
+  unfolding commonPart commonPhases
+  same-part = ap₂ _++_ (same-shared (commonBasis gs hs)) (rw (same-step left gs h, same-step right hs k))
+
 pub promises-law : (left right : Promise) (gs hs : List Pauli) → Honest left gs → Honest right hs → PromisesLaw left right gs hs
-unfolding tryQuotient
+unfolding tryQuotient bitand
 promises-law left right gs hs h k = record {
   same-order = same-order left right gs hs h k;
   same-remainder = same-remainder left right gs hs h k;
   same-quotient = ap₂ (λ (o : Order) (ps : List Pauli). ifBelow o ps) (same-order right left hs gs k h) (same-remainder left right gs hs h k);
+  same-common = ap₂ (λ (o : Order) (ps : List Pauli). lesser o gs hs ps) (same-order left right gs hs h k) (same-part left right gs hs h k);
 }

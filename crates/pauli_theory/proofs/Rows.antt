@@ -10,7 +10,7 @@ use Rattle.binar.specs.Row.{bit, rowSum}
 use Rattle.binar.specs.Space.{RowSpace}
 use Rattle.binar.proofs.Bits.{xor-self, bit-lt, bit-of-zero}
 use Rattle.binar.proofs.Lists.{all-of, all-map, all-over, all-under}
-use Rattle.binar.proofs.Span.{space-subspace, space-rows}
+use Rattle.binar.proofs.Span.{space-subspace, space-rows, space-in}
 use Rattle.rolls.specs.RollTheorems.{All, Rising}
 use Rattle.pauli.specs.Pauli.{Pauli, I, normal, indexedProduct}
 use Rattle.pauli.specs.Sets.{members, rowOf, pauliOfRow}
@@ -60,6 +60,11 @@ module _ (qs : List ℕ) where
   generated-row gs =
       let A = map (rowOf qs) gs in
       generated-in (space-subgroup 4 A) four gs (all-under (RowSpace A) (rowOf qs) gs (space-rows A))
+
+  pub inside-rows : (gs hs : List Pauli) → Inside gs hs → (v : ℕ) → RowSpace (map (rowOf qs) gs) v → RowSpace (map (rowOf qs) hs) v
+  inside-rows gs hs f =
+      let B = map (rowOf qs) hs in
+      space-in (space-subspace B) (all-over (RowSpace B) (rowOf qs) gs (all-map (generated-row hs) gs (all-inside gs hs f)))
 
   -- of Paulis on rising qubits, equal rows mean equal sets
   pub row-sets : Rising 0 qs → {p q : Pauli} → PauliOn qs p → PauliOn qs q → rowOf qs p ≡ rowOf qs q → Agree 1 p q

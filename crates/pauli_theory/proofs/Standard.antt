@@ -85,10 +85,10 @@ unfolding turned I phase
 phase-turned k = record { phase = power-phase four k; x = refl; z = refl }
 
 module _ (gs : List Pauli) where
-  phase-in : (k : ℕ) → Power gs k → Generated gs (phase k)
+  pub phase-in : (k : ℕ) → Power gs k → Generated gs (phase k)
   phase-in k = generated-subgroup gs .agrees (turned k I) (phase k) (phase-turned k)
 
-  in-phase : (k : ℕ) → Generated gs (phase k) → Power gs k
+  pub in-phase : (k : ℕ) → Generated gs (phase k) → Power gs k
   in-phase k = generated-subgroup gs .agrees (phase k) (turned k I) (agree-flip (phase-turned k))
 
   -- in a group with i^m: what is appended, where the test is w

@@ -215,6 +215,15 @@ written-normal qs ps =
     ap encode
     (map-map (sparseOver qs) normal ps ∙ map-same (λ p. sparseOver qs (normal p)) (sparseOver qs) ps (all-of (sparse-normal qs) ps))
 
+-- so Paulis over places are written with their values
+pub written-values : (qs : List ℕ) → Rising 0 qs → (ps : List Pauli) → All (PauliOn qs) ps
+    → rollOver qs (map (λ p. normal (condensed qs p)) ps) ≡ write (map sparseOf ps)
+written-values qs rises ps on =
+    ap (rollOver qs) (sym (map-map normal (condensed qs) ps)) ∙ written-normal qs (map (condensed qs) ps) ∙ written-over qs rises ps on
+
+pub written-placed : (gs : List Pauli) → rollOver (supportOf gs) (placed gs) ≡ write (map sparseOf gs)
+written-placed gs = written-values (supportOf gs) (support-rises gs) gs (support-on gs)
+
 -- ---- the pairing of a list over places
 module _ (gs : List Pauli) where
   placed-value : map normal (placed gs) ≡ map normal (map (condensed (supportOf gs)) gs)
@@ -241,6 +250,4 @@ module _ (gs : List Pauli) where
   pub written-symplectic : rollOver (supportOf gs) (map normal (symplecticForm (placed gs))) ≡ write (map sparseOf (symplecticForm gs))
   written-symplectic =
       let qs = supportOf gs in
-      ap (rollOver qs) (places-symplectic ∙ sym (map-map normal (condensed qs) (symplecticForm gs)))
-      ∙ written-normal qs (map (condensed qs) (symplecticForm gs))
-      ∙ written-over qs (support-rises gs) (symplecticForm gs) (symplectic-law gs .on-support)
+      ap (rollOver qs) places-symplectic ∙ written-values qs (support-rises gs) (symplecticForm gs) (symplectic-law gs .on-support)

@@ -13,6 +13,9 @@ use Rattle.pauli_theory.proofs.Size.{size-law}
 use Rattle.pauli_theory.proofs.Modulo.{modulo-law}
 use Rattle.pauli_theory.proofs.Quotient.{quotient-law}
 use Rattle.pauli_theory.proofs.Symplectic.{symplectic-law}
+use Rattle.pauli_theory.proofs.CommonRows.{common-rows-law}
+use Rattle.pauli_theory.proofs.Common.{common-basis-law}
+use Rattle.pauli_theory.proofs.CommonPart.{common-law}
 
 pub group-laws : GroupLaws
 group-laws = record {
@@ -31,4 +34,7 @@ group-laws = record {
   modulo-law = modulo-law;
   quotient-law = quotient-law;
   symplectic-law = symplectic-law;
+  common-rows-law = common-rows-law;
+  common-basis-law = common-basis-law;
+  common-law = common-law;
 }

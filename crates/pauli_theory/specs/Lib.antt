@@ -5,6 +5,8 @@ pub mod Membership
 pub mod Order
 pub mod Modulo
 pub mod ModuloPlaces
+pub mod Common
+pub mod CommonPlaces
 pub mod Symplectic
 pub mod Theorems
 pub mod ListingTheorems

@@ -3,7 +3,7 @@
 -- it is said.
 use mathlib.Core.Path.{_≡_}
 use mathlib.Core.List.{[], _∷_}
-use mathlib.Core.Option.{some}
+use mathlib.Core.Option.{Option, some}
 use Prim.Native.Nat.{ℕ}
 use Rattle.pauli.specs.Pauli.{Pauli, I}
 use Rattle.pauli_theory.specs.Group.{none}
@@ -12,6 +12,7 @@ use Rattle.pauli_theory.specs.Membership.{factorizationOf}
 use Rattle.pauli_theory.specs.Order.{noOrder, partialCmp}
 use Rattle.pauli_theory.specs.Modulo.{modulo}
 use Rattle.pauli_theory.specs.Symplectic.{symplecticForm}
+use Rattle.pauli_theory.specs.Common.{commonBasis, commonPhase, bitand}
 
 -- (e,{},{}), (e,{0},{}), (e,{},{0}) and (e,{0},{0})
 abbrev pub scalar : ℕ → Pauli
@@ -26,7 +27,7 @@ onZ e = record { e = e; x = 0; z = 1 }
 abbrev pub onXZ : ℕ → Pauli
 onXZ e = record { e = e; x = 1; z = 1 }
 
--- XX and ZZ on qubits 0 and 1, and X on qubit 1
+-- XX and ZZ on qubits 0 and 1, and X and -X on qubit 1
 abbrev pub bothX : Pauli
 bothX = record { e = 0; x = 3; z = 0 }
 
@@ -35,6 +36,9 @@ bothZ = record { e = 0; x = 0; z = 3 }
 
 abbrev pub nextX : Pauli
 nextX = record { e = 0; x = 2; z = 0 }
+
+abbrev pub minusNextX : Pauli
+minusNextX = record { e = 2; x = 2; z = 0 }
 
 pub record Marked : Type 0 where
   -- "The empty list: standard I, phases 0"
@@ -62,3 +66,25 @@ pub record Marked : Type 0 where
   pub remainder : modulo none (bothX ∷ bothZ ∷ []) (bothX ∷ []) ≡ I ∷ bothZ ∷ []
   -- "symplectic [X0,Z0,X1]: Z0, X0, X1"
   pub symplectic : symplecticForm (onX 0 ∷ onZ 0 ∷ nextX ∷ []) ≡ onZ 0 ∷ onX 0 ∷ nextX ∷ []
+  -- Document 01 marks no row of `bitand`; these show its reading.
+  -- <X> and <Z>: I
+  pub apart-common : bitand none none (onX 0 ∷ []) (onZ 0 ∷ []) ≡ I ∷ []
+  -- <XX,ZZ> and <XX>: the lesser list as it stands
+  pub right-inside : bitand none none (bothX ∷ bothZ ∷ []) (bothX ∷ []) ≡ bothX ∷ []
+  pub left-inside : bitand none none (bothX ∷ []) (bothX ∷ bothZ ∷ []) ≡ bothX ∷ []
+  -- <XX,ZZ> and <XX,X1>: XX, and the phase 0
+  pub overlap-common : bitand none none (bothX ∷ bothZ ∷ []) (bothX ∷ nextX ∷ []) ≡ bothX ∷ I ∷ []
+  -- <X,Z> and <-X,iI>: X, and the phases 0 and 2
+  pub phases-common : bitand none none (onX 0 ∷ onZ 0 ∷ []) (onX 2 ∷ scalar 1 ∷ []) ≡ onX 0 ∷ I ∷ scalar 2 ∷ []
+  -- "basis elements with no shared phase are dropped": X of <X> and <-X>
+  pub dropped-basis : commonBasis (onX 0 ∷ []) (onX 2 ∷ []) ≡ onX 0 ∷ []
+  pub dropped-phase : commonPhase none none (onX 0 ∷ []) (onX 2 ∷ []) (onX 0) ≡ Option.none
+  pub dropped-common : bitand none none (onX 0 ∷ []) (onX 2 ∷ []) ≡ I ∷ []
+  -- "so it may be smaller than the true one": of <X,Z> and <iX,iZ>, X and Z are dropped, but both groups have their product XZ
+  pub smaller-common : bitand none none (onX 0 ∷ onZ 0 ∷ []) (onX 1 ∷ onZ 1 ∷ []) ≡ I ∷ scalar 2 ∷ []
+  pub first-has : factorizationOf none (onX 0 ∷ onZ 0 ∷ []) (onXZ 0) ≡ some (record { indexes = 3; exponent = 0 })
+  pub second-has : factorizationOf none (onX 1 ∷ onZ 1 ∷ []) (onXZ 0) ≡ some (record { indexes = 3; exponent = 2 })
+  -- and of <X0,X1> and <-X0,-X1> both have XX
+  pub smaller-signs : bitand none none (onX 0 ∷ nextX ∷ []) (onX 2 ∷ minusNextX ∷ []) ≡ I ∷ []
+  pub first-has-both : factorizationOf none (onX 0 ∷ nextX ∷ []) bothX ≡ some (record { indexes = 3; exponent = 0 })
+  pub second-has-both : factorizationOf none (onX 2 ∷ minusNextX ∷ []) bothX ≡ some (record { indexes = 3; exponent = 0 })

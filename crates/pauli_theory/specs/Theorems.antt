@@ -2,9 +2,10 @@
 use mathlib.Core.Path.{_≡_}
 use mathlib.Core.List.{List, _++_, map}
 use mathlib.Core.Option.{some, none}
-use Prim.Native.Nat.{ℕ, _+_, _-_, _*_, _%_, _^_, _≤_, _<_, max}
+use Prim.Native.Nat.{ℕ, _+_, _-_, _*_, _%_, _^_, _≤_, _<_, min, max}
 use lib.ListN.{length, getD}
-use Rattle.binar.specs.Space.{Dimension}
+use Rattle.binar.specs.Space.{RowSpace, Independent, Dimension}
+use Rattle.rolls.specs.Roll.{mostPaulis}
 use Rattle.rolls.specs.RollTheorems.{All}
 use Rattle.pauli.specs.Pauli.{Pauli, I, Same, times, turned, anticommute, indexedProduct}
 use Rattle.pauli.specs.Sets.{rowOf}
@@ -16,6 +17,7 @@ use Rattle.pauli_theory.specs.Order.{equal, less, greater, noOrder, part
 use Rattle.pauli_theory.specs.Listing.{elementsOf}
 use Rattle.pauli_theory.specs.Modulo.{supportsOther, modulo, tryQuotient}
 use Rattle.pauli_theory.specs.Symplectic.{symplecticForm}
+use Rattle.pauli_theory.specs.Common.{commonRows, commonBasis, commonPhase, commonPart, bitand}
 
 -- 1. Standard generators: they generate the list's group, are no more than the generators (one, for no generators), lie on the
 -- list's qubits and have exponents 0 to 3; and they are the same exactly for the same group
@@ -102,6 +104,7 @@ pub record PromisesLaw (left right : Promise) (gs hs : List Pauli) : Type 0 wher
   pub same-order : partialCmp left right gs hs ≡ partialCmp Promise.none Promise.none gs hs
   pub same-remainder : modulo right gs hs ≡ modulo Promise.none gs hs
   pub same-quotient : tryQuotient left right gs hs ≡ tryQuotient Promise.none Promise.none gs hs
+  pub same-common : bitand left right gs hs ≡ bitand Promise.none Promise.none gs hs
 
 -- 10. Modulo: p is g times an element of the group of hs
 pub record Coset (hs : List Pauli) (g p : Pauli) : Type 0 where
@@ -147,6 +150,48 @@ pub record SymplecticLaw (gs : List Pauli) : Type 0 where
   pub else-commute : (i j : ℕ) → i < j → j < length gs → ((h : ℕ) → h < pairs → i ≡ 2 * h → j ≡ 2 * h + 1 → ⊥)
       → anticommute (getD (symplecticForm gs) i I) (getD (symplecticForm gs) j I) ≡ 0
 
+-- 13. Common rows: of matrices of c columns, independent rows that span what both row spaces have, no more than the rows of either
+pub record CommonRowsLaw (c : ℕ) (A B : List ℕ) : Type 0 where
+  pub there : (v : ℕ) → RowSpace (commonRows c A B) v → RowSpace A v × RowSpace B v
+  pub back : (v : ℕ) → RowSpace A v → RowSpace B v → RowSpace (commonRows c A B) v
+  pub independent : Independent (commonRows c A B)
+  pub count : length (commonRows c A B) ≤ min (length A) (length B)
+
+-- so do the rows of the common basis for the rows of the two lists, with any promises or none
+pub record CommonBasisLaw (gs hs : List Pauli) : Type 0 where
+  pub there : let rows = map (rowOf (supportOf (gs ++ hs))) in
+      (v : ℕ) → RowSpace (rows (commonBasis gs hs)) v → RowSpace (rows gs) v × RowSpace (rows hs) v
+  pub back : let rows = map (rowOf (supportOf (gs ++ hs))) in
+      (v : ℕ) → RowSpace (rows gs) v → RowSpace (rows hs) v → RowSpace (rows (commonBasis gs hs)) v
+  pub independent : Independent (map (rowOf (supportOf (gs ++ hs))) (commonBasis gs hs))
+  pub count : length (commonBasis gs hs) ≤ min (length (standard gs)) (length (standard hs))
+  pub on-support : All (PauliOn (supportOf (gs ++ hs))) (commonBasis gs hs)
+  -- the common part has at most that many elements and four phases, on the same qubits, with exponents 0 to 3
+  pub part-count : (left right : Promise) → length (commonPart left right gs hs) ≤ length (commonBasis gs hs) + 4
+  pub part-on : (left right : Promise) → All (PauliOn (supportOf (gs ++ hs))) (commonPart left right gs hs)
+  pub part-values : (left right : Promise) → All (λ p. p .e < 4) (commonPart left right gs hs)
+  -- what is returned keeps within the limits of a roll, if the two lists joined do
+  pub result-on : (left right : Promise) → All (PauliOn (supportOf (gs ++ hs))) (bitand left right gs hs)
+  pub result-count : (left right : Promise) → length gs + length hs ≤ mostPaulis → length (bitand left right gs hs) ≤ mostPaulis
+
+-- 14. Common part, with absent or true promises: what is returned generates a subgroup of both. It may be smaller than the true
+-- common part: a Pauli is dropped exactly when no power of i times it is in both groups
+pub record CommonLaw (left right : Promise) (gs hs : List Pauli) : Type 0 where
+  pub in-left : Inside (bitand left right gs hs) gs
+  pub in-right : Inside (bitand left right gs hs) hs
+  -- of two groups of which one is inside the other it is the lesser
+  pub inside-left : Inside gs hs → bitand left right gs hs ≡ gs
+  pub inside-right : Inside hs gs → (Inside gs hs → ⊥) → bitand left right gs hs ≡ hs
+  pub else-part : (Inside gs hs → ⊥) → (Inside hs gs → ⊥) → bitand left right gs hs ≡ commonPart left right gs hs
+  -- a shared phase is one in both groups
+  pub shared : (p q : Pauli) → commonPhase left right gs hs p ≡ some q → (q .x ≡ p .x) × (q .z ≡ p .z) × Generated gs q × Generated hs q
+  pub dropped : (p : Pauli) → commonPhase left right gs hs p ≡ none → (k : ℕ) → Generated gs (turned k p) → Generated hs (turned k p) → ⊥
+  -- every power of i in both groups is in what is returned
+  pub phases : (k : ℕ) → Generated gs (turned k I) → Generated hs (turned k I) → Generated (bitand left right gs hs) (turned k I)
+  -- and where no basis element is dropped, it is the true common part
+  pub whole : All (λ p. commonPhase left right gs hs p ≡ none → ⊥) (commonBasis gs hs)
+      → (p : Pauli) → Generated gs p → Generated hs p → Generated (bitand left right gs hs) p
+
 -- all of these
 pub record GroupLaws : Type 0 where
   pub standard-law : (gs : List Pauli) → StandardLaw gs
@@ -165,3 +210,6 @@ pub record GroupLaws : Type 0 where
   pub quotient-law : (promise divisorPromise : Promise) (gs hs : List Pauli) → Honest promise gs → Honest divisorPromise hs
       → QuotientLaw promise divisorPromise gs hs
   pub symplectic-law : (gs : List Pauli) → SymplecticLaw gs
+  pub common-rows-law : (c : ℕ) (A B : List ℕ) → All (λ v. v < 2 ^ c) A → All (λ v. v < 2 ^ c) B → CommonRowsLaw c A B
+  pub common-basis-law : (gs hs : List Pauli) → CommonBasisLaw gs hs
+  pub common-law : (left right : Promise) (gs hs : List Pauli) → Honest left gs → Honest right hs → CommonLaw left right gs hs
