@@ -69,8 +69,10 @@ multiplied-value isX place other g h e =
   where
     same-x : normal g ≡ normal h → g .x ≡ h .x
     same-x f = ap (λ (r : Pauli). r .x) f
+
     same-z : normal g ≡ normal h → g .z ≡ h .z
     same-z f = ap (λ (r : Pauli). r .z) f
+
     go : (k : ℕ) → normal (ifBit k (times g other) g) ≡ normal (ifBit k (times h other) h)
     go zero = e
     go (suc k) = ap normal (sym (times-normal-l g other) ∙ ap (λ (r : Pauli). times r other) e ∙ times-normal-l h other)

@@ -86,7 +86,26 @@ fn order_by(a: GroupRanks, b: GroupRanks, both: GroupRanks) -> Order
     Order::NoOrder
 }
 
-// Compares the groups of two accepted rolls of nl and nr Paulis, which can be joined, and clears the work area.
+// How the groups of two accepted rolls of nl and nr Paulis, which can be joined, compare.
+pub(crate) fn order_of(
+    left: &[u8],
+    nl: usize,
+    right: &[u8],
+    nr: usize,
+    left_promise: Promise,
+    right_promise: Promise,
+    w: &mut [u64],
+) -> Order
+    requires { ⌜ (countOf (now left) ≡ answer nl) × (countOf (now right) ≡ answer nr) × (nl + nr ≤ 128) × (length (support (listOf (now left) ++ listOf (now right))) ≤ mostQubits) × (length (now w) ≡ 4096) ⌝ }
+    ensures { λ r. ⌜ orderOf r ≡ partialCmp (promiseOf «left_promise») (promiseOf «right_promise») (paulis (listOf (now (left .entry)))) (paulis (listOf (now (right .entry)))) ⌝ }
+{
+    let a = describe(left, nl, left_promise, w);
+    let b = describe(right, nr, right_promise, w);
+    let both = describe_two(left, nl, right, nr, w);
+    order_by(ranks_of(a), ranks_of(b), ranks_of(both))
+}
+
+// The same, and clears the work area.
 fn compare(
     left: &[u8],
     nl: usize,
@@ -100,11 +119,9 @@ fn compare(
     ensures told { λ r. ⌜ orderOf r ≡ partialCmp (promiseOf «left_promise») (promiseOf «right_promise») (paulis (listOf (now (left .entry)))) (paulis (listOf (now (right .entry)))) ⌝ }
     ensures area { λ _. ⌜ now (w .exit) ≡ cleared (now (w .entry)) ⌝ }
 {
-    let a = describe(left, nl, left_promise, w);
-    let b = describe(right, nr, right_promise, w);
-    let both = describe_two(left, nl, right, nr, w);
+    let order = order_of(left, nl, right, nr, left_promise, right_promise, w);
     clear_bits(w, 0, WORK_WORDS);
-    order_by(ranks_of(a), ranks_of(b), ranks_of(both))
+    order
 }
 
 // Compares the groups of two lists: each may have a promise, and the two joined have none.

@@ -57,7 +57,7 @@ loop-again c =
     let same = c .before .before .before .before .before .load .ensures ∙ ap normal (pauli-kept-after (l .inv .2) _ (omega arith) ∙ sym (list-at first (s .args .base) (s .args .n) (l .i) I (c .before .before .before .before .before .before .before .loop-test .taken))) in (
       omega arith,
       stored-step _ _ _ _ _ _ _ (l .inv .1) (length-list first (s .args .base) (s .args .n)) I _ (c .before .before .before .before .before .before .before .loop-test .taken) (s .pre .0)
-      (c .before .before .before .multiplied .ensures ∙ multiplied-value _ _ _ _ _ same) _ (c .before .before .store .ensures),
+          (c .before .before .before .multiplied .ensures ∙ multiplied-value _ _ _ _ _ same) _ (c .before .before .store .ensures),
       store-further first (l .w) (s .args .base) (l .i) _ (l .inv .2) _ (c .before .before .store .ensures),
     )
 

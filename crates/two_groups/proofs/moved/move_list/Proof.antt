@@ -60,7 +60,7 @@ loop-again c =
     let at = kept-at _ _ _ _ _ _ _ (l .inv .1 .rest) (s .pre .0) (c .before .before .before .before .before .before .before .loop-test .taken) in (
       omega arith,
       stored-step _ _ _ _ _ _ _ (l .inv .1) (length-list first (s .args .base) (s .args .n)) I _ (c .before .before .before .before .before .before .before .loop-test .taken) (s .pre .1)
-      (moved-value _ _ (c .before .before .before .before .before .load .ensures ∙ ap normal at) _ _ _ (c .before .before .before .move-pauli .ensures)) _ (c .before .before .store .ensures),
+          (moved-value _ _ (c .before .before .before .before .before .load .ensures ∙ ap normal at) _ _ _ (c .before .before .before .move-pauli .ensures)) _ (c .before .before .store .ensures),
     )
 
 same-length : tie.Need-same-length Inv-loop μ-loop

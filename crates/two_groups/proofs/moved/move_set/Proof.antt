@@ -50,9 +50,9 @@ loop-again c =
     let l = c .before .before .before .loop in (
       omega arith,
       ⊎-elim
-      (λ h. ap setIn (h .4) ∙ move-with _ _ _ _ _ (s .pre .2) (s .pre .1) (s .pre .3) (s .pre .5) _ _ (c .before .before .loop-test .taken) (sym (c .before .index .ensures) ∙ h .0 .taken) (h .1 .ensures) _ _ _ (l .inv .1) (h .2 .ensures) (h .3 .ensures))
-      (λ h. ap setIn (h .1) ∙ move-without _ _ _ _ _ (s .pre .2) (s .pre .1) (s .pre .3) (s .pre .5) _ _ (omega (arith, bit-lt (setIn (s .args .set)) (l .i), c .before .index .ensures, h .0 .left)) (l .inv .1))
-      (c .if1 .came),
+          (λ h. ap setIn (h .4) ∙ move-with _ _ _ _ _ (s .pre .2) (s .pre .1) (s .pre .3) (s .pre .5) _ _ (c .before .before .loop-test .taken) (sym (c .before .index .ensures) ∙ h .0 .taken) (h .1 .ensures) _ _ _ (l .inv .1) (h .2 .ensures) (h .3 .ensures))
+          (λ h. ap setIn (h .1) ∙ move-without _ _ _ _ _ (s .pre .2) (s .pre .1) (s .pre .3) (s .pre .5) _ _ (omega (arith, bit-lt (setIn (s .args .set)) (l .i), c .before .index .ensures, h .0 .left)) (l .inv .1))
+          (c .if1 .came),
     )
 
 returns : tie.Need-returns Inv-loop μ-loop

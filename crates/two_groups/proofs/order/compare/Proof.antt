@@ -1,56 +1,20 @@
-use Rattle.pauli.specs.Condense.{listOf}
-use Rattle.pauli_theory.specs.Group.{none}
-use Rattle.pauli_theory.specs.Order.{ranksOf}
+use mathlib.Core.Path.{_∙_}
 use Rattle.standard_form.proofs.GroupedLaws.{cleared-whole}
-use Rattle.two_groups.proofs.OrderLaws.{step-positive, ranks-are, compared}
-use Rattle.standard_form.proofs.GroupLaws.{paulis-append}
-use Rattle.standard_form.specs.Groups.{paulis}
-use mathlib.Core.Path.{_≡_, sym, ap, _∙_}
 use borrow.Author.Needs.{needs}
 use Rattle.two_groups.proofs.order.compare.Statement.{statement}
 use Rattle.two_groups.proofs.order.compare.Tie as tie
 
-describe-requires : tie.Need-describe-requires
-describe-requires c κs = search needs
-
-describe-requires-2 : tie.Need-describe-requires-2
-describe-requires-2 c κs = search needs
-
-describe-two-requires : tie.Need-describe-two-requires
-describe-two-requires c κs = search needs
+order-of-requires : tie.Need-order-of-requires
+order-of-requires c κs = search needs
 
 clear-bits-requires : tie.Need-clear-bits-requires
 clear-bits-requires c κs = search needs
-
-ranks-of-requires : tie.Need-ranks-of-requires
-ranks-of-requires c κs = step-positive (c .before .before .before .before .before .before .before .before .before .before .before .before .before .before .describe .ensures)
-
-ranks-of-requires-2 : tie.Need-ranks-of-requires-2
-ranks-of-requires-2 c κs = step-positive (c .before .before .before .before .before .before .before .before .before .before .before .describe2 .ensures)
-
-ranks-of-requires-3 : tie.Need-ranks-of-requires-3
-ranks-of-requires-3 c κs = step-positive (c .before .before .before .before .before .before .before .before .describe-two .ensures)
-
-order-by-requires : tie.Need-order-by-requires
-order-by-requires c κs = search needs
 
 same-length : tie.Need-same-length
 same-length c = search needs
 
 returns : tie.Need-returns
-returns c = let s = c .before .before .before .before .before .before .before .before .before .before .before .before .before .before .before .before .before .before .before .before .before .before .before in let size = c .before .before .before .before .before .before .before .before .before .before .describe-two .kept .1 .1 .1 .1 .0 ∙ c .before .before .before .before .before .before .before .before .before .before .before .before .before .before .describe2 .kept .1 .1 .1 .0 ∙ c .before .before .before .before .before .before .before .before .before .before .before .before .before .before .before .before .before .before .describe .kept .1 .1 .1 .0 ∙ s .pre .4 in (c .order-by .ensures ∙ compared _ _ _ _ _ _ _ (ranks-are (c .before .before .before .before .before .before .before .before .before .before .before .before .before .before .before .before .before .before .describe .ensures) _ _ (c .before .before .before .ranks-of .ensures .0) (c .before .before .before .ranks-of .ensures .1)) (ranks-are (c .before .before .before .before .before .before .before .before .before .before .before .before .before .before .describe2 .ensures) _ _ (c .before .before .ranks-of2 .ensures .0) (c .before .before .ranks-of2 .ensures .1)) (ranks-are (c .before .before .before .before .before .before .before .before .before .before .describe-two .ensures) _ _ (c .before .ranks-of3 .ensures .0) (c .before .ranks-of3 .ensures .1) ∙ ap (ranksOf none) (paulis-append (listOf (s .args .left .now)) (listOf (s .args .right .now)))), c .before .before .before .before .before .before .clear-bits .ensures ∙ cleared-whole _ (s .args .w .now) size (s .pre .4))
+returns c = let s = c .before .before .before .before .before .before .before .before .before .before .before in (c .before .before .before .before .before .before .order-of .ensures, c .before .before .clear-bits .ensures ∙ cleared-whole _ (s .args .w .now) (c .before .before .before .before .before .before .order-of .kept .1 .1 .1 .1 .1 .1 .0 ∙ s .pre .4) (s .pre .4))
 
 pub compare-spec : {M : Type 1} → statement M
-compare-spec =
-    tie.close
-    (tie.spec
-    describe-requires
-    describe-requires-2
-    describe-two-requires
-    clear-bits-requires
-    ranks-of-requires
-    ranks-of-requires-2
-    ranks-of-requires-3
-    order-by-requires
-    same-length
-    returns)
+compare-spec = tie.close (tie.spec order-of-requires clear-bits-requires same-length returns)
