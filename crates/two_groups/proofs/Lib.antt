@@ -1,3 +1,5 @@
 pub mod OrderLaws
+pub mod PairLaws
 pub mod MoveLaws
 pub mod RemainderLaws
+pub mod ModuloLaws

@@ -1,6 +1,7 @@
 -- Comparison by numbers of phases and ranks.
+use mathlib.Core.Bool.{Bool, true, false}
 use Prim.Native.Nat.{ℕ}
-use Rattle.pauli_theory.specs.Order.{Order, Ranks, and, sameRanks, noMore, firstOf}
+use Rattle.pauli_theory.specs.Order.{Order, equal, less, greater, noOrder, Ranks, and, sameRanks, noMore, firstOf}
 use Rattle.two_groups.specs.declared.order.GroupRanks.{GroupRanks}
 
 -- the numbers that the code holds
@@ -10,3 +11,10 @@ ranksIn a = record { phases = a .phases; rank = a .rank }
 -- the order of two groups, by their numbers and those of the two joined
 unfoldable pub orderBy : Ranks → Ranks → Ranks → Order
 orderBy a b both = firstOf (and (sameRanks a b) (sameRanks a both)) (and (noMore a b) (sameRanks b both)) (sameRanks a both)
+
+-- "neither less nor equal"
+abbrev pub isBelow : Order → Bool
+isBelow equal = true
+isBelow less = true
+isBelow greater = false
+isBelow noOrder = false

@@ -1,14 +1,18 @@
 -- The remainder of a list by another, in the work area.
 use mathlib.Core.Path.{_≡_}
-use mathlib.Core.List.{List, map, List·Memᴰ as Mem}
+use mathlib.Core.List.{List, _++_, map, List·Memᴰ as Mem}
 use Prim.Native.Nat.{ℕ, _+_, _*_, _≤_, _<_}
 use lib.ListN.{length, getD, take, drop}
 use Rattle.rolls.specs.RollTheorems.{Rising}
+use Rattle.pauli.specs.Condense.{condensed}
 use Rattle.pauli.specs.Pauli.{Pauli}
 use Rattle.pauli.specs.Signed.{listIn}
 use Rattle.pauli.specs.Writing.{OnPlaces}
+use Rattle.pauli_theory.specs.Group.{Promise}
+use Rattle.pauli_theory.specs.Modulo.{modulo}
 use Rattle.pauli_theory.specs.ModuloPlaces.{movedPauli, multipliedByAllOver}
-use Rattle.standard_form.specs.Area.{standardAt, strideOf}
+use Rattle.pauli_theory.specs.Standard.{supportOf}
+use Rattle.standard_form.specs.Area.{standardAt, spareAt, strideOf}
 
 -- the form and the standard generators of a list of n in the area x, over the places of own, whose numbers are all in qs
 pub record Other (own qs x : List ℕ) (n rank total : ℕ) : Type 0 where
@@ -25,3 +29,9 @@ pub record Other (own qs x : List ℕ) (n rank total : ℕ) : Type 0 where
 unfoldable pub remainderBy : List ℕ → List ℕ → List ℕ → ℕ → ℕ → ℕ → List Pauli → List Pauli
 remainderBy own qs x n rank total gs =
     multipliedByAllOver own qs (map (movedPauli own qs) (listIn x standardAt total)) (take rank (drop (n * strideOf n) x)) gs
+
+-- the remainder of gs by hs, r Paulis over the places of the joined support, is the further list of the area x
+pub record Remainder (promise : Promise) (gs hs : List Pauli) (x : List ℕ) (r : ℕ) : Type 0 where
+  pub count : r ≡ length (modulo promise gs hs)
+  pub few : r ≤ 128
+  pub list : listIn x spareAt r ≡ map (condensed (supportOf (gs ++ hs))) (modulo promise gs hs)

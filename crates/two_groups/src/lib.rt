@@ -8,3 +8,5 @@ pub mod order;
 pub(crate) mod moved;
 // The call for the remainder.
 pub mod modulo;
+// The call for the quotient.
+pub mod quotient;

@@ -3,7 +3,7 @@ ghost use mathlib.Core.Path.{_≡_};
 ghost use mathlib.Core.List.{_++_, map};
 ghost use Prim.Native.Nat.{_+_, _*_, _^_, _≤_, _<_};
 ghost use lib.ListN.{length, take};
-ghost use Rattle.rolls.specs.Roll.{mostQubits, support, countOf};
+ghost use Rattle.rolls.specs.Roll.{mostQubits, support, countOf, write};
 ghost use Rattle.rolls.specs.RollTheorems.{All};
 ghost use Rattle.rolls.specs.Told.{answer};
 ghost use Rattle.pauli.specs.Answers.{toldWrote};
@@ -11,13 +11,15 @@ ghost use Rattle.pauli.specs.Condense.{listOf};
 ghost use Rattle.pauli.specs.Pauli.{normal};
 ghost use Rattle.pauli.specs.Signed.{held, listIn};
 ghost use Rattle.pauli.specs.Writing.{toldBytes, leftIn};
+ghost use Rattle.pauli.specs.Sets.{sparseOf};
+ghost use Rattle.pauli_theory.specs.Modulo.{modulo};
 ghost use Rattle.pauli_theory.specs.ModuloPlaces.{multipliedAt};
+ghost use Rattle.pauli_theory.specs.Standard.{supportOf};
 ghost use Rattle.standard_form.specs.Area.{spareAt, cleared, Outside};
 ghost use Rattle.standard_form.specs.Groups.{paulis};
 ghost use Rattle.standard_form.specs.Promises.{promiseOf};
-ghost use Rattle.two_groups.specs.Calls.{moduloBytes};
 ghost use Rattle.two_groups.specs.Contracts.{ModuloCall};
-ghost use Rattle.two_groups.specs.Remainder.{Other, remainderBy};
+ghost use Rattle.two_groups.specs.Remainder.{Other, remainderBy, Remainder};
 use crate::moved::move_list;
 use crate::moved::move_pauli;
 use binar::row::clear_bits;
@@ -99,4 +101,88 @@ fn multiply_all(
         multiply_at(w, SPARE, m, pivot < places, place, moved);
         k += 1;
     }
+}
+
+// Leaves the remainder of the left list by the right one in the further list, over the places of the joined support; tells how many
+// Paulis it has.
+fn remainder(
+    left: &[u8],
+    nl: usize,
+    right: &[u8],
+    nr: usize,
+    promise: Promise,
+    joined: &[u32],
+    size: usize,
+    w: &mut [u64],
+) -> usize
+    requires { ⌜ (countOf (now left) ≡ answer nl) × (countOf (now right) ≡ answer nr) × (size ≤ 128) × (size ≤ length (now joined)) × (take size (now joined) ≡ supportOf (paulis (listOf (now left)) ++ paulis (listOf (now right)))) × (length (now w) ≡ 4096) ⌝ }
+    ensures { λ r. ⌜ Remainder (promiseOf promise) (paulis (listOf (now (left .entry)))) (paulis (listOf (now (right .entry)))) (now (w .exit)) r ⌝ }
+{
+    let mut own = [0u32; 129];
+    let a = group_of(left, nl, &mut own, w);
+    move_list(w, STANDARD, SPARE, a.total, &own, a.places, joined, size);
+    let mut other = [0u32; 129];
+    let b = group_of(right, nr, &mut other, w);
+    let signs = signs_of(w, b.total, promise);
+    multiply_all(w, a.total, nr, b, &other, joined, size);
+    take_mod(w, SPARE, a.total, signs.step);
+    a.total
+}
+
+// Writes the remainder of two accepted rolls of nl and nr Paulis, which can be joined, and clears the work area.
+pub(crate) fn write_modulo(
+    left: &[u8],
+    nl: usize,
+    right: &[u8],
+    nr: usize,
+    promise: Promise,
+    w: &mut [u64],
+    out: &mut [u8],
+) -> Wrote
+    requires { ⌜ (countOf (now left) ≡ answer nl) × (countOf (now right) ≡ answer nr) × (length (support (listOf (now left) ++ listOf (now right))) ≤ mostQubits) × (length (now w) ≡ 4096) ⌝ }
+    ensures told { λ r. ⌜ toldWrote r ≡ toldBytes (answer (write (map sparseOf (modulo (promiseOf promise) (paulis (listOf (now (left .entry)))) (paulis (listOf (now (right .entry)))))))) (now (out .entry)) ⌝ }
+    ensures left { λ _. ⌜ now (out .exit) ≡ leftIn (answer (write (map sparseOf (modulo (promiseOf promise) (paulis (listOf (now (left .entry)))) (paulis (listOf (now (right .entry)))))))) (now (out .entry)) ⌝ }
+    ensures area { λ _. ⌜ now (w .exit) ≡ cleared (now (w .entry)) ⌝ }
+{
+    let mut joined = [0u32; 129];
+    let size = join_support(left, nl, right, nr, &mut joined);
+    let count = remainder(left, nl, right, nr, promise, &joined, size, w);
+    let wrote = write_roll(w, SPARE, count, &joined, size, out);
+    clear_bits(w, 0, WORK_WORDS);
+    wrote
+}
+
+// The remainder of the left list by the right one. Each list may have a promise; the left one's is not read.
+pub fn modulo(
+    left: &[u8],
+    right: &[u8],
+    left_promise: Promise,
+    right_promise: Promise,
+    work: &mut [u64],
+    out: &mut [u8],
+) -> Wrote
+    ensures { λ r. ⌜ ModuloCall (promiseOf «right_promise») (now (left .entry)) (now (right .entry)) (now (work .entry)) (now (out .entry)) r (now (work .exit)) (now (out .exit)) ⌝ }
+{
+    let found = joined_counts(left, right);
+    let counts = match found {
+        CountsFound::Refused(r) => {
+            return Wrote::Refused(r);
+        }
+        CountsFound::Counts(counts) => counts,
+    };
+    if work.len() < WORK_WORDS {
+        return Wrote::Refused(Refusal {
+            reason: Reason::Work,
+            place: 0,
+        });
+    }
+    write_modulo(
+        left,
+        counts.left,
+        right,
+        counts.right,
+        right_promise,
+        &mut work[..WORK_WORDS],
+        out,
+    )
 }
