@@ -3,3 +3,4 @@ pub mod PairLaws
 pub mod MoveLaws
 pub mod RemainderLaws
 pub mod ModuloLaws
+pub mod QuotientLaws

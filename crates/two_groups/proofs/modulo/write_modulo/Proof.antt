@@ -61,8 +61,10 @@ returns c =
     let roll = remainder-written (c .before .before .before .before .before .before .before .before .before .before .before .before .remainder .ensures) _ joint in
     let write = c .before .before .before .before .before .before .write-roll .ensures in (
       write .0 ∙ ap (λ b. toldBytes (answer b) (s .args .out .now)) roll,
-      (write .1 ∙ ap (λ b. leftIn (answer b) (s .args .out .now)) roll,
-      c .before .before .clear-bits .ensures ∙ cleared-whole _ (s .args .w .now) (c .before .before .before .before .before .before .before .before .before .before .before .before .remainder .kept .1 .1 .1 .1 .1 .1 .1 .0 ∙ s .pre .3) (s .pre .3)),
+      (
+        write .1 ∙ ap (λ b. leftIn (answer b) (s .args .out .now)) roll,
+        c .before .before .clear-bits .ensures ∙ cleared-whole _ (s .args .w .now) (c .before .before .before .before .before .before .before .before .before .before .before .before .remainder .kept .1 .1 .1 .1 .1 .1 .1 .0 ∙ s .pre .3) (s .pre .3),
+      ),
     )
 
 pub write-modulo-spec : {M : Type 1} → statement M

@@ -1,48 +1,63 @@
+use native.Mathlib.Omega.{arith}
+use mathlib.Core.Path.{_≡_, sym, ap, _∙_}
+use Prim.Native.Nat.{_+_, _≤_}
+use Rattle.rolls.specs.Roll.{mostQubits}
+use Rattle.rolls.specs.Told.{refused}
+use Rattle.pauli.specs.Condense.{listOf}
+use Rattle.pauli.specs.Writing.{toldBytes, leftIn}
+use Rattle.standard_form.specs.Area.{cleared}
+use Rattle.standard_form.proofs.GroupedLaws.{cleared-whole}
+use Rattle.two_groups.specs.Answers.{orderOf}
+use Rattle.two_groups.proofs.QuotientLaws.{swapped-few, quotient-none, quotient-some}
 use borrow.Author.Needs.{needs}
 use Rattle.two_groups.proofs.quotient.write_quotient.Statement.{statement}
 use Rattle.two_groups.proofs.quotient.write_quotient.Tie as tie
-use Rattle.two_groups.proofs.quotient.write_quotient.Reads as reads
-use Rattle.two_groups.proofs.quotient.write_quotient.Lts as lts
-use Rattle.binar.proofs.row.clear_bits.Reads as clear-bits-reads
-use Rattle.two_groups.proofs.modulo.write_modulo.Reads as write-modulo-reads
-use Rattle.two_groups.proofs.order.order_of.Reads as order-of-reads
-use Rattle.two_groups.proofs.quotient.is_below.Reads as is-below-reads
 
--- src/quotient.rt:60:9
 order-of-requires : tie.Need-order-of-requires
-order-of-requires c κs = ?
+order-of-requires c κs = let s = c .before .before .before .before .before in (s .pre .1, s .pre .0, omega (arith, s .pre .2), swapped-few (listOf (s .args .left .now)) (listOf (s .args .right .now)) mostQubits (s .pre .3), s .pre .4)
 
--- src/quotient.rt:61:9
 is-below-requires : tie.Need-is-below-requires
 is-below-requires c κs = search needs
 
--- src/quotient.rt:62:9
 clear-bits-requires : tie.Need-clear-bits-requires
-clear-bits-requires c κs = search needs
+clear-bits-requires c κs = let s = c .before .before .before .before .before .before .before .before .before .before .before in omega (arith, c .before .before .before .before .before .order-of .kept .1 .1 .1 .1 .1 .1 .0, s .pre .4)
 
--- src/quotient.rt:63:9
 same-length : tie.Need-same-length
-same-length c = search needs
+same-length c = c .before .before .clear-bits .kept .0 ∙ c .before .before .before .before .before .before .before .before .order-of .kept .1 .1 .1 .1 .1 .1 .0
 
--- src/quotient.rt:63:9
 returns : tie.Need-returns
-returns c = ?
+unfolding toldBytes leftIn
+returns c =
+    let s = c .before .before .before .before .before .before .before .before .before .before .before .before .before .before in
+    let none = quotient-none _ _ _ _ _ (c .before .before .before .before .before .before .before .before .order-of .ensures) _ (c .before .before .before .before .before .is-below .ensures) (c .before .before .before .before .if1 .taken) in (
+      sym (ap (λ t. toldBytes t (s .args .out .now)) none),
+      (
+        sym (ap (λ t. leftIn t (s .args .out .now)) none),
+        c .before .before .clear-bits .ensures ∙ cleared-whole _ (s .args .w .now) (c .before .before .before .before .before .before .before .before .order-of .kept .1 .1 .1 .1 .1 .1 .0 ∙ s .pre .4) (s .pre .4),
+      ),
+    )
 
--- src/quotient.rt:68:5
 write-modulo-requires : tie.Need-write-modulo-requires
-write-modulo-requires c κs = search needs
+write-modulo-requires c κs = let s = c .before .before .before .before .before .before .before .before .before .before .before .before in (s .pre .0, s .pre .1, s .pre .3, c .before .before .before .before .before .before .order-of .kept .1 .1 .1 .1 .1 .1 .0 ∙ s .pre .4)
 
--- src/quotient.rt:45:1
 same-length-2 : tie.Need-same-length-2
-same-length-2 c = search needs
+same-length-2 c = c .before .before .before .before .write-modulo .kept .1 .1 .1 .1 .1 .0 ∙ c .before .before .before .before .before .before .before .before .before .before .before .order-of .kept .1 .1 .1 .1 .1 .1 .0
 
--- src/quotient.rt:45:1
 same-length-3 : tie.Need-same-length-3
-same-length-3 c = search needs
+same-length-3 c = c .before .before .before .before .write-modulo .kept .1 .1 .1 .1 .1 .1 .0
 
--- src/quotient.rt:45:1
 returns-2 : tie.Need-returns-2
-returns-2 c = ?
+unfolding cleared
+returns-2 c =
+    let s = c .before .before .before .before .before .before .before .before .before .before .before .before .before .before .before .before .before in
+    let some = quotient-some _ _ _ _ _ (c .before .before .before .before .before .before .before .before .before .before .before .order-of .ensures) _ (c .before .before .before .before .before .before .before .before .is-below .ensures) (c .before .before .before .before .before .before .before .if1 .left) in
+    let write = c .before .before .before .before .write-modulo .ensures in (
+      write .0 ∙ sym (ap (λ t. toldBytes t (s .args .out .now)) some),
+      (
+        write .1 .0 ∙ sym (ap (λ t. leftIn t (s .args .out .now)) some),
+        write .1 .1 ∙ cleared-whole _ (s .args .w .now) (c .before .before .before .before .before .before .before .before .before .before .before .order-of .kept .1 .1 .1 .1 .1 .1 .0 ∙ s .pre .4) (s .pre .4),
+      ),
+    )
 
 pub write-quotient-spec : {M : Type 1} → statement M
 write-quotient-spec =
