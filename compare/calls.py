@@ -194,6 +194,8 @@ def listing_result(r, answer, early):
 
 def answered(r, answer):
     """The result where nothing is refused, by the oracle's first answer."""
+    if answer in ("bad", "panic"):
+        return Result(answer, b"")
     if r.op == 0:
         return Result(f"count {len(roll.read(r.first))}", b"")
     if r.op in (2, 3, 4, 5, 6):

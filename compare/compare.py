@@ -1,5 +1,5 @@
 #!/usr/bin/env python3
-"""compare.py ORACLE REPLAY [--seed S] [--count N] [--damaged N] [--generators G] [--qubits Q] [--kinds A,B] [--vectors FOLDER] [--bad] [--built FOLDER]
+"""compare.py ORACLE REPLAY [--seed S] [--count N] [--damaged N] [--generators G] [--qubits Q] [--kinds A,B] [--lines REQUESTS LINES] [--bad] [--built FOLDER]
 
 Makes random requests with the oracle's generator, N of each kind, answers them with the oracle (the Rust) and with the program
 replay, and compares every line. ORACLE is the oracle's folder, REPLAY the program (target/bin/replay after `rt check replay`).
@@ -8,7 +8,7 @@ Each call is lent an output of the size of its answer or a few bytes more, and 4
 --damaged N: N further requests of each kind with damaged rolls, numbers past a list, short areas and outputs, and lists at the limits.
 The refusal, its number and its place come from document 01's table (roll.py, calls.py), every other line from the oracle; the oracle
 must answer `bad` exactly where the table refuses with 1 to 8 or 10.
---vectors FOLDER: the supplied lines of FOLDER (base.bin, base.txt) are compared with those made here and with the program's.
+--lines REQUESTS LINES: the lines of a file, one for each request of another, are compared with those made here and with the program's.
 --bad: requests outside the program's bounds, each after a good one.
 
 Prints how many requests of each kind were compared, damaged ones by refusal; ends with status 1 at the first line that differs.
@@ -71,10 +71,10 @@ def with_number(rng, r):
     return r._replace(a=rng.randrange(max(count, 1)))
 
 
-def made(op, args, gen, rng, count):
-    """Requests of the oracle's generator."""
+def made(op, gen, rng, count, generators, qubits):
+    """Requests of the oracle's generator, lists of at most so many generators on so many qubits."""
     seed = rng.randrange(2**32)
-    lines = run([gen, str(seed), CALLS[op].kind, str(count), str(args.generators), str(args.qubits)], b"").decode().split("\n")[:-1]
+    lines = run([gen, str(seed), CALLS[op].kind, str(count), str(generators), str(qubits)], b"").decode().split("\n")[:-1]
     return [with_number(rng, request_of(op, line)) for line in lines]
 
 
@@ -138,10 +138,12 @@ def compare_kind(op, args, programs):
     gen, oracle = programs
     name = CALLS[op].name
     rng = random.Random(f"{args.seed} {name}")
-    pairs = expected(rng, made(op, args, gen, rng, args.count), oracle, few_more)
+    sizes = args.generators, args.qubits
+    pairs = expected(rng, made(op, gen, rng, args.count, *sizes), oracle, few_more)
     compare(pairs, args.replay)
-    print(f"{name}: {len(pairs)} lines equal", flush=True)
-    requests = [damage.damaged(rng, r) for r in made(op, args, gen, rng, args.damaged)]
+    if pairs:
+        print(f"{name}: {len(pairs)} lines equal", flush=True)
+    requests = [damage.damaged(rng, r) for r in made(op, gen, rng, args.damaged, *sizes)]
     broken = expected(rng, requests, oracle, damage.output_for)
     compare(broken, args.replay)
     counts = collections.Counter(outcome(r, wanted) for r, wanted in broken)
@@ -150,20 +152,20 @@ def compare_kind(op, args, programs):
     return len(pairs), counts
 
 
-def compare_vectors(args, oracle):
-    """The supplied lines, those made here, and for the operations that replay has the program's."""
-    with open(os.path.join(args.vectors, "base.bin"), "rb") as file:
+def compare_lines(args, oracle):
+    """The lines of a file, those made here, and for the operations that replay has the program's."""
+    with open(args.lines[0], "rb") as file:
         requests = list(calls.requests_in(file.read()))
-    with open(os.path.join(args.vectors, "base.txt"), encoding="ascii") as file:
+    with open(args.lines[1], encoding="ascii") as file:
         lines = file.read().split("\n")[:-1]
     assert len(requests) == len(lines)
     for r, answers, line in zip(requests, calls.ask(oracle, requests), lines):
         mine = calls.line(r, calls.result(r, answers))
         if mine != line:
-            stop(r, "the supplied line differs from the one made here", mine, line)
+            stop(r, "the file's line differs from the one made here", mine, line)
     have = [(r, line) for r, line in zip(requests, lines) if r.op <= LAST]
     compare(have, args.replay)
-    print(f"supplied: {len(lines)} lines equal to those made here, {len(have)} to the program's")
+    print(f"{args.lines[1]}: {len(lines)} lines equal to those made here, {len(have)} to the program's")
 
 
 def compare_bad(args):
@@ -197,30 +199,39 @@ def arguments():
     parser.add_argument("--generators", type=int, default=6)
     parser.add_argument("--qubits", type=int, default=5)
     parser.add_argument("--kinds", default=",".join(call.name for op, call in CALLS.items() if op <= LAST))
-    parser.add_argument("--vectors")
+    parser.add_argument("--lines", nargs=2)
     parser.add_argument("--bad", action="store_true")
     parser.add_argument("--built")
     return parser.parse_args()
 
 
+def built_in(oracle, folder):
+    """The oracle's generator and the oracle, built in a folder."""
+    subprocess.run([os.path.join(oracle, "build.sh"), folder], check=True, stdout=subprocess.DEVNULL, stderr=subprocess.DEVNULL)
+    return [os.path.join(folder, "release", name) for name in ("gen", "oracle")]
+
+
+def compare_kinds(args, programs):
+    total, refused = 0, collections.Counter()
+    for name in args.kinds.split(","):
+        kept, counts = compare_kind(NAMES[name], args, programs)
+        total += kept
+        refused += counts
+    print(f"all {total} lines equal")
+    if args.damaged:
+        print(f"all {sum(refused.values())} lines of damaged requests equal; " + counted(refused))
+
+
 def main():
     args = arguments()
     with tempfile.TemporaryDirectory() as temporary:
-        built = args.built or temporary
-        subprocess.run([os.path.join(args.oracle, "build.sh"), built], check=True, stdout=subprocess.DEVNULL, stderr=subprocess.DEVNULL)
-        programs = [os.path.join(built, "release", name) for name in ("gen", "oracle")]
-        if args.vectors:
-            compare_vectors(args, programs[1])
+        programs = built_in(args.oracle, args.built or temporary)
+        if args.lines:
+            compare_lines(args, programs[1])
         if args.bad:
             compare_bad(args)
-        total, refused = 0, collections.Counter()
-        for name in args.kinds.split(","):
-            kept, counts = compare_kind(NAMES[name], args, programs)
-            total += kept
-            refused += counts
-        print(f"all {total} lines equal")
-        if args.damaged:
-            print(f"all {sum(refused.values())} lines of damaged requests equal; " + counted(refused))
+        if args.count or args.damaged:
+            compare_kinds(args, programs)
 
 
 if __name__ == "__main__":

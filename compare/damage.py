@@ -135,7 +135,7 @@ def of_size(rng, paulis):
 def near_joined_limit(rng, left, right):
     """Two rolls, each within its limits, that are together near a limit."""
     if rng.randrange(2):
-        total = rng.choice(LIMITS)
+        total = max(rng.choice(LIMITS), len(left) + len(right))
         count = rng.randrange(max(len(left), total - 128), min(128, total - len(right)) + 1)
         return padded(rng, left, count), padded(rng, right, total - count)
     qubits = rng.sample(range(65_536), rng.choice(LIMITS))
