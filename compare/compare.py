@@ -1,5 +1,6 @@
 #!/usr/bin/env python3
-"""compare.py ORACLE REPLAY [--seed S] [--count N] [--damaged N] [--generators G] [--qubits Q] [--kinds A,B] [--lines REQUESTS LINES] [--bad] [--built FOLDER]
+"""compare.py ORACLE REPLAY [--seed S] [--count N] [--damaged N] [--every] [--generators G] [--qubits Q] [--kinds A,B]
+           [--lines REQUESTS LINES] [--bad] [--built FOLDER]
 
 Makes random requests with the oracle's generator, N of each kind, answers them with the oracle (the Rust) and with the program
 replay, and compares every line. ORACLE is the oracle's folder, REPLAY the program (target/bin/replay after `rt check replay`).
@@ -8,6 +9,7 @@ Each call is lent an output of the size of its answer or a few bytes more, and 4
 --damaged N: N further requests of each kind with damaged rolls, numbers past a list, short areas and outputs, and lists at the limits.
 The refusal, its number and its place come from document 01's table (roll.py, calls.py), every other line from the oracle; the oracle
 must answer `bad` exactly where the table refuses with 1 to 8 or 10.
+--every: further one small request of each kind, its rolls cut at every place and every byte of them changed to every other value.
 --lines REQUESTS LINES: the lines of a file, one for each request of another, are compared with those made here and with the program's.
 --bad: requests outside the program's bounds, each after a good one.
 
@@ -24,12 +26,14 @@ import tempfile
 
 import calls
 import damage
+import roll
 from calls import CALLS, PROMISES, Request, unhex
-from roll import Refusal
+from roll import Pauli, Refusal
 
 LAST = 14  # the last operation that replay has
 NAMES = {call.name: op for op, call in CALLS.items()}
 LISTING_OUTPUT = 131_072
+BLOCK = 10_000
 
 
 def run(program, data):
@@ -133,23 +137,46 @@ def counted(counts):
 
 # ---- runs
 
+def small(op):
+    """A request on two small lists, for every operation."""
+    first = roll.write([Pauli(0, (0, 2), ()), Pauli(1, (1,), (1, 3))])
+    second = roll.write([Pauli(3, (2,), (0, 2))])
+    if op == 18:
+        return whole(op, first=struct.pack("<I", len(first)) + first + second)
+    return whole(op, first=first, second=second if CALLS[op].rolls == 2 else b"")
+
+
+def in_blocks(count):
+    """The numbers of requests that are held at once."""
+    return [min(BLOCK, count - k) for k in range(0, count, BLOCK)]
+
+
+def compare_damaged(requests, rng, args, oracle):
+    """The count of each refusal."""
+    pairs = expected(rng, requests, oracle, damage.output_for)
+    compare(pairs, args.replay)
+    return collections.Counter(outcome(r, wanted) for r, wanted in pairs)
+
+
 def compare_kind(op, args, programs):
     """Whole requests, then damaged ones."""
     gen, oracle = programs
     name = CALLS[op].name
     rng = random.Random(f"{args.seed} {name}")
     sizes = args.generators, args.qubits
-    pairs = expected(rng, made(op, gen, rng, args.count, *sizes), oracle, few_more)
-    compare(pairs, args.replay)
-    if pairs:
-        print(f"{name}: {len(pairs)} lines equal", flush=True)
-    requests = [damage.damaged(rng, r) for r in made(op, gen, rng, args.damaged, *sizes)]
-    broken = expected(rng, requests, oracle, damage.output_for)
-    compare(broken, args.replay)
-    counts = collections.Counter(outcome(r, wanted) for r, wanted in broken)
-    if broken:
-        print(f"{name}, damaged: {len(broken)} lines equal; " + counted(counts), flush=True)
-    return len(pairs), counts
+    for n in in_blocks(args.count):
+        compare(expected(rng, made(op, gen, rng, n, *sizes), oracle, few_more), args.replay)
+    if args.count:
+        print(f"{name}: {args.count} lines equal", flush=True)
+    counts = collections.Counter()
+    for n in in_blocks(args.damaged):
+        requests = [damage.damaged(rng, r) for r in made(op, gen, rng, n, *sizes)]
+        counts += compare_damaged(requests, rng, args, oracle)
+    if args.every:
+        counts += compare_damaged(list(damage.every(small(op))), rng, args, oracle)
+    if counts:
+        print(f"{name}, damaged: {sum(counts.values())} lines equal; " + counted(counts), flush=True)
+    return counts
 
 
 def compare_lines(args, oracle):
@@ -199,6 +226,7 @@ def arguments():
     parser.add_argument("--generators", type=int, default=6)
     parser.add_argument("--qubits", type=int, default=5)
     parser.add_argument("--kinds", default=",".join(call.name for op, call in CALLS.items() if op <= LAST))
+    parser.add_argument("--every", action="store_true")
     parser.add_argument("--lines", nargs=2)
     parser.add_argument("--bad", action="store_true")
     parser.add_argument("--built")
@@ -212,13 +240,10 @@ def built_in(oracle, folder):
 
 
 def compare_kinds(args, programs):
-    total, refused = 0, collections.Counter()
-    for name in args.kinds.split(","):
-        kept, counts = compare_kind(NAMES[name], args, programs)
-        total += kept
-        refused += counts
-    print(f"all {total} lines equal")
-    if args.damaged:
+    names = args.kinds.split(",")
+    refused = sum((compare_kind(NAMES[name], args, programs) for name in names), collections.Counter())
+    print(f"all {args.count * len(names)} lines equal")
+    if refused:
         print(f"all {sum(refused.values())} lines of damaged requests equal; " + counted(refused))
 
 
@@ -230,7 +255,7 @@ def main():
             compare_lines(args, programs[1])
         if args.bad:
             compare_bad(args)
-        if args.count or args.damaged:
+        if args.count or args.damaged or args.every:
             compare_kinds(args, programs)
 
 

@@ -258,6 +258,15 @@ def damaged(rng, r):
     return idle_fields(rng, r) if rng.randrange(3) == 0 else r
 
 
+def every(r):
+    """A request with each of its strings cut at every place, and with every byte of it changed to every other value."""
+    for name in ("first", "second")[:1 if r.op == 18 else CALLS[r.op].rolls]:
+        b = getattr(r, name)
+        for k in range(len(b)):
+            yield r._replace(**{name: b[:k]})
+            yield from (r._replace(**{name: b[:k] + bytes([value]) + b[k + 1:]}) for value in range(256) if value != b[k])
+
+
 def output_for(rng, size):
     """The bytes of output to lend for a result of so many bytes: the size, more, or less."""
     return max(rng.choice([size, size, size + rng.randrange(4), size - 1, size - 1 - rng.randrange(4), 0, rng.randrange(size + 1)]), 0)
