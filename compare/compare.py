@@ -242,7 +242,8 @@ def built_in(oracle, folder):
 def compare_kinds(args, programs):
     names = args.kinds.split(",")
     refused = sum((compare_kind(NAMES[name], args, programs) for name in names), collections.Counter())
-    print(f"all {args.count * len(names)} lines equal")
+    if args.count:
+        print(f"all {args.count * len(names)} lines equal")
     if refused:
         print(f"all {sum(refused.values())} lines of damaged requests equal; " + counted(refused))
 
