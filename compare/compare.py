@@ -196,22 +196,21 @@ def compare_lines(args, oracle):
 
 
 def compare_bad(args):
-    """Requests outside the bounds end the program after `bad request`; those at the bounds do not."""
+    """Requests outside the bounds end the program after `bad request`, also where one follows; those at the bounds do not."""
     good = Request(0, 0, 0, 1, 0, 0, 0, 0, b"\0\0", b"")
-    answer = "count 0; out - kept; work none\n"
+    answer = "count 0; out - kept; work none"
     outside = [good._replace(op=200), good._replace(op=255), good._replace(fill=0), good._replace(p=3), good._replace(q=3),
                good._replace(p=255), good._replace(out=262_145), good._replace(work=40_961), good._replace(out=2**32 - 1),
                good._replace(work=2**32 - 1), good._replace(first=bytes(262_145)), good._replace(second=bytes(262_145))]
-    whole_strings = good._replace(second=b"abc").raw()
-    cases = [r.raw() for r in outside] + [whole_strings[:k] for k in range(1, len(whole_strings))]
-    cases.append(struct.pack("<BBBBIIIIII", 0, 0, 0, 1, 0, 0, 0, 0, 2**32 - 1, 2**32 - 1))
+    strings = good._replace(second=b"abc").raw()
+    cases = [r.raw() + good.raw() for r in outside] + [strings[:k] for k in range(1, len(strings))]
+    cases.append(strings[:20] + b"\xff" * 8 + good.raw())
     for case in cases:
-        follows = good.raw() if len(case) >= 28 and case not in [whole_strings[:k] for k in range(28, len(whole_strings))] else b""
-        got = run([args.replay], good.raw() + case + follows).decode()
-        if got != answer + "bad request\n":
-            stop(good, f"a request outside the bounds: {case[:40].hex()}", answer + "bad request", got)
-    inside = [(good._replace(out=262_144, work=40_960), answer[:-1]), (good._replace(second=bytes(262_144)), answer[:-1]),
-              (good._replace(first=bytes(262_144)), "refused 1 at 0; out - kept; work none"), (good, answer[:-1])]
+        got = run([args.replay], good.raw() + case).decode()
+        if got != f"{answer}\nbad request\n":
+            stop(good, f"a request outside the bounds: {case[:40].hex()}", f"{answer}, bad request", got)
+    inside = [(good._replace(out=262_144, work=40_960), answer), (good._replace(second=bytes(262_144)), answer),
+              (good._replace(first=bytes(262_144)), "refused 1 at 0; out - kept; work none"), (good, answer)]
     compare(inside, args.replay)
     print(f"outside the bounds: {len(cases)} requests end with `bad request`, {len(inside)} at the bounds are answered")
 

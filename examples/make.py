@@ -32,6 +32,10 @@ def word(letters):
     return Pauli((e + letters.count("Y")) % 4, places(letters, "XY"), places(letters, "ZY"))
 
 
+def words(text):
+    return [word(letters) for letters in text.split()]
+
+
 def places(letters, which):
     return tuple(q for q, letter in enumerate(letters) if letter in which)
 
@@ -134,7 +138,7 @@ def listing(given):
 
 # ---- codes
 
-FIVE = [word("XZZXI"), word("IXZZX"), word("XIXZZ"), word("ZXIXZ")]
+FIVE = words("XZZXI IXZZX XIXZZ ZXIXZ")
 FIFTH = word("ZZXIX")
 HAMMING = [(3, 4, 5, 6), (1, 2, 5, 6), (0, 2, 4, 6)]
 STEANE = [on("X", *check) for check in HAMMING] + [on("Z", *check) for check in HAMMING]
@@ -142,7 +146,7 @@ STEANE = [on("X", *check) for check in HAMMING] + [on("Z", *check) for check in 
 SURFACE = [on("X", 0, 1), on("X", 1, 2, 4, 5), on("X", 3, 4, 6, 7), on("X", 7, 8),
            on("Z", 2, 5), on("Z", 0, 1, 3, 4), on("Z", 4, 5, 7, 8), on("Z", 3, 6)]
 BACON_SHOR = [on("X", q, q + 3) for q in range(6)] + [on("Z", q, q + 1) for q in (0, 1, 3, 4, 6, 7)]
-DOCUMENT = ([word("XX"), word("ZZ")], [Pauli(0, (0, 1), (0, 1)), Pauli(2, (0, 1), (0, 1)), Pauli(0, (), (2,))])
+DOCUMENT = (words("XX ZZ"), [Pauli(0, (0, 1), (0, 1)), Pauli(2, (0, 1), (0, 1)), Pauli(0, (), (2,))])
 
 
 def five_qubit_elements():
@@ -215,9 +219,9 @@ def code_inputs():
         "surface": given(SURFACE, surface_elements()),
         "surface-wrong-sign": given(SURFACE[:5] + [minus(SURFACE[5])] + SURFACE[6:], surface_elements()),
         "bacon-shor": given(BACON_SHOR, bacon_shor_elements()),
-        "bell": given([word("XX"), word("ZZ"), word("-YY")], [word("YY"), word("-YY"), word("-II"), word("XI")]),
-        "bell-wrong-sign": given([word("XX"), word("ZZ"), word("YY")], [word("YY"), word("-YY"), word("-II"), word("XI")]),
-        "repetition": given([word("ZZI"), word("IZZ"), word("ZIZ")], [word("ZIZ"), word("ZZI"), word("-ZIZ"), word("ZZZ"), word("XXX")]),
+        "bell": given(words("XX ZZ -YY"), words("YY -YY -II XI")),
+        "bell-wrong-sign": given(words("XX ZZ YY"), words("YY -YY -II XI")),
+        "repetition": given(words("ZZI IZZ ZIZ"), words("ZIZ ZZI -ZIZ ZZZ XXX")),
         "order-four": given([Pauli(0, (0,), (0,))], [Pauli(0, (0,), (0,)), word("Y"), word("-I"), word("iI")]),
         "last-qubit": given([on("X", 65_535)], [on("X", 65_535), on("X", 0)]),
     }
