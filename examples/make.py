@@ -221,7 +221,7 @@ def code_inputs():
         "bacon-shor": given(BACON_SHOR, bacon_shor_elements()),
         "bell": given(words("XX ZZ -YY"), words("YY -YY -II XI")),
         "bell-wrong-sign": given(words("XX ZZ YY"), words("YY -YY -II XI")),
-        "repetition": given(words("ZZI IZZ ZIZ"), words("ZIZ ZZI -ZIZ ZZZ XXX")),
+        "repetition": given(words("ZZI IZZ ZIZ"), words("ZIZ ZZI -ZIZ ZZZ") + [on("X", 0, 1, 2)]),
         "order-four": given([Pauli(0, (0,), (0,))], [Pauli(0, (0,), (0,)), word("Y"), word("-I"), word("iI")]),
         "last-qubit": given([on("X", 65_535)], [on("X", 65_535), on("X", 0)]),
     }
