@@ -1,12 +1,22 @@
 #!/usr/bin/env python3
-"""compare.py ORACLE REPLAY [--seed S] [--count N] [--generators G] [--qubits Q] [--kinds A,B] [--built FOLDER]
+"""compare.py ORACLE REPLAY [--seed S] [--count N] [--damaged N] [--every] [--generators G] [--qubits Q] [--kinds A,B]
+           [--lines REQUESTS LINES] [--bad] [--built FOLDER]
 
 Makes random requests with the oracle's generator, N of each kind, answers them with the oracle (the Rust) and with the program
 replay, and compares every line. ORACLE is the oracle's folder, REPLAY the program (target/bin/replay after `rt check replay`).
 Each call is lent an output of the size of its answer or a few bytes more, and 4,096 words or a few more.
-Prints how many requests of each kind were compared; ends with status 1 at the first line that differs.
+
+--damaged N: N further requests of each kind with damaged rolls, numbers past a list, short areas and outputs, and lists at the limits.
+The refusal, its number and its place come from document 01's table (roll.py, calls.py), every other line from the oracle; the oracle
+must answer `bad` exactly where the table refuses with 1 to 8 or 10.
+--every: further one small request of each kind, its rolls cut at every place and every byte of them changed to every other value.
+--lines REQUESTS LINES: the lines of a file, one for each request of another, are compared with those made here and with the program's.
+--bad: requests outside the program's bounds, each after a good one.
+
+Prints how many requests of each kind were compared, damaged ones by refusal; ends with status 1 at the first line that differs.
 """
 import argparse
+import collections
 import os
 import random
 import struct
@@ -14,107 +24,240 @@ import subprocess
 import sys
 import tempfile
 
-PROMISE = {"n": 0, "t": 1, "f": 2}
-ORDER = {"equal": "equal", "less": "less", "greater": "greater", "none": "no order"}
-KINDS = ["standard", "rank", "phases", "abelian", "stabilizer", "log2size", "member", "elements", "symplectic", "product", "join", "compare"]
+import calls
+import damage
+import roll
+from calls import CALLS, PROMISES, Request, unhex
+from roll import Pauli, Refusal
 
-
-def raw(word):
-    return b"" if word == "-" else bytes.fromhex(word)
-
-
-def hexed(b):
-    return b.hex() if b else "-"
-
-
-def roll_line(answer, work):
-    b = raw(answer)
-    return b, f"wrote {len(b)}; out {hexed(b)} kept; work {work}"
-
-
-def member_line(answer):
-    if answer == "none":
-        return b"", "not member; out - kept; work zeroed"
-    words = answer.split()
-    indexes = [int(i) for i in words[3:]]
-    b = b"".join(struct.pack("<H", i) for i in indexes)
-    return b, f"member {len(indexes)} phase {words[1]}; out {hexed(b)} kept; work zeroed"
-
-
-def translate(line, answer):
-    """operation, promises, a, b, first, second, bytes written, expected line"""
-    w = line.split()
-    kind = w[0]
-    if kind == "standard":
-        return (1, 0, 0, 0, 0, raw(w[2]), b"", *roll_line(answer, "zeroed"))
-    if kind in ("rank", "phases", "abelian", "stabilizer", "log2size"):
-        op, name = {"rank": (2, "rank"), "phases": (3, "phases"), "abelian": (4, "abelian"),
-                    "stabilizer": (5, "stabilizer"), "log2size": (6, "log2")}[kind]
-        return (op, PROMISE[w[1]], 0, 0, 0, raw(w[2]), b"", b"", f"{name} {answer}; out - kept; work zeroed")
-    if kind == "member":
-        return (7, PROMISE[w[1]], 0, int(w[4]), 0, raw(w[2]), raw(w[3]), *member_line(answer))
-    if kind == "elements":
-        return (8, PROMISE[w[1]], 0, int(w[3]), int(w[4]), raw(w[2]), b"", *roll_line(answer, "zeroed"))
-    if kind == "symplectic":
-        return (9, 0, 0, 0, 0, raw(w[1]), b"", *roll_line(answer, "zeroed"))
-    if kind == "product":
-        return (10, 0, 0, int(w[2]), int(w[4]), raw(w[1]), raw(w[3]), *roll_line(answer, "none"))
-    if kind == "join":
-        return (11, 0, 0, 0, 0, raw(w[1]), raw(w[2]), *roll_line(answer, "none"))
-    if kind == "compare":
-        return (14, PROMISE[w[1]], PROMISE[w[3]], 0, 0, raw(w[2]), raw(w[4]), b"", f"{ORDER[answer]}; out - kept; work zeroed")
-    raise ValueError(kind)
-
-
-def request(t, rng):
-    op, p, q, a, b, first, second, written, _ = t
-    out = len(written) + rng.randrange(4)
-    work = 4096 + rng.randrange(3)
-    head = struct.pack("<BBBBIIIIII", op, p, q, rng.randrange(1, 256), a, b, out, work, len(first), len(second))
-    return head + first + second
+LAST = 14  # the last operation that replay has
+NAMES = {call.name: op for op, call in CALLS.items()}
+LISTING_OUTPUT = 131_072
+BLOCK = 10_000
 
 
 def run(program, data):
-    done = subprocess.run(program, input=data, stdout=subprocess.PIPE, check=True)
-    return done.stdout
+    return subprocess.run(program, input=data, stdout=subprocess.PIPE, check=True).stdout
 
 
-def compare(kind, args, programs, seed):
+# ---- requests
+
+def whole(op, p=0, q=0, a=0, b=0, first=b"", second=b""):
+    return Request(op, p, q, 1, a, b, 0, calls.WORK_WORDS, first, second)
+
+
+def request_of(op, text):
+    """The request of a line of the oracle's generator. Output and fill are chosen later."""
+    w = text.split()[1:]
+    if op <= 6:
+        return whole(op, PROMISES.index(w[0]), first=unhex(w[1]))
+    if op == 7:
+        return whole(op, PROMISES.index(w[0]), a=int(w[3]), first=unhex(w[1]), second=unhex(w[2]))
+    if op == 8:
+        return whole(op, PROMISES.index(w[0]), a=int(w[2]), b=int(w[3]), first=unhex(w[1]))
+    if op == 9:
+        return whole(op, first=unhex(w[0]))
+    if op == 10:
+        return whole(op, a=int(w[1]), b=int(w[3]), first=unhex(w[0]), second=unhex(w[2]))
+    if op <= 13:
+        return whole(op, first=unhex(w[0]), second=unhex(w[1]))
+    if op <= 17:
+        return whole(op, PROMISES.index(w[0]), PROMISES.index(w[2]), first=unhex(w[1]), second=unhex(w[3]))
+    rolls = [unhex(word) for word in w]
+    return whole(op, first=struct.pack("<I", len(rolls[0])) + rolls[0] + rolls[1])
+
+
+def with_number(rng, r):
+    """A generator number for the calls on the joined list: the oracle's generator makes none."""
+    if r.op not in (12, 13):
+        return r
+    count = sum(int.from_bytes(b[:2], "little") for b in (r.first, r.second))
+    return r._replace(a=rng.randrange(max(count, 1)))
+
+
+def made(op, gen, rng, count, generators, qubits):
+    """Requests of the oracle's generator, lists of at most so many generators on so many qubits."""
+    seed = rng.randrange(2**32)
+    lines = run([gen, str(seed), CALLS[op].kind, str(count), str(generators), str(qubits)], b"").decode().split("\n")[:-1]
+    return [with_number(rng, request_of(op, line)) for line in lines]
+
+
+def lent(rng, r, found, output):
+    """The request with its fill, its output and, where nothing is said of it, some more words."""
+    size = 0 if isinstance(found, Refusal) else len(found.written)
+    out = LISTING_OUTPUT if r.op == 18 else output(rng, size)
+    more = rng.randrange(3) if r.work == calls.WORK_WORDS else 0
+    return r._replace(fill=rng.randrange(1, 256), out=out, work=r.work + more)
+
+
+def few_more(rng, size):
+    return size + rng.randrange(4)
+
+
+# ---- lines
+
+def expected(rng, requests, oracle, output):
+    """Each request as it is sent, and its line."""
+    pairs = []
+    for r, answers in zip(requests, calls.ask(oracle, requests)):
+        found = calls.result(r, answers)
+        if "panic" in answers or (answers[0] == "bad") != calls.is_bad(r, found, answers):
+            stop(r, "the oracle and the table part", str(found), str(answers))
+        r = lent(rng, r, found, output)
+        pairs.append((r, calls.line(r, found)))
+    return pairs
+
+
+def stop(r, what, wanted, got):
+    print(f"{what}\n  request  {r._replace(first=r.first.hex(), second=r.second.hex())}\n  expected {wanted}\n  got      {got}")
+    sys.exit(1)
+
+
+def compare(pairs, replay):
+    got = run([replay], b"".join(r.raw() for r, _ in pairs)).decode().split("\n")
+    for k, (r, wanted) in enumerate(pairs):
+        if k >= len(got) or got[k] != wanted:
+            stop(r, "the program's line differs", wanted, got[k] if k < len(got) else "nothing")
+    if got[len(pairs):] != [""]:
+        stop(pairs[-1][0], "lines follow", "nothing", got[len(pairs)])
+
+
+def outcome(r, wanted):
+    """The number of the refusal, 0 if there is none."""
+    if r.op == 12:
+        early = calls.refused_early(r)
+        return early.number if early else 0
+    words = (unhex(wanted.split()[3]).decode() if r.op == 18 else wanted).split()
+    return int(words[1]) if words[0] == "refused" else 0
+
+
+def counted(counts):
+    return ", ".join(f"{f'refused {key}' if key else 'answered'}: {counts[key]}" for key in sorted(counts))
+
+
+# ---- runs
+
+def small(op):
+    """A request on two small lists, for every operation."""
+    first = roll.write([Pauli(0, (0, 2), ()), Pauli(1, (1,), (1, 3))])
+    second = roll.write([Pauli(3, (2,), (0, 2))])
+    if op == 18:
+        return whole(op, first=struct.pack("<I", len(first)) + first + second)
+    return whole(op, first=first, second=second if CALLS[op].rolls == 2 else b"")
+
+
+def in_blocks(count):
+    """The numbers of requests that are held at once."""
+    return [min(BLOCK, count - k) for k in range(0, count, BLOCK)]
+
+
+def compare_damaged(requests, rng, args, oracle):
+    """The count of each refusal."""
+    pairs = expected(rng, requests, oracle, damage.output_for)
+    compare(pairs, args.replay)
+    return collections.Counter(outcome(r, wanted) for r, wanted in pairs)
+
+
+def compare_kind(op, args, programs):
+    """Whole requests, then damaged ones."""
     gen, oracle = programs
-    lines = run([gen, str(seed), kind, str(args.count), str(args.generators), str(args.qubits)], b"").decode().split("\n")[:-1]
-    answers = run([oracle], ("\n".join(lines) + "\n").encode()).decode().split("\n")[:-1]
-    rng = random.Random(seed)
-    kept = [(line, answer) for line, answer in zip(lines, answers) if answer not in ("bad", "panic")]
-    translated = [translate(line, answer) for line, answer in kept]
-    got = run([args.replay], b"".join(request(t, rng) for t in translated)).decode().split("\n")[:-1]
-    for k, (t, (line, answer)) in enumerate(zip(translated, kept)):
-        if k >= len(got) or got[k] != t[-1]:
-            print(f"differs at {kind} {k}:\n  request  {line}\n  oracle   {answer}\n  expected {t[-1]}\n  got      {got[k] if k < len(got) else 'nothing'}")
-            sys.exit(1)
-    return len(lines), len(kept), len(answers) - len(kept)
+    name = CALLS[op].name
+    rng = random.Random(f"{args.seed} {name}")
+    sizes = args.generators, args.qubits
+    for n in in_blocks(args.count):
+        compare(expected(rng, made(op, gen, rng, n, *sizes), oracle, few_more), args.replay)
+    if args.count:
+        print(f"{name}: {args.count} lines equal", flush=True)
+    counts = collections.Counter()
+    for n in in_blocks(args.damaged):
+        requests = [damage.damaged(rng, r) for r in made(op, gen, rng, n, *sizes)]
+        counts += compare_damaged(requests, rng, args, oracle)
+    if args.every:
+        counts += compare_damaged(list(damage.every(small(op))), rng, args, oracle)
+    if counts:
+        print(f"{name}, damaged: {sum(counts.values())} lines equal; " + counted(counts), flush=True)
+    return counts
 
 
-def main():
-    parser = argparse.ArgumentParser(description=__doc__)
+def compare_lines(args, oracle):
+    """The lines of a file, those made here, and for the operations that replay has the program's."""
+    with open(args.lines[0], "rb") as file:
+        requests = list(calls.requests_in(file.read()))
+    with open(args.lines[1], encoding="ascii") as file:
+        lines = file.read().split("\n")[:-1]
+    assert len(requests) == len(lines)
+    for r, answers, line in zip(requests, calls.ask(oracle, requests), lines):
+        mine = calls.line(r, calls.result(r, answers))
+        if mine != line:
+            stop(r, "the file's line differs from the one made here", mine, line)
+    have = [(r, line) for r, line in zip(requests, lines) if r.op <= LAST]
+    compare(have, args.replay)
+    print(f"{args.lines[1]}: {len(lines)} lines equal to those made here, {len(have)} to the program's")
+
+
+def compare_bad(args):
+    """Requests outside the bounds end the program after `bad request`, also where one follows; those at the bounds do not."""
+    good = Request(0, 0, 0, 1, 0, 0, 0, 0, b"\0\0", b"")
+    answer = "count 0; out - kept; work none"
+    outside = [good._replace(op=200), good._replace(op=255), good._replace(fill=0), good._replace(p=3), good._replace(q=3),
+               good._replace(p=255), good._replace(out=262_145), good._replace(work=40_961), good._replace(out=2**32 - 1),
+               good._replace(work=2**32 - 1), good._replace(first=bytes(262_145)), good._replace(second=bytes(262_145))]
+    strings = good._replace(second=b"abc").raw()
+    cases = [r.raw() + good.raw() for r in outside] + [strings[:k] for k in range(1, len(strings))]
+    cases.append(strings[:20] + b"\xff" * 8 + good.raw())
+    for case in cases:
+        got = run([args.replay], good.raw() + case).decode()
+        if got != f"{answer}\nbad request\n":
+            stop(good, f"a request outside the bounds: {case[:40].hex()}", f"{answer}, bad request", got)
+    inside = [(good._replace(out=262_144, work=40_960), answer), (good._replace(second=bytes(262_144)), answer),
+              (good._replace(first=bytes(262_144)), "refused 1 at 0; out - kept; work none"), (good, answer)]
+    compare(inside, args.replay)
+    print(f"outside the bounds: {len(cases)} requests end with `bad request`, {len(inside)} at the bounds are answered")
+
+
+def arguments():
+    parser = argparse.ArgumentParser(description=__doc__, formatter_class=argparse.RawDescriptionHelpFormatter)
     parser.add_argument("oracle")
     parser.add_argument("replay")
     parser.add_argument("--seed", type=int, default=1)
     parser.add_argument("--count", type=int, default=1000)
+    parser.add_argument("--damaged", type=int, default=0)
     parser.add_argument("--generators", type=int, default=6)
     parser.add_argument("--qubits", type=int, default=5)
-    parser.add_argument("--kinds", default=",".join(KINDS))
+    parser.add_argument("--kinds", default=",".join(call.name for op, call in CALLS.items() if op <= LAST))
+    parser.add_argument("--every", action="store_true")
+    parser.add_argument("--lines", nargs=2)
+    parser.add_argument("--bad", action="store_true")
     parser.add_argument("--built")
-    args = parser.parse_args()
+    return parser.parse_args()
+
+
+def built_in(oracle, folder):
+    """The oracle's generator and the oracle, built in a folder."""
+    subprocess.run([os.path.join(oracle, "build.sh"), folder], check=True, stdout=subprocess.DEVNULL, stderr=subprocess.DEVNULL)
+    return [os.path.join(folder, "release", name) for name in ("gen", "oracle")]
+
+
+def compare_kinds(args, programs):
+    names = args.kinds.split(",")
+    refused = sum((compare_kind(NAMES[name], args, programs) for name in names), collections.Counter())
+    if args.count:
+        print(f"all {args.count * len(names)} lines equal")
+    if refused:
+        print(f"all {sum(refused.values())} lines of damaged requests equal; " + counted(refused))
+
+
+def main():
+    args = arguments()
     with tempfile.TemporaryDirectory() as temporary:
-        built = args.built or temporary
-        subprocess.run([os.path.join(args.oracle, "build.sh"), built], check=True, stdout=subprocess.DEVNULL, stderr=subprocess.DEVNULL)
-        programs = [os.path.join(built, "release", name) for name in ("gen", "oracle")]
-        total = 0
-        for kind in args.kinds.split(","):
-            made, kept, left = compare(kind, args, programs, args.seed)
-            total += kept
-            print(f"{kind}: {kept} of {made} requests equal" + (f", {left} that the oracle does not answer left out" if left else ""), flush=True)
-        print(f"all {total} lines equal")
+        programs = built_in(args.oracle, args.built or temporary)
+        if args.lines:
+            compare_lines(args, programs[1])
+        if args.bad:
+            compare_bad(args)
+        if args.count or args.damaged or args.every:
+            compare_kinds(args, programs)
 
 
-main()
+if __name__ == "__main__":
+    main()
