@@ -4,8 +4,8 @@ use lib.Seq.{length-take-le}
 use mathlib.Core.Path.{sym}
 use native.Mathlib.Omega.{arith}
 use borrow.Author.Needs.{needs}
-use Rattle.replay.proofs.print_output.Statement.{statement}
-use Rattle.replay.proofs.print_output.Tie as tie
+use Rattle.replay.proofs.lines.print_output.Statement.{statement}
+use Rattle.replay.proofs.lines.print_output.Tie as tie
 
 least-requires : tie.Need-least-requires
 least-requires c κs = search needs

@@ -3,8 +3,8 @@ use Prim.Native.Nat.{_-_, _≤_}
 use borrow.Author.Needs.{needs}
 use lib.ListN.{length}
 use native.Mathlib.Omega.{arith}
-use Rattle.replay.proofs.print_bytes.Statement.{statement}
-use Rattle.replay.proofs.print_bytes.Tie as tie
+use Rattle.replay.proofs.lines.print_bytes.Statement.{statement}
+use Rattle.replay.proofs.lines.print_bytes.Tie as tie
 
 abbrev Inv-loop : tie.InvT-loop
 Inv-loop b k₀ k = Unit {0}
