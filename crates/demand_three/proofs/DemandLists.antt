@@ -1,36 +1,26 @@
 -- Indexes in an output, index sets and the generators that they name; and lists whose exponents are taken by value.
-use mathlib.Core.Path.{_≡_, refl, sym, ap, _∙_, subst}
-use mathlib.Core.Bool.{Bool, true, false}
-use mathlib.Core.List.{List, [], _∷_, _++_, map, map-append, map-map, List·Memᴰ as Mem}
-use Prim.Native.Nat.{ℕ, zero, suc, _+_, _*_, _/_, _%_, _^_, _≤_, _<_}
+use mathlib.Core.Path.{_≡_, refl, sym, ap, _∙_}
+use mathlib.Core.List.{List, [], _∷_, _++_, map, map-map}
+use Prim.Native.Nat.{ℕ, zero, suc, _+_, _*_, _/_, _%_, _^_, _<_}
 use native.Mathlib.Omega.{arith}
-use native.Mathlib.Decide.{decLt}
 use lib.ListN.{length, getD, take, drop, length-map, List·getD-map}
 use lib.Seq.{take-at, ext-getD}
-use Rattle.binar.specs.Row.{bit}
-use Rattle.binar.proofs.Bits.{bit-past}
 use Rattle.binar.proofs.Lists.{all-map, all-over, all-under}
 use Rattle.rolls.specs.Bytes.{u16At, le16}
 use Rattle.pauli.specs.Pauli.{Pauli, I, normal, consIf, select}
-use Rattle.pauli.specs.PauliTheorems.{On}
-use Rattle.rolls.specs.Roll.{mostPaulis, mostQubits, Sparse, support, read, byValue, write}
-use Rattle.rolls.specs.RollTheorems.{All, Allowed}
+use Rattle.rolls.specs.Roll.{Sparse, read, byValue}
+use Rattle.rolls.specs.RollTheorems.{All}
 use Rattle.pauli.specs.Sets.{members, pauliOf}
-use Rattle.rolls.specs.Told.{Told, answer, refused, refuseIf, mapTold}
+use Rattle.rolls.specs.Told.{Told, answer, refused}
 use Rattle.pauli.specs.Writing.{putBytes, toldBytes, leftIn}
 use Rattle.rolls.proofs.BytesLaws.{length-le16, u16-read}
-use Rattle.rolls.proofs.Checks.{AllowedSets}
 use Rattle.rolls.proofs.Items.{itemsAt, itemsBytes, length-itemsAt, length-itemsBytes, items-read}
-use Rattle.rolls.proofs.Lists.{all-in, in-getD}
-use Rattle.rolls.proofs.RollLaws.{read-law}
-use Rattle.pauli.proofs.Sets.{members-only}
-use Rattle.rolls.proofs.SupportLaws.{support-byValue}
 use Rattle.rolls.proofs.Told.{refused-none, test-passed}
 use Rattle.pauli_theory.specs.Group.{Generated, Inside, SameGroup}
 use Rattle.pauli_theory.proofs.Agree.{four, agree-normal, agree-flip}
 use Rattle.pauli_theory.proofs.Group.{generated-subgroup, generators, inside-by}
-use Rattle.pauli_theory.proofs.OverPlaces.{upTo, upTo-length, upTo-rises, upTo-at, condense-upTo}
-use Rattle.pauli.proofs.Condensed.{select-members}
+use Rattle.pauli_theory.proofs.IndexSets.{members-upTo}
+use Rattle.pauli_theory.proofs.OverPlaces.{upTo, upTo-length, upTo-at}
 use Rattle.standard_form.specs.Groups.{paulis}
 use Rattle.standard_form.specs.Members.{le16s}
 use Rattle.demand_three.specs.DemandThree.{indexesAt}
@@ -68,21 +58,6 @@ unfolding putBytes
 put-front out bs = take-at bs (drop (0 + length bs) out) (length bs) refl
 
 -- ---- index sets
-
-module _ (n v : ℕ) (h : v < 2 ^ n) where
-  bit-below : (i : ℕ) → bit v i ≡ 1 → i < n
-  bit-below i e = elim (decLt i n) [ yes l ↦ l | no l ↦ absurd (omega (arith, bit-past n v i h (omega arith))) ]
-
-  pub members-below : All (λ i. i < n) (members v)
-  members-below = all-in (λ i. i < n) (members v) (λ i m. bit-below i (members-only v i m))
-
-  on-upTo : On (upTo n) v
-  on-upTo i e =
-      let l = bit-below i e in
-      subst (λ (j : ℕ). Mem j (upTo n)) (upTo-at n i l) (in-getD (upTo n) i 0 (omega (arith, upTo-length n)))
-
-  members-upTo : members v ≡ select v (upTo n)
-  members-upTo = sym (select-members (upTo n) (upTo-rises n) v on-upTo) ∙ ap (λ (u : ℕ). select u (upTo n)) (condense-upTo n v h)
 
 module _ {A B : Type 0} (f : A → B) where
   map-consIf : (d : ℕ) (x : A) (xs : List A) → map f (consIf d x xs) ≡ consIf d (f x) (map f xs)

@@ -23,6 +23,7 @@ use Rattle.rolls.proofs.Told.{test-pass, test-passed, map-test}
 use Rattle.pauli_theory.specs.Group.{Generated}
 use Rattle.pauli_theory.specs.Membership.{Factorization, factorizationOf}
 use Rattle.pauli_theory.specs.Theorems.{MembershipLaw}
+use Rattle.pauli_theory.proofs.IndexSets.{members-below}
 use Rattle.pauli_theory.proofs.Theorems.{group-laws}
 use Rattle.pauli_group.specs.declared.answers.MemberFound.{MemberFound}
 use Rattle.pauli_group.specs.declared.answers.MemberFound.the-variants.{Member as MemberTold, NotMember}
@@ -31,7 +32,7 @@ use Rattle.standard_form.specs.Area.{enough, areaAfter}
 use Rattle.standard_form.specs.Groups.{paulis}
 use Rattle.pauli_group.specs.Calls.{question, factorizationCall, indexBytes, Factored, factored, toldMember, memberLeft}
 use Rattle.demand_three.specs.DemandThree.{Generators, list, Element, pauli, Asked, Member, indexesAt, Gives, ifArea, ifRoom, bytesOf}
-use Rattle.demand_three.proofs.DemandLists.{length-le16s, indexes-read, members-below, named-select}
+use Rattle.demand_three.proofs.DemandLists.{length-le16s, indexes-read, named-select}
 
 -- ---- what a call tells of a factorization
 

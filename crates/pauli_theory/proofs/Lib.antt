@@ -34,6 +34,7 @@ pub mod Marked
 pub mod ByProducts
 pub mod Placed
 pub mod OverPlaces
+pub mod IndexSets
 pub mod Written
 pub mod ListingSubsets
 pub mod ListingNumbers

@@ -1,15 +1,13 @@
 -- Laws of numbers that are all in a support, and of index sets written.
-use mathlib.Core.Path.{_≡_, refl, sym, ap, ap₂, _∙_, subst}
+use mathlib.Core.Path.{_≡_, refl, sym, ap, ap₂, _∙_}
 use mathlib.Core.Bool.{true, false, cond}
-use mathlib.Core.List.{List, [], _∷_, _++_, List·Memᴰ as Mem}
+use mathlib.Core.List.{List, [], _∷_, _++_}
 use Prim.Native.Nat.{ℕ, zero, suc, _+_, _-_, _*_, _^_, _≤_, _<_}
 use native.Mathlib.Omega.{arith}
-use native.Mathlib.Decide.{decLt}
 use borrow.Author.Tests.{lt-ltb, le-ltb}
 use lib.Dec.{ltb}
 use lib.ListN.{length, getD, length-append}
 use Rattle.binar.specs.Row.{bit, weight}
-use Rattle.binar.proofs.Bits.{bit-past}
 use Rattle.rolls.specs.declared.roll.Entry.{Entry}
 use Rattle.rolls.specs.Answers.{toldEntry}
 use Rattle.rolls.specs.Bytes.{u32At, numbersAt, le16}
@@ -17,19 +15,16 @@ use Rattle.pauli.specs.Condense.{listOf, nothing}
 use Rattle.rolls.specs.Roll.{entryAt, countOf}
 use Rattle.rolls.specs.Known.{placeOf}
 use Rattle.pauli.specs.Sets.{members}
-use Rattle.pauli.specs.Pauli.{select}
-use Rattle.pauli.specs.PauliTheorems.{On}
 use Rattle.rolls.specs.Told.{answer}
 use Rattle.pauli.specs.Writing.{putBytes}
 use Rattle.pauli.proofs.BodyLaws.{xs-is, zs-is}
 use Rattle.rolls.proofs.BytesLaws.{length-le16}
 use Rattle.joining.proofs.JoinLaws.{accepted}
-use Rattle.rolls.proofs.Lists.{in-getD}
 use Rattle.pauli.proofs.Puts.{chosenFrom, chosen-start, chosen-end, chosen-hit, chosen-miss, Left, left-start, left-done, left-same, left-room, left-step}
 use Rattle.pauli.proofs.Sets.{members-count}
 use Rattle.rolls.proofs.Walk.{numbers-next, numbers-end}
-use Rattle.pauli_theory.proofs.OverPlaces.{upTo, upTo-length, upTo-rises, upTo-at, condense-upTo}
-use Rattle.pauli.proofs.Condensed.{select-members}
+use Rattle.pauli_theory.proofs.IndexSets.{members-upTo}
+use Rattle.pauli_theory.proofs.OverPlaces.{upTo, upTo-length, upTo-at}
 use Rattle.standard_form.specs.Members.{le16s, covered}
 
 -- ---- numbers in a support, one after the other
@@ -96,18 +91,8 @@ pub length-indexes : (s : ℕ) → length (le16s (members s)) ≡ 2 * weight s
 length-indexes s = length-le16s (members s) ∙ ap (2 *_) (members-count s)
 
 module _ (s n : ℕ) (h : s < 2 ^ n) where
-  below : On (upTo n) s
-  below q o =
-      elim (decLt q n) [
-        | yes l ↦ subst (λ r. Mem r (upTo n)) (upTo-at n q l) (in-getD (upTo n) q 0 (omega (arith, upTo-length n)))
-        | no l ↦ absurd (omega (arith, bit-past n s q h (omega arith)))
-      ]
-
   all-indexes : members s ≡ chosenFrom s (upTo n) 0
-  all-indexes =
-      sym
-      (chosen-start s (upTo n) ∙ ap (λ (v : ℕ). select v (upTo n)) (sym (condense-upTo n s h))
-      ∙ select-members (upTo n) (upTo-rises n) s below)
+  all-indexes = members-upTo n s h ∙ sym (chosen-start s (upTo n))
 
   pub indexes-start : (out : List ℕ) → 2 * weight s ≤ length out
       → Left out 0 (le16s (members s)) out 0 (le16s (chosenFrom s (upTo n) 0))

@@ -1,0 +1,10 @@
+pub mod DecimalLaws
+pub mod PutLaws
+pub mod IndexLaws
+pub mod LineLaws
+pub mod StoredLaws
+pub mod RefusalLaws
+pub mod BoundLaws
+pub mod InputLaws
+pub mod CallLaws
+pub mod Example

@@ -1,0 +1,35 @@
+-- The example of document 01, "The closing listing".
+use mathlib.Core.Path.{_≡_}
+use mathlib.Core.List.{List, [], _∷_, _++_}
+use Prim.Native.Nat.{ℕ}
+use lib.ListN.{length}
+use Rattle.rolls.specs.Bytes.{le32}
+use Rattle.rolls.specs.Roll.{Sparse, encode}
+use Rattle.rolls.specs.Told.{answer}
+use Rattle.standard_form.specs.Area.{workWords}
+use Rattle.closing_report.specs.Decimal.{ascii}
+use Rattle.closing_report.specs.Listing.{listing}
+
+-- a length, a generator roll of that length, and an element roll
+unfoldable pub inputOf : List Sparse → List Sparse → List ℕ
+inputOf gs es = le32 (length (encode gs)) ++ encode gs ++ encode es
+
+-- "generators XX, ZZ on qubits 0, 1"
+unfoldable pub generators : List Sparse
+generators = record { e = 0; xs = 0 ∷ 1 ∷ []; zs = [] } ∷ record { e = 0; xs = []; zs = 0 ∷ 1 ∷ [] } ∷ []
+
+-- "elements (0,{0,1},{0,1}), (2,{0,1},{0,1}), (0,{},{2})"
+unfoldable pub elements : List Sparse
+elements =
+    record { e = 0; xs = 0 ∷ 1 ∷ []; zs = 0 ∷ 1 ∷ [] } ∷ record { e = 2; xs = 0 ∷ 1 ∷ []; zs = 0 ∷ 1 ∷ [] }
+    ∷ record { e = 0; xs = []; zs = 2 ∷ [] } ∷ []
+
+pub record Example : Type 0 where
+  -- "it prints .."
+  pub printed : listing (inputOf generators elements) workWords
+      ≡ answer (ascii "rank 2 phases 0 abelian yes\n0 member 0 1 phase 0\n1 not member\n2 not member\n")
+  -- "with no indexes, `0 member phase 0`": the identity, and no generators
+  pub no-indexes : listing (inputOf [] (record { e = 0; xs = []; zs = [] } ∷ [])) workWords
+      ≡ answer (ascii "rank 0 phases 0 abelian yes\n0 member phase 0\n")
+  -- "input without a whole first roll [..] is 1 at 0 in roll 1", whatever the work area
+  pub no-roll : listing [] 0 ≡ answer (ascii "refused 1 at 0 in roll 1\n")

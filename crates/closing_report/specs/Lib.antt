@@ -1,0 +1,9 @@
+pub mod Decimal
+pub mod Put
+pub mod Lines
+pub mod Listing
+pub mod Split
+pub mod Contract
+pub mod Bound
+pub mod Stored
+pub mod Example
