@@ -1,6 +1,6 @@
 #!/usr/bin/env python3
 """compare.py ORACLE REPLAY [--seed S] [--count N] [--damaged N] [--every] [--generators G] [--qubits Q] [--kinds A,B]
-           [--lines REQUESTS LINES] [--bad] [--built FOLDER]
+           [--lines REQUESTS LINES] [--bad] [--edges] [--built FOLDER]
 
 Makes random requests with the oracle's generator, N of each kind, answers them with the oracle (the Rust) and with the program
 replay, and compares every line. ORACLE is the oracle's folder, REPLAY the program (target/bin/replay after `rt check replay`).
@@ -12,6 +12,7 @@ must answer `bad` exactly where the table refuses with 1 to 8 or 10.
 --every: further one small request of each kind, its rolls cut at every place and every byte of them changed to every other value.
 --lines REQUESTS LINES: the lines of a file, one for each request of another, are compared with those made here and with the program's.
 --bad: requests outside the program's bounds, each after a good one.
+--edges: requests at the edges (edges.py), each with an output of the size of its answer, a byte less and a byte more.
 
 Prints how many requests of each kind were compared, damaged ones by refusal; ends with status 1 at the first line that differs.
 """
@@ -26,11 +27,12 @@ import tempfile
 
 import calls
 import damage
+import edges
 import roll
 from calls import CALLS, PROMISES, Request, unhex
 from roll import Pauli, Refusal
 
-LAST = 14  # the last operation that replay has
+LAST = 16  # the last operation that replay has
 NAMES = {call.name: op for op, call in CALLS.items()}
 LISTING_OUTPUT = 131_072
 BLOCK = 10_000
@@ -151,9 +153,9 @@ def in_blocks(count):
     return [min(BLOCK, count - k) for k in range(0, count, BLOCK)]
 
 
-def compare_damaged(requests, rng, args, oracle):
+def compare_damaged(requests, rng, args, oracle, output=damage.output_for):
     """The count of each refusal."""
-    pairs = expected(rng, requests, oracle, damage.output_for)
+    pairs = expected(rng, requests, oracle, output)
     compare(pairs, args.replay)
     return collections.Counter(outcome(r, wanted) for r, wanted in pairs)
 
@@ -215,6 +217,15 @@ def compare_bad(args):
     print(f"outside the bounds: {len(cases)} requests end with `bad request`, {len(inside)} at the bounds are answered")
 
 
+def compare_edges(args, oracle):
+    """Requests at the edges, with outputs around the size of the answer."""
+    requests = [r for r in edges.every() if r.op <= LAST]
+    counts = collections.Counter()
+    for more in (-1, 0, 1):
+        counts += compare_damaged(requests, random.Random(args.seed), args, oracle, lambda rng, size: max(size + more, 0))
+    print(f"edges: {sum(counts.values())} lines equal; " + counted(counts))
+
+
 def arguments():
     parser = argparse.ArgumentParser(description=__doc__, formatter_class=argparse.RawDescriptionHelpFormatter)
     parser.add_argument("oracle")
@@ -228,6 +239,7 @@ def arguments():
     parser.add_argument("--every", action="store_true")
     parser.add_argument("--lines", nargs=2)
     parser.add_argument("--bad", action="store_true")
+    parser.add_argument("--edges", action="store_true")
     parser.add_argument("--built")
     return parser.parse_args()
 
@@ -255,6 +267,8 @@ def main():
             compare_lines(args, programs[1])
         if args.bad:
             compare_bad(args)
+        if args.edges:
+            compare_edges(args, programs[1])
         if args.count or args.damaged or args.every:
             compare_kinds(args, programs)
 
