@@ -31,14 +31,14 @@ pub fn put_u16(out: &mut [u8], at: usize, v: usize)
 }
 
 // Writes a number as four bytes.
-fn put_u32(out: &mut [u8], at: usize, v: u32)
+fn put_u32(out: &mut [u8], at: usize, number: u32)
     requires { ⌜ at + 4 ≤ length (now out) ⌝ }
-    ensures { λ _. ⌜ now (out .exit) ≡ putBytes (now (out .entry)) at (le32 v) ⌝ }
+    ensures { λ _. ⌜ now (out .exit) ≡ putBytes (now (out .entry)) at (le32 number) ⌝ }
 {
-    out[at] = (v % 256) as u8;
-    out[at + 1] = (v / 256 % 256) as u8;
-    out[at + 2] = (v / 65536 % 256) as u8;
-    out[at + 3] = (v / 16777216 % 256) as u8;
+    out[at] = (number % 256) as u8;
+    out[at + 1] = (number / 256 % 256) as u8;
+    out[at + 2] = (number / 65536 % 256) as u8;
+    out[at + 3] = (number / 16777216 % 256) as u8;
 }
 
 // Writes the entry of a Pauli.
