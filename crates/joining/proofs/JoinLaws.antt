@@ -24,6 +24,7 @@ use Rattle.rolls.proofs.Told.{refused-none, test-pass, test-refuses, test-passe
 use Rattle.rolls.proofs.Lists.{AllBytes, drop-one}
 use Rattle.rolls.proofs.BytesLaws.{length-numbers, length-le16, le32s-append, numbers-written}
 use Rattle.rolls.proofs.SupportLaws.{numbers-append, numbers-byValue}
+use Rattle.rolls.proofs.Walk.{insertAll-longer, drop-more}
 use Rattle.rolls.proofs.Paulis.{table-entries, length-entriesOf, length-bodies}
 use Rattle.rolls.proofs.Entries.{length-entriesBytes}
 use Rattle.rolls.proofs.RollLaws.{answer-parts, length-encode}
@@ -116,7 +117,10 @@ module _ (l r : List ℕ) (nl nr : ℕ) (el : countOf l ≡ answer nl) (er : cou
   pub both-gathered : (new : List ℕ) (k : ℕ) → Gathered (insertAll (numbersAt r (2 + 10 * nr) kr) (take m mid)) mid new k → Gathered (support (listOf l ++ listOf r)) old new k
   both-gathered new k h =
       let same : insertAll (numbersAt r (2 + 10 * nr) kr) (take m mid) ≡ support (listOf l ++ listOf r) = rw left-known (accepted-joined r nr er kr sr (listOf l)) in
-      record { count = rw same at (h .count); known = rw same at (h .known); past = h .past ∙ g .past }
+      let few : length (insertAll (numbersAt l (2 + 10 * nl) kl) []) ≤ mostQubits = rw left-support (answer-parts l (listOf l) (accepted l nl el .0) .qubits) in
+      let size : length (take m mid) ≡ m = ap length (g .known few) ∙ sym (gathered-all _ _ _ _ g few .0) in
+      let more : m ≤ k = omega (arith, size, g .count, h .count, insertAll-longer (numbersAt r (2 + 10 * nr) kr) (take m mid)) in
+      record { count = rw same at (h .count); known = rw same at (h .known); among = rw same at (h .among); rest = h .rest ∙ drop-more m k mid old more (g .rest) }
 
 -- ---- the counts
 

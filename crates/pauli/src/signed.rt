@@ -46,7 +46,7 @@ impl Places {
     }
 
     // The places in one of the two sets and not in the other.
-    pub fn bitxor(self, other: Places) -> Places
+    fn bitxor(self, other: Places) -> Places
         ensures { λ r. ⌜ setIn r ≡ setIn self ⊕ setIn other ⌝ }
     {
         Places {
@@ -56,7 +56,7 @@ impl Places {
     }
 
     // The places in either set.
-    pub fn bitor(self, other: Places) -> Places
+    fn bitor(self, other: Places) -> Places
         ensures { λ r. ⌜ setIn r ≡ bitOr (setIn self) (setIn other) ⌝ }
     {
         Places {
@@ -66,7 +66,7 @@ impl Places {
     }
 
     // 1 where the two sets share an odd number of places, else 0.
-    pub fn dot(self, other: Places) -> u64
+    fn dot(self, other: Places) -> u64
         ensures { λ r. ⌜ (r ≡ dot (setIn self) (setIn other)) × (r < 2) ⌝ }
     {
         let shared = (self.low & other.low) ^ (self.high & other.high);
@@ -79,7 +79,7 @@ impl Places {
         (u64::count_ones(self.low) as usize) + (u64::count_ones(self.high) as usize)
     }
 
-    pub fn is_zero(self) -> bool
+    fn is_zero(self) -> bool
         ensures { λ r. ⌜ r ≡ eqb (setIn self) 0 ⌝ }
     {
         (self.low | self.high) == 0

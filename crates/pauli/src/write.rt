@@ -31,14 +31,14 @@ pub fn put_u16(out: &mut [u8], at: usize, v: usize)
 }
 
 // Writes a number as four bytes.
-pub fn put_u32(out: &mut [u8], at: usize, v: u32)
+fn put_u32(out: &mut [u8], at: usize, number: u32)
     requires { ⌜ at + 4 ≤ length (now out) ⌝ }
-    ensures { λ _. ⌜ now (out .exit) ≡ putBytes (now (out .entry)) at (le32 v) ⌝ }
+    ensures { λ _. ⌜ now (out .exit) ≡ putBytes (now (out .entry)) at (le32 number) ⌝ }
 {
-    out[at] = (v % 256) as u8;
-    out[at + 1] = (v / 256 % 256) as u8;
-    out[at + 2] = (v / 65536 % 256) as u8;
-    out[at + 3] = (v / 16777216 % 256) as u8;
+    out[at] = (number % 256) as u8;
+    out[at + 1] = (number / 256 % 256) as u8;
+    out[at + 2] = (number / 65536 % 256) as u8;
+    out[at + 3] = (number / 16777216 % 256) as u8;
 }
 
 // Writes the entry of a Pauli.
@@ -54,7 +54,7 @@ pub fn put_entry(out: &mut [u8], at: usize, exponent: u8, start: u32, xcount: us
 }
 
 // Writes the qubit numbers of a set of places, rising, and returns the byte past them.
-pub fn put_set(out: &mut [u8], at: usize, set: Places, support: &[u32], count: usize) -> usize
+fn put_set(out: &mut [u8], at: usize, set: Places, support: &[u32], count: usize) -> usize
     requires { ⌜ (count ≤ 128) × (count ≤ length (now support)) × (at + 4 * length (select (setIn set) (take count (now support))) ≤ length (now out)) ⌝ }
     ensures left { λ _. ⌜ now (out .exit) ≡ putBytes (now (out .entry)) at (le32s (select (setIn set) (take count (now (support .entry))))) ⌝ }
     ensures next { λ r. ⌜ r ≡ at + 4 * length (select (setIn set) (take count (now (support .entry)))) ⌝ }
@@ -72,7 +72,7 @@ pub fn put_set(out: &mut [u8], at: usize, set: Places, support: &[u32], count: u
 }
 
 // How many qubit numbers the bodies of the n Paulis from word base on hold.
-pub fn numbers_in(w: &[u64], base: usize, n: usize) -> usize
+fn numbers_in(w: &[u64], base: usize, n: usize) -> usize
     requires { ⌜ (base + 5 * n ≤ length (now w)) × (n ≤ 256) ⌝ }
     ensures { λ r. ⌜ (r ≡ numbersOf (listIn (now (w .entry)) base n)) × (r ≤ 256 * n) ⌝ }
 {
@@ -89,7 +89,7 @@ pub fn numbers_in(w: &[u64], base: usize, n: usize) -> usize
 }
 
 // Writes the entries of the n Paulis from word base on, behind the count.
-pub fn put_table(out: &mut [u8], w: &[u64], base: usize, n: usize)
+fn put_table(out: &mut [u8], w: &[u64], base: usize, n: usize)
     requires { ⌜ (base + 5 * n ≤ length (now w)) × (n ≤ 256) × (2 + 10 * n ≤ length (now out)) ⌝ }
     ensures { λ _. ⌜ now (out .exit) ≡ putBytes (now (out .entry)) 2 (tableOf 0 (listIn (now (w .entry)) base n)) ⌝ }
 {
@@ -108,7 +108,7 @@ pub fn put_table(out: &mut [u8], w: &[u64], base: usize, n: usize)
 }
 
 // Writes the bodies of the n Paulis from word base on, from byte at on.
-pub fn put_bodies(
+fn put_bodies(
     out: &mut [u8],
     at: usize,
     w: &[u64],

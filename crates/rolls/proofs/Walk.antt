@@ -15,7 +15,7 @@ use borrow.Author.Tests.{lt-ltb, le-ltb, eq-eqb, ne-eqb}
 use Rattle.rolls.specs.Bytes.{u32At, numbersAt}
 use Rattle.rolls.specs.Roll.{mostQubits, insert, insertAll}
 use Rattle.rolls.specs.Known.{placeOf, firstPlace, lower, putAt, insertedAt, Noted, Gathered}
-use Rattle.rolls.proofs.SupportLaws.{by-order, insert-below, insert-same, insert-above, insert-length}
+use Rattle.rolls.proofs.SupportLaws.{by-order, insert-below, insert-same, insert-above, insert-length, insertAll-keeps}
 
 -- ---- the first place that passes a test
 
@@ -110,6 +110,12 @@ drop-past-front p l k m e h =
     let t : k + (m - k) ≡ m = omega arith in
     ap (λ n. drop n (p ++ drop k l)) s ∙ drop-append-add p (drop k l) (m - k) ∙ drop-drop (m - k) k l ∙ ap (λ n. drop n l) t
 
+-- lists that are alike past k numbers are alike past more
+pub drop-more : (k m : ℕ) (a b : List ℕ) → k ≤ m → drop k a ≡ drop k b → drop m a ≡ drop m b
+drop-more k m a b h e =
+    let t : k + (m - k) ≡ m = omega arith in
+    ap (λ n. drop n a) (sym t) ∙ sym (drop-drop (m - k) k a) ∙ ap (drop (m - k)) e ∙ drop-drop (m - k) k b ∙ ap (λ n. drop n b) t
+
 -- ---- insert by the place
 
 lower-cases : (q r : ℕ) (rs : List ℕ) (P : ℕ → Type 0) → (q ≤ r → P 0) → (r < q → P (suc (lower q rs))) → P (lower q (r ∷ rs))
@@ -169,7 +175,7 @@ module _ (l : List ℕ) (n q : ℕ) (few : n ≤ mostQubits) (room : mostQubits 
   pub noted-known : (i : ℕ) → i ≡ lower q (take n l) → i < n → getD l i 0 ≡ q → Noted q n l l n (i + 1)
   noted-known i e h k =
       let there : insert q (take n l) ≡ take n l = insert-there q (take n l) (omega (arith, size)) (rw (← e) (getD-take n l i 0 h ∙ k)) in
-      record { known = sym there; count = sym (ap length there ∙ size); next = omega arith; past = refl }
+      record { known = sym there; count = sym (ap length there ∙ size); next = omega arith; rest = refl }
 
   pub noted-new : (i : ℕ) → i ≡ lower q (take n l) → i ≤ n → (i < n → getD l i 0 ≡ q → ⊥) → Noted q n l (insertedAt l n i q) (n + 1) (i + 1)
   unfolding insertedAt
@@ -181,7 +187,7 @@ module _ (l : List ℕ) (n q : ℕ) (few : n ≤ mostQubits) (room : mostQubits 
         known = rw (add-one n) (take-at (putAt i q (take n l)) (drop (suc n) l) (suc n) long ∙ sym put);
         count = rw (add-one n) (sym (ap length put ∙ long));
         next = omega arith;
-        past = drop-past-front (putAt i q (take n l)) l (suc n) (suc mostQubits) long (omega arith);
+        rest = drop-past-front (putAt i q (take n l)) l (suc n) (n + 1) long (omega arith);
       }
 
 -- ---- numbers noted in turn
@@ -197,7 +203,7 @@ pub numbers-end : (b : List ℕ) (at total i : ℕ) → total ≤ i → numbersA
 unfolding numbersAt
 numbers-end b at total i h = let e : total - i ≡ 0 = omega arith in rw e
 
-insertAll-longer : (qs known : List ℕ) → length known ≤ length (insertAll qs known)
+pub insertAll-longer : (qs known : List ℕ) → length known ≤ length (insertAll qs known)
 unfolding insertAll
 insertAll-longer [] known = omega arith
 insertAll-longer (q ∷ qs) known = omega (arith, insertAll-longer qs (insert q known), insert-length q known)
@@ -217,10 +223,10 @@ module _ (b : List ℕ) (at total : ℕ) (old : List ℕ) (count : ℕ) where
     pub size : length l ≡ length old
     pub left : all ≡ insertAll (numbersAt b (at + 4 * i) (total - i)) (take n l)
     pub walk : (s : ℕ) → last < s → from ≤ lower s (take n l)
-    pub past : drop (suc mostQubits) l ≡ drop (suc mostQubits) old
+    pub rest : drop n l ≡ drop n old
 
   pub walking-start : count ≤ suc mostQubits → Walking old count 0 0 0
-  walking-start h = record { done = omega arith; few = h; size = refl; left = simp (add-zero, sub-zero); walk = λ s k. omega arith; past = refl }
+  walking-start h = record { done = omega arith; few = h; size = refl; left = simp (add-zero, sub-zero); walk = λ s k. omega arith; rest = refl }
 
   module _ (room : mostQubits < length old) (l : List ℕ) (n from last i : ℕ) (w : Walking l n from last i) where
     pub walking-next : i < total → (q : ℕ) → q ≡ u32At b (at + 4 * i) → (new : List ℕ) (m p : ℕ) → n ≤ mostQubits → length new ≡ length l → Noted q n l new m p → Walking new m p q (i + 1)
@@ -231,7 +237,7 @@ module _ (b : List ℕ) (at total : ℕ) (old : List ℕ) (count : ℕ) where
       size = same ∙ w .size;
       left = w .left ∙ rw (numbers-next b at total i h, ← e, t .known);
       walk = λ s k. rw (t .next, t .known) (lower-next q s (take n l) k);
-      past = t .past ∙ w .past;
+      rest = t .rest ∙ drop-more n m l old (omega (arith, t .count, insert-length q (take n l) .0, length-take-le n l (omega (arith, w .size)))) (w .rest);
     }
 
     known-all : length (take n l) ≡ n
@@ -241,10 +247,10 @@ module _ (b : List ℕ) (at total : ℕ) (old : List ℕ) (count : ℕ) where
     walking-full h =
         let more = insertAll-longer (numbersAt b (at + 4 * i) (total - i)) (take n l) in
         let long : suc mostQubits ≤ length all = rw (w .left) (omega (arith, more, known-all)) in
-        record { count = omega (arith, w .few, long); known = λ k. absurd (omega arith); past = w .past }
+        record { count = omega (arith, w .few, long); known = λ k. absurd (omega arith); among = λ q. rw (w .left) (insertAll-keeps (numbersAt b (at + 4 * i) (total - i)) (take n l) q); rest = w .rest }
 
     pub walking-end : total ≤ i → Gathered all old l n
     unfolding insertAll
     walking-end h =
         let e : all ≡ take n l = w .left ∙ rw (numbers-end b at total i h) in
-        record { count = rw e (omega (arith, w .few, known-all)); known = λ _. sym e; past = w .past }
+        record { count = rw e (omega (arith, w .few, known-all)); known = λ _. sym e; among = λ q. rw e (λ h. h); rest = w .rest }

@@ -48,7 +48,7 @@ same-length c = search needs
 
 returns : tie.Need-returns
 unfolding le32
-returns c = put-four (c .args .out .now) (c .args .at) (c .args .v % 256) (c .args .v / 256 % 256) (c .args .v / 65536 % 256) (c .args .v / 16777216 % 256) (omega arith)
+returns c = put-four (c .args .out .now) (c .args .at) (c .args .number % 256) (c .args .number / 256 % 256) (c .args .number / 65536 % 256) (c .args .number / 16777216 % 256) (omega arith)
 
 pub put-u32-spec : {M : Type 1} → statement M
 put-u32-spec =
