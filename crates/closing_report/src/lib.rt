@@ -10,3 +10,5 @@ pub(crate) mod stored;
 pub(crate) mod listing;
 // The two rolls of an input.
 pub(crate) mod input;
+// The call.
+pub mod report;
