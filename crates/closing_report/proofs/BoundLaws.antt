@@ -7,7 +7,7 @@ use native.Mathlib.Nat.{lt-of-lt-of-le}
 use native.Mathlib.Omega.{arith}
 use borrow.Author.Tests.{le-ltb}
 use lib.Dec.{ltb}
-use lib.ListN.{length, take, drop, length-append, length-map}
+use lib.ListN.{length, take, drop, length-append, length-map, length-take}
 use lib.Pow.{pow-mono}
 use lib.Seq.{take-at}
 use Rattle.pauli.specs.Pauli.{Pauli, consIf, select, indexedProduct}
@@ -181,11 +181,12 @@ unfolding NeverRefused
 never-refused input work out r work′ out′ c h l =
     let s = listing-short input (length work) h in
     let fits : length (s .text) ≤ length out = omega (arith, s .short) in
+    let front : take (length (s .text)) out′ ≡ s .text
+    = ap (take (length (s .text))) (c .left ∙ ap (λ (t : Told (List ℕ)). leftIn t out) (s .listed) ∙ text-left (s .text) out fits)
+    ∙ text-front (s .text) out in
     record {
-      text = s .text;
-      listed = s .listed;
+      size = length (s .text);
       told = c .told ∙ ap (λ (t : Told (List ℕ)). toldBytes t out) (s .listed) ∙ text-told (s .text) out fits;
-      front =
-          ap (take (length (s .text))) (c .left ∙ ap (λ (t : Told (List ℕ)). leftIn t out) (s .listed) ∙ text-left (s .text) out fits)
-          ∙ text-front (s .text) out;
+      room = omega (arith, length-take (length (s .text)) out′, ap length front);
+      listed = s .listed ∙ ap answer (sym front);
     }

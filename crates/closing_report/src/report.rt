@@ -37,6 +37,9 @@ use standard_form::member::factor;
 use standard_form::promise::Promise;
 use standard_form::standard::signs_of;
 
+// No text is longer.
+pub const MOST_TEXT: usize = 53924;
+
 // Stores what membership tells of an element.
 fn store_result(w: &mut [u64], at: usize, factoring: Factoring)
     requires { ⌜ (at + 5 ≤ length (now w)) × Storable (factoringTold factoring) ⌝ }
