@@ -7,7 +7,7 @@ use native.Mathlib.Nat.{lt-of-lt-of-le}
 use native.Mathlib.Omega.{arith}
 use borrow.Author.Tests.{le-ltb}
 use lib.Dec.{ltb}
-use lib.ListN.{length, take, drop, length-append, length-map}
+use lib.ListN.{length, take, drop, length-append, length-map, length-take}
 use lib.Pow.{pow-mono}
 use lib.Seq.{take-at}
 use Rattle.pauli.specs.Pauli.{Pauli, consIf, select, indexedProduct}
@@ -32,6 +32,7 @@ use Rattle.closing_report.specs.Bound.{mostText, AlwaysFits, NeverRefuse
 use Rattle.closing_report.specs.Decimal.{ascii, digits, digitsUpTo}
 use Rattle.closing_report.specs.Lines.{labelled, lineFeed, phasesText, abelianText, indexesText, firstLine, memberLine, memberLines, refusedLine}
 use Rattle.closing_report.specs.Listing.{rollsIn, report, orRefusedIn, listing}
+use Rattle.closing_report.specs.Stored.{Storable}
 use Rattle.closing_report.proofs.DecimalLaws.{few-digits}
 use Rattle.pauli_theory.proofs.IndexSets.{members-upTo}
 use Rattle.closing_report.proofs.PutLaws.{text-told, text-left}
@@ -84,7 +85,7 @@ indexes-short s h = rw (members-upTo 128 s h) (omega (arith, some-short s (upTo 
 -- an answer of membership for a list of at most 128
 abbrev Answered : Option Factorization → Type 0
 Answered none = Unit {0}
-Answered (some f) = (f .indexes < 2 ^ 128) × (f .exponent < 4)
+Answered (some f) = (f .indexes < 2 ^ 128) × Storable (some f)
 
 member-short : (i : ℕ) → i < 1000 → (o : Option Factorization) → Answered o → length (memberLine i o) ≤ 421
 unfolding memberLine labelled ascii lineFeed
@@ -108,12 +109,15 @@ phased promise gs p (some s) f e =
     let h = ifZero-some (k % phaseStep promise gs) (some (record { indexes = s; exponent = k })) f e in
     rw (← Option·some-injective _ f (h .1)) (left-lt p (indexedProduct s gs))
 
+pub storable : (promise : Promise) (gs : List Pauli) (p : Pauli) (o : Option Factorization) → factorizationOf promise gs p ≡ o → Storable o
+unfolding factorizationOf
+storable promise gs p none e = tt
+storable promise gs p (some f) e = phased promise gs p _ f (ifZero-some (outside gs p) _ f e .1)
+
 module _ (gs : List Pauli) (few : length gs ≤ 128) where
   answered : (p : Pauli) (o : Option Factorization) → factorizationOf noPromise gs p ≡ o → Answered o
-  unfolding factorizationOf
   answered p none e = tt
-  answered p (some f) e =
-      (lt-of-lt-of-le (indexes-below noPromise gs p f (sym e)) (pow-mono few), phased noPromise gs p _ f (ifZero-some (outside gs p) _ f e .1))
+  answered p (some f) e = (lt-of-lt-of-le (indexes-below noPromise gs p f (sym e)) (pow-mono few), storable noPromise gs p (some f) e)
 
   all-answered : (es : List Pauli) → All Answered (map (factorizationOf noPromise gs) es)
   all-answered [] = tt
@@ -177,11 +181,12 @@ unfolding NeverRefused
 never-refused input work out r work′ out′ c h l =
     let s = listing-short input (length work) h in
     let fits : length (s .text) ≤ length out = omega (arith, s .short) in
+    let front : take (length (s .text)) out′ ≡ s .text
+    = ap (take (length (s .text))) (c .left ∙ ap (λ (t : Told (List ℕ)). leftIn t out) (s .listed) ∙ text-left (s .text) out fits)
+    ∙ text-front (s .text) out in
     record {
-      text = s .text;
-      listed = s .listed;
+      size = length (s .text);
       told = c .told ∙ ap (λ (t : Told (List ℕ)). toldBytes t out) (s .listed) ∙ text-told (s .text) out fits;
-      front =
-          ap (take (length (s .text))) (c .left ∙ ap (λ (t : Told (List ℕ)). leftIn t out) (s .listed) ∙ text-left (s .text) out fits)
-          ∙ text-front (s .text) out;
+      room = omega (arith, length-take (length (s .text)) out′, ap length front);
+      listed = s .listed ∙ ap answer (sym front);
     }

@@ -6,5 +6,6 @@ pub mod StoredLaws
 pub mod RefusalLaws
 pub mod BoundLaws
 pub mod InputLaws
+pub mod ResultLaws
 pub mod CallLaws
 pub mod Example

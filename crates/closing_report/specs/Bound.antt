@@ -24,12 +24,12 @@ pub record TextBound (input : List ℕ) (words : ℕ) : Type 0 where
 unfoldable pub AlwaysFits : Type 0
 AlwaysFits = (input : List ℕ) (words : ℕ) → workWords ≤ words → TextBound input words
 
--- the call tells the length of the text, which stands at the front of the output
+-- the call tells the length of the text, and the text stands at the front of the output
 pub record Printed (input work : List ℕ) (r : Wrote) (out′ : List ℕ) : Type 0 where
-  pub text : List ℕ
-  pub listed : listing input (length work) ≡ answer text
-  pub told : toldWrote r ≡ answer (length text)
-  pub front : take (length text) out′ ≡ text
+  pub size : ℕ
+  pub told : toldWrote r ≡ answer size
+  pub room : size ≤ length out′
+  pub listed : listing input (length work) ≡ answer (take size out′)
 
 -- with such a work area and an output of `mostText` bytes or more the call is never refused
 unfoldable pub NeverRefused : Type 0

@@ -3,7 +3,7 @@ use mathlib.Core.Path.{_≡_}
 use mathlib.Core.Bool.{cond}
 use mathlib.Core.List.{List, [], _∷_}
 use mathlib.Core.Option.{Option, some, none}
-use Prim.Native.Nat.{ℕ, zero, suc, _+_, _*_, _^_}
+use Prim.Native.Nat.{ℕ, zero, suc, _+_, _*_, _^_, _<_}
 use lib.Dec.{ltb}
 use lib.ListN.{getD}
 use Rattle.pauli_theory.specs.Membership.{Factorization}
@@ -18,6 +18,11 @@ resultIn l i = cond (ltb (getD l i 0) 4) (some (record { indexes = getD l (i + 2
 unfoldable pub storedIn : List ℕ → ℕ → ℕ → List (Option Factorization)
 storedIn l i zero = []
 storedIn l i (suc n) = resultIn l i ∷ storedIn l (i + 5) n
+
+-- five words can keep it: an exponent is below 4
+abbrev pub Storable : Option Factorization → Type 0
+Storable none = Unit {0}
+Storable (some f) = f .exponent < 4
 
 -- the slice l is now l′: the result o is kept in the five words from word i on, and the other words are as they were
 pub record Stored (l : List ℕ) (i : ℕ) (o : Option Factorization) (l′ : List ℕ) : Type 0 where

@@ -9,4 +9,6 @@ pub(crate) mod stored;
 // A whole text, written where there is room.
 pub(crate) mod listing;
 // The two rolls of an input.
-pub(crate) mod input;
+pub mod input;
+// The call.
+pub mod report;

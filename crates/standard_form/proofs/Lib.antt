@@ -9,6 +9,7 @@ pub mod ScanLaws
 pub mod PhaseLaws
 pub mod StandardLaws
 pub mod GroupedLaws
+pub mod KeptLaws
 pub mod MemberLaws
 pub mod SolveLaws
 pub mod FactorLaws

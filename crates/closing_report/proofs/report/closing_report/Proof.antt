@@ -1,0 +1,224 @@
+-- The refusals in their order, then the text.
+use mathlib.Core.Path.{sym, ap, _∙_}
+use lib.Seq.{length-take-le}
+use Rattle.rolls.specs.Answers.{toldCount}
+use Rattle.closing_report.specs.Split.{rollsTold}
+use Rattle.closing_report.proofs.InputLaws.{parted}
+use Rattle.closing_report.proofs.CallLaws.{input-refused, generators-refused, elements-refused, work-short, work-enough, call-line, call-short, call-done}
+use borrow.Author.Needs.{needs}
+use Rattle.closing_report.proofs.report.closing_report.Statement.{statement}
+use Rattle.closing_report.proofs.report.closing_report.Tie as tie
+
+split-input-requires : tie.Need-split-input-requires
+split-input-requires c κs = search needs
+
+enum-told : tie.Need-enum-told
+enum-told c = search needs
+
+write-cut-requires : tie.Need-write-cut-requires
+write-cut-requires c κs = search needs
+
+same-length : tie.Need-same-length
+same-length c = search needs
+
+returns : tie.Need-returns
+returns c =
+    let cut = sym (c .before .before .before .before .before .before .split-input .ensures .0) ∙ ap (rollsTold _) (c .before .before .before .before .enum-told .given .1) in
+    let wrote = c .before .before .write-cut .ensures in
+    call-line _ _ _ (input-refused _ _ _ _ cut) (wrote .0) (wrote .1)
+
+enum-known-split : tie.Need-enum-known-split
+enum-known-split c = search needs
+
+sub-check-roll : tie.Need-sub-check-roll
+sub-check-roll c =
+    let split = c .before in
+    let parts = parted _ _ (split .before .before .split-input .ensures .0) (split .before .before .split-input .ensures .1) _ (split .split .given .1) in
+    parts .low
+
+part-check-roll-start : tie.Need-part-check-roll-start
+part-check-roll-start c =
+    let split = c .before in
+    let parts = parted _ _ (split .before .before .split-input .ensures .0) (split .before .before .split-input .ensures .1) _ (split .split .given .1) in
+    parts .low
+
+part-check-roll-end : tie.Need-part-check-roll-end
+part-check-roll-end c =
+    let split = c .before in
+    let parts = parted _ _ (split .before .before .split-input .ensures .0) (split .before .before .split-input .ensures .1) _ (split .split .given .1) in
+    parts .high
+
+check-roll-requires : tie.Need-check-roll-requires
+check-roll-requires c κs = search needs
+
+enum-known-first : tie.Need-enum-known-first
+enum-known-first c = search needs
+
+write-refused-requires : tie.Need-write-refused-requires
+write-refused-requires c κs = search needs
+
+same-length-2 : tie.Need-same-length-2
+same-length-2 c = search needs
+
+returns-2 : tie.Need-returns-2
+returns-2 c =
+    let split = c .before .before .before .before .before .before .before .before .before .before in
+    let parts = parted _ _ (split .before .before .split-input .ensures .0) (split .before .before .split-input .ensures .1) _ (split .split .given .1) in
+    let generators = sym (c .before .before .before .before .before .before .before .check-roll .ensures) ∙ ap toldCount (c .before .before .before .before .before .first .given .1) in
+    let wrote = c .before .before .write-refused .ensures in
+    call-line _ _ _ (generators-refused _ _ _ (parts .rolls) _ _ generators) (wrote .0) (wrote .1)
+
+enum-known-first-2 : tie.Need-enum-known-first-2
+enum-known-first-2 c = search needs
+
+sub-check-roll-2 : tie.Need-sub-check-roll-2
+sub-check-roll-2 c =
+    let split = c .before .before .before .before .before .before in
+    let parts = parted _ _ (split .before .before .split-input .ensures .0) (split .before .before .split-input .ensures .1) _ (split .split .given .1) in
+    parts .high
+
+part-check-roll-start-2 : tie.Need-part-check-roll-start-2
+part-check-roll-start-2 c =
+    let split = c .before .before .before .before .before .before in
+    let parts = parted _ _ (split .before .before .split-input .ensures .0) (split .before .before .split-input .ensures .1) _ (split .split .given .1) in
+    parts .high
+
+part-check-roll-end-2 : tie.Need-part-check-roll-end-2
+part-check-roll-end-2 c = search needs
+
+check-roll-requires-2 : tie.Need-check-roll-requires-2
+check-roll-requires-2 c κs = search needs
+
+enum-known-second : tie.Need-enum-known-second
+enum-known-second c = search needs
+
+write-refused-requires-2 : tie.Need-write-refused-requires-2
+write-refused-requires-2 c κs = search needs
+
+same-length-3 : tie.Need-same-length-3
+same-length-3 c = search needs
+
+returns-3 : tie.Need-returns-3
+returns-3 c =
+    let split = c .before .before .before .before .before .before .before .before .before .before .before .before .before .before .before in
+    let parts = parted _ _ (split .before .before .split-input .ensures .0) (split .before .before .split-input .ensures .1) _ (split .split .given .1) in
+    let generators = sym (c .before .before .before .before .before .before .before .before .before .before .before .before .check-roll .ensures) ∙ ap toldCount (c .before .before .before .before .before .before .before .before .before .before .first2 .given .1) in
+    let elements = sym (c .before .before .before .before .before .before .before .check-roll2 .ensures) ∙ ap toldCount (c .before .before .before .before .before .second .given .1) in
+    let wrote = c .before .before .write-refused2 .ensures in
+    call-line _ _ _ (elements-refused _ _ _ (parts .rolls) _ generators _ _ elements) (wrote .0) (wrote .1)
+
+enum-known-second-2 : tie.Need-enum-known-second-2
+enum-known-second-2 c = search needs
+
+returns-4 : tie.Need-returns-4
+returns-4 c =
+    let split = c .before .before .before .before .before .before .before .before .before .before .before .before in
+    let parts = parted _ _ (split .before .before .split-input .ensures .0) (split .before .before .split-input .ensures .1) _ (split .split .given .1) in
+    let generators = sym (c .before .before .before .before .before .before .before .before .before .check-roll .ensures) ∙ ap toldCount (c .before .before .before .before .before .before .before .first2 .given .1) in
+    let elements = sym (c .before .before .before .before .check-roll2 .ensures) ∙ ap toldCount (c .before .before .second2 .given .1) in
+    let short = work-short _ _ _ (parts .rolls) _ generators _ elements (c .if1 .taken) in
+    call-short _ _ _ _ (short .0) (short .1)
+
+sub-write-report : tie.Need-sub-write-report
+sub-write-report c =
+    let split = c .before .before .before .before .before .before .before .before .before .before .before .before in
+    let parts = parted _ _ (split .before .before .split-input .ensures .0) (split .before .before .split-input .ensures .1) _ (split .split .given .1) in
+    parts .low
+
+part-write-report-start : tie.Need-part-write-report-start
+part-write-report-start c =
+    let split = c .before .before .before .before .before .before .before .before .before .before .before .before in
+    let parts = parted _ _ (split .before .before .split-input .ensures .0) (split .before .before .split-input .ensures .1) _ (split .split .given .1) in
+    parts .low
+
+part-write-report-end : tie.Need-part-write-report-end
+part-write-report-end c =
+    let split = c .before .before .before .before .before .before .before .before .before .before .before .before in
+    let parts = parted _ _ (split .before .before .split-input .ensures .0) (split .before .before .split-input .ensures .1) _ (split .split .given .1) in
+    parts .high
+
+sub-write-report-2 : tie.Need-sub-write-report-2
+sub-write-report-2 c =
+    let split = c .before .before .before .before .before .before .before .before .before .before .before .before .before in
+    let parts = parted _ _ (split .before .before .split-input .ensures .0) (split .before .before .split-input .ensures .1) _ (split .split .given .1) in
+    parts .high
+
+part-write-report-start-2 : tie.Need-part-write-report-start-2
+part-write-report-start-2 c =
+    let split = c .before .before .before .before .before .before .before .before .before .before .before .before .before in
+    let parts = parted _ _ (split .before .before .split-input .ensures .0) (split .before .before .split-input .ensures .1) _ (split .split .given .1) in
+    parts .high
+
+part-write-report-end-2 : tie.Need-part-write-report-end-2
+part-write-report-end-2 c = search needs
+
+slice-relend-prefix-write-report : tie.Need-slice-relend-prefix-write-report
+slice-relend-prefix-write-report c = search needs
+
+slice-aggregate-write-report : tie.Need-slice-aggregate-write-report
+slice-aggregate-write-report c = sym (length-take-le 4096 (c .before .before .before .before .before .before .before .before .before .before .before .before .before .before .before .before .before .before .before .before .before .args .work .now) (c .before .before .before .if1 .left))
+
+write-report-requires : tie.Need-write-report-requires
+write-report-requires c κs =
+    let generators = sym (c .before .before .before .before .before .before .before .before .before .before .before .before .before .check-roll .ensures) ∙ ap toldCount (c .before .before .before .before .before .before .before .before .before .before .before .first2 .given .1) in
+    let elements = sym (c .before .before .before .before .before .before .before .before .check-roll2 .ensures) ∙ ap toldCount (c .before .before .before .before .before .before .second2 .given .1) in
+    (generators, elements, length-take-le 4096 (c .before .before .before .before .before .before .before .before .before .before .before .before .before .before .before .before .before .before .before .before .before .before .args .work .now) (c .before .before .before .before .if1 .left))
+
+same-length-4 : tie.Need-same-length-4
+same-length-4 c = search needs
+
+same-length-5 : tie.Need-same-length-5
+same-length-5 c = search needs
+
+returns-5 : tie.Need-returns-5
+returns-5 c =
+    let split = c .before .before .before .before .before .before .before .before .before .before .before .before .before .before .before .before .before .before .before .before .before in
+    let parts = parted _ _ (split .before .before .split-input .ensures .0) (split .before .before .split-input .ensures .1) _ (split .split .given .1) in
+    let generators = sym (c .before .before .before .before .before .before .before .before .before .before .before .before .before .before .before .before .before .before .check-roll .ensures) ∙ ap toldCount (c .before .before .before .before .before .before .before .before .before .before .before .before .before .before .before .before .first2 .given .1) in
+    let elements = sym (c .before .before .before .before .before .before .before .before .before .before .before .before .before .check-roll2 .ensures) ∙ ap toldCount (c .before .before .before .before .before .before .before .before .before .before .before .second2 .given .1) in
+    let room = c .before .before .before .before .before .before .before .before .before .if1 .left in
+    let enough = work-enough _ _ _ (parts .rolls) _ generators _ elements room in
+    let wrote = c .before .before .before .before .write-report .ensures in
+    call-done _ _ _ room _ (enough .0) _ (enough .1) (wrote .0) (wrote .1 .0) (wrote .1 .1)
+
+pub closing-report-spec : {M : Type 1} → statement M
+closing-report-spec =
+    tie.close
+    (tie.spec
+    split-input-requires
+    enum-told
+    write-cut-requires
+    same-length
+    returns
+    enum-known-split
+    sub-check-roll
+    part-check-roll-start
+    part-check-roll-end
+    check-roll-requires
+    enum-known-first
+    write-refused-requires
+    same-length-2
+    returns-2
+    enum-known-first-2
+    sub-check-roll-2
+    part-check-roll-start-2
+    part-check-roll-end-2
+    check-roll-requires-2
+    enum-known-second
+    write-refused-requires-2
+    same-length-3
+    returns-3
+    enum-known-second-2
+    returns-4
+    sub-write-report
+    part-write-report-start
+    part-write-report-end
+    sub-write-report-2
+    part-write-report-start-2
+    part-write-report-end-2
+    slice-relend-prefix-write-report
+    slice-aggregate-write-report
+    write-report-requires
+    same-length-4
+    same-length-5
+    returns-5)

@@ -1,0 +1,45 @@
+-- By what membership tells.
+use mathlib.Core.Path.{ap, subst}
+use native.Mathlib.Omega.{arith}
+use Rattle.standard_form.specs.Members.{factoringTold}
+use Rattle.closing_report.specs.Stored.{Storable}
+use borrow.Author.Needs.{needs}
+use Rattle.closing_report.proofs.report.store_result.Statement.{statement}
+use Rattle.closing_report.proofs.report.store_result.Tie as tie
+
+enum-told : tie.Need-enum-told
+enum-told c = search needs
+
+store-other-requires : tie.Need-store-other-requires
+store-other-requires c κs = search needs
+
+enum-known-factoring : tie.Need-enum-known-factoring
+enum-known-factoring c = search needs
+
+store-member-requires : tie.Need-store-member-requires
+store-member-requires c κs = (omega arith, subst Storable (ap factoringTold (c .before .before .factoring .given .1)) (c .before .before .before .before .before .pre .1))
+
+same-length : tie.Need-same-length
+same-length c = search needs
+
+returns : tie.Need-returns
+returns c = rw (c .before .before .before .before .enum-told .given .1) (c .before .before .store-other .ensures)
+
+same-length-2 : tie.Need-same-length-2
+same-length-2 c = search needs
+
+returns-2 : tie.Need-returns-2
+returns-2 c = rw (c .before .before .before .before .before .factoring .given .1) (c .before .before .store-member .ensures)
+
+pub store-result-spec : {M : Type 1} → statement M
+store-result-spec =
+    tie.close
+    (tie.spec
+    enum-told
+    store-other-requires
+    enum-known-factoring
+    store-member-requires
+    same-length
+    returns
+    same-length-2
+    returns-2)

@@ -1,0 +1,145 @@
+// The call for the closing listing.
+ghost use mathlib.Core.Path.{_≡_};
+ghost use mathlib.Core.List.{map};
+ghost use Prim.Native.Nat.{_+_, _≤_};
+ghost use lib.ListN.{length};
+ghost use Rattle.rolls.specs.Roll.{countOf};
+ghost use Rattle.rolls.specs.Told.{answer};
+ghost use Rattle.pauli.specs.Answers.{toldWrote};
+ghost use Rattle.pauli.specs.Condense.{listOf};
+ghost use Rattle.pauli.specs.Writing.{toldBytes, leftIn};
+ghost use Rattle.pauli_theory.specs.Membership.{factorizationOf};
+ghost use Rattle.standard_form.specs.Area.{spareAt, cleared};
+ghost use Rattle.standard_form.specs.Groups.{paulis};
+ghost use Rattle.standard_form.specs.Members.{factoringTold, Asked};
+ghost use Rattle.closing_report.specs.Contract.{ReportCall};
+ghost use Rattle.closing_report.specs.Lines.{refusedLine};
+ghost use Rattle.closing_report.specs.Listing.{report};
+ghost use Rattle.closing_report.specs.Stored.{storedIn, Storable, Stored};
+use crate::input::Split;
+use crate::input::split_input;
+use crate::listing::write_listing;
+use crate::listing::write_refused;
+use crate::stored::store_member;
+use crate::stored::store_other;
+use binar::row::clear_bits;
+use pauli::write::Wrote;
+use rolls::refusal::Reason;
+use rolls::refusal::Refusal;
+use rolls::roll::Checked;
+use rolls::roll::check_roll;
+use standard_form::area::SPARE;
+use standard_form::area::WORK_WORDS;
+use standard_form::group::Group;
+use standard_form::group::group_of;
+use standard_form::member::Factoring;
+use standard_form::member::factor;
+use standard_form::promise::Promise;
+use standard_form::standard::signs_of;
+
+// No text is longer.
+pub const MOST_TEXT: usize = 53924;
+
+// Stores what membership tells of an element.
+fn store_result(w: &mut [u64], at: usize, factoring: Factoring)
+    requires { ⌜ (at + 5 ≤ length (now w)) × Storable (factoringTold factoring) ⌝ }
+    ensures { λ _. ⌜ Stored (now (w .entry)) at (factoringTold factoring) (now (w .exit)) ⌝ }
+{
+    match factoring {
+        Factoring::NotFound => store_other(w, at),
+        Factoring::Found(found) => store_member(w, at, found.set, found.exponent),
+    }
+}
+
+// Factors the m Paulis of an accepted roll by the group of a list of n that is in the work area, whose phases have this step, and
+// stores the results in place of a further list.
+fn factor_all(b: &[u8], m: usize, known: &[u32], n: usize, group: Group, step: u64, w: &mut [u64])
+    requires { ⌜ (countOf (now b) ≡ answer m) × (n ≤ 128) × (length (now w) ≡ 4096) × (group .places ≤ 128) × Asked (now known) (now w) n (group .places) (group .rank) (group .total) step ⌝ }
+    ensures { λ _. ⌜ ((g : Asked (now (known .entry)) (now (w .entry)) n (group .places) (group .rank) (group .total) step) → storedIn (now (w .exit)) spareAt m ≡ map (factorizationOf (g .promise) (g .list)) (paulis (listOf (now (b .entry))))) ⌝ }
+{
+    let mut k = 0;
+    while k < m {
+        let factoring = factor(b, m, k, known, n, group, step, w);
+        store_result(w, SPARE + 5 * k, factoring);
+        k += 1;
+    }
+}
+
+// Writes the listing for two accepted rolls of n generators and m elements, and clears the work area.
+fn write_report(
+    b: &[u8],
+    n: usize,
+    elements: &[u8],
+    m: usize,
+    w: &mut [u64],
+    out: &mut [u8],
+) -> Wrote
+    requires { ⌜ (countOf (now b) ≡ answer n) × (countOf (now elements) ≡ answer m) × (length (now w) ≡ 4096) ⌝ }
+    ensures told { λ r. ⌜ toldWrote r ≡ toldBytes (answer (report (paulis (listOf (now (b .entry)))) (paulis (listOf (now (elements .entry)))))) (now (out .entry)) ⌝ }
+    ensures left { λ _. ⌜ now (out .exit) ≡ leftIn (answer (report (paulis (listOf (now (b .entry)))) (paulis (listOf (now (elements .entry)))))) (now (out .entry)) ⌝ }
+    ensures area { λ _. ⌜ now (w .exit) ≡ cleared (now (w .entry)) ⌝ }
+{
+    let mut known = [0u32; 129];
+    let g = group_of(b, n, &mut known, w);
+    let signs = signs_of(w, g.total, Promise::None);
+    factor_all(elements, m, &known, n, g, signs.step, w);
+    let wrote = write_listing(g.rank, signs.step, signs.clash, w, SPARE, m, out);
+    clear_bits(w, 0, WORK_WORDS);
+    wrote
+}
+
+// Writes the line for an input without a whole first roll.
+fn write_cut(out: &mut [u8]) -> Wrote
+    ensures told { λ r. ⌜ toldWrote r ≡ toldBytes (answer (refusedLine 1 0 1)) (now (out .entry)) ⌝ }
+    ensures left { λ _. ⌜ now (out .exit) ≡ leftIn (answer (refusedLine 1 0 1)) (now (out .entry)) ⌝ }
+{
+    write_refused(
+        Refusal {
+            reason: Reason::Length,
+            place: 0,
+        },
+        1,
+        out,
+    )
+}
+
+// Writes the closing listing of an input: a text for two accepted rolls, or the line of the first refusal.
+pub fn closing_report(input: &[u8], work: &mut [u64], out: &mut [u8]) -> Wrote
+    ensures { λ r. ⌜ ReportCall (now (input .entry)) (now (work .entry)) (now (out .entry)) r (now (work .exit)) (now (out .exit)) ⌝ }
+{
+    let split = split_input(input);
+    let end = match split {
+        Split::Cut => {
+            return write_cut(out);
+        }
+        Split::At(end) => end,
+    };
+    let first = check_roll(&input[4..end]);
+    let n = match first {
+        Checked::Refused(r) => {
+            return write_refused(r, 1, out);
+        }
+        Checked::Count(n) => n,
+    };
+    let second = check_roll(&input[end..]);
+    let m = match second {
+        Checked::Refused(r) => {
+            return write_refused(r, 2, out);
+        }
+        Checked::Count(m) => m,
+    };
+    if work.len() < WORK_WORDS {
+        return Wrote::Refused(Refusal {
+            reason: Reason::Work,
+            place: 0,
+        });
+    }
+    write_report(
+        &input[4..end],
+        n,
+        &input[end..],
+        m,
+        &mut work[..WORK_WORDS],
+        out,
+    )
+}

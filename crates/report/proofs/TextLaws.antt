@@ -1,0 +1,33 @@
+-- What the call leaves where it is lent the room for every text.
+use mathlib.Core.Path.{_≡_, sym, ap, _∙_}
+use mathlib.Core.List.{List}
+use Prim.Native.Nat.{ℕ, _≤_}
+use native.Mathlib.Omega.{arith}
+use lib.ListN.{length, take}
+use Rattle.rolls.specs.declared.refusal.Refusal.{Refusal}
+use Rattle.rolls.specs.Told.{Told, answer}
+use Rattle.pauli.specs.declared.write.Wrote.{Wrote}
+use Rattle.pauli.specs.declared.write.Wrote.the-variants.{Bytes, Refused}
+use Rattle.pauli.specs.Answers.{toldWrote}
+use Rattle.closing_report.specs.Bound.{NeverRefused, Printed}
+use Rattle.closing_report.specs.Contract.{ReportCall}
+use Rattle.closing_report.specs.Listing.{listing}
+use Rattle.closing_report.proofs.BoundLaws.{never-refused}
+
+module _ (input work out : List ℕ) (r : Wrote) (work′ out′ : List ℕ) (c : ReportCall input work out r work′ out′)
+    (words : length work ≡ 4096) (room : length out ≡ 53924) where
+  printed : Printed input work r out′
+  unfolding NeverRefused
+  printed = never-refused input work out r work′ out′ c (omega arith) (omega arith)
+
+  pub not-refused : (q : Refusal) → r ≡ Refused q → ⊥
+  not-refused q e =
+      let told = sym (ap toldWrote e) ∙ printed .told in
+      let z : _≡_ {A = ℕ} 0 1 = cc in
+      omega arith
+
+  pub text-put : (k : ℕ) → r ≡ Bytes k → (listing input 4096 ≡ answer (take k out′)) × (k ≤ length out′)
+  text-put k e =
+      let told : _≡_ {A = Told ℕ} (answer k) (answer (printed .size)) = sym (ap toldWrote e) ∙ printed .told in
+      let same : k ≡ printed .size = cc in
+      (ap (listing input) (sym words) ∙ printed .listed ∙ ap (λ (n : ℕ). answer (take n out′)) (sym same), omega (arith, same, printed .room))
