@@ -13,8 +13,8 @@ use crate::text::put_labelled;
 use crate::text::put_number;
 use crate::text::put_text;
 use pauli::signed::Places;
-use rolls::refusal::Reason;
 use rolls::refusal::Refusal;
+use rolls::refusal::number_of;
 
 // ---- the first line
 
@@ -148,26 +148,6 @@ pub(crate) fn put_other_line(out: &mut [u8], at: usize, i: usize) -> usize
 }
 
 // ---- the line of a refusal
-
-// Document 01's number of a reason.
-fn number_of(reason: Reason) -> usize
-    ensures { λ r. ⌜ r ≡ numberOf reason ⌝ }
-{
-    match reason {
-        Reason::Length => 1,
-        Reason::Paulis => 2,
-        Reason::Entry => 3,
-        Reason::Exponent => 4,
-        Reason::Qubit => 5,
-        Reason::Rising => 6,
-        Reason::Qubits => 7,
-        Reason::Number => 8,
-        Reason::Work => 9,
-        Reason::Listing => 10,
-        Reason::Subgroup => 11,
-        Reason::Output => 12,
-    }
-}
 
 pub(crate) fn refused_line_length(refusal: Refusal, roll: usize) -> usize
     ensures { λ r. ⌜ (r ≡ length (refusedLine (numberOf (refusal .reason)) (refusal .place) roll)) × (r ≤ 82) ⌝ }

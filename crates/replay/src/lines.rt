@@ -2,11 +2,10 @@
 ghost use Prim.Native.Nat.{_≤_, min};
 ghost use mathlib.Core.Path.{_≡_};
 ghost use lib.ListN.{length};
-ghost use Rattle.rolls.specs.Answers.{numberOf};
 use libc::STDOUT_FILENO;
 use pauli::write::Wrote;
-use rolls::refusal::Reason;
 use rolls::refusal::Refusal;
+use rolls::refusal::number_of;
 
 const WORK_WORDS: usize = 4096;
 
@@ -34,30 +33,10 @@ pub(crate) fn print_bytes(b: &[u8]) {
     }
 }
 
-// Document 01's number of a reason.
-fn number_of(reason: Reason) -> u64
-    ensures { λ r. ⌜ r ≡ numberOf reason ⌝ }
-{
-    match reason {
-        Reason::Length => 1,
-        Reason::Paulis => 2,
-        Reason::Entry => 3,
-        Reason::Exponent => 4,
-        Reason::Qubit => 5,
-        Reason::Rising => 6,
-        Reason::Qubits => 7,
-        Reason::Number => 8,
-        Reason::Work => 9,
-        Reason::Listing => 10,
-        Reason::Subgroup => 11,
-        Reason::Output => 12,
-    }
-}
-
 pub(crate) fn print_refusal(r: Refusal) {
     let reason = r.reason;
     text(b"refused ");
-    number(number_of(reason));
+    number(number_of(reason) as u64);
     text(b" at ");
     number(r.place as u64);
 }

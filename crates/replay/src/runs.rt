@@ -13,6 +13,7 @@ use crate::tells::print_member;
 use crate::tells::print_phases;
 use crate::tells::print_rank;
 use crate::tells::print_size;
+use closing_report::report::closing_report;
 use joining::joined::EntryFound;
 use joining::joined::join;
 use joining::joined::joined_body;
@@ -208,6 +209,12 @@ pub(crate) fn run_group(
         let found = partial_cmp(first, second, p, q, work);
         print_compared(found);
         end_work_line(out, 0, work, f);
+        return true;
+    }
+    if op == 18 {
+        let w = closing_report(first, work, out);
+        let n = print_wrote(w);
+        end_line(out, n, f);
         return true;
     }
     if op > 16 {

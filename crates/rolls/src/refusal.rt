@@ -1,4 +1,6 @@
 // Why a call is refused, and where.
+ghost use mathlib.Core.Path.{_≡_};
+ghost use Rattle.rolls.specs.Answers.{numberOf};
 
 // The reasons; the definition numberOf gives document 01's number of each.
 pub enum Reason {
@@ -32,4 +34,24 @@ pub enum Reason {
 pub struct Refusal {
     pub reason: Reason,
     pub place: usize,
+}
+
+// Document 01's number of a reason.
+pub fn number_of(reason: Reason) -> usize
+    ensures { λ r. ⌜ r ≡ numberOf reason ⌝ }
+{
+    match reason {
+        Reason::Length => 1,
+        Reason::Paulis => 2,
+        Reason::Entry => 3,
+        Reason::Exponent => 4,
+        Reason::Qubit => 5,
+        Reason::Rising => 6,
+        Reason::Qubits => 7,
+        Reason::Number => 8,
+        Reason::Work => 9,
+        Reason::Listing => 10,
+        Reason::Subgroup => 11,
+        Reason::Output => 12,
+    }
 }
