@@ -47,3 +47,4 @@ pub mod ModuloPlaces
 pub mod CommonPlaces
 pub mod CommonExponents
 pub mod CommonWritten
+pub mod CommonCount

@@ -1,3 +1,6 @@
 pub mod OrderLaws
 pub mod MoveLaws
 pub mod RemainderLaws
+pub mod SharedLaws
+pub mod BasisLaws
+pub mod PartLaws

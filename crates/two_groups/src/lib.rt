@@ -8,3 +8,7 @@ pub mod order;
 pub(crate) mod moved;
 // The call for the remainder.
 pub mod modulo;
+// The common basis of two groups.
+pub(crate) mod basis;
+// The call for the common part.
+pub mod common;
