@@ -1,18 +1,18 @@
 -- What is in the work area once the form and the standard generators of a list are made.
-use mathlib.Core.Path.{_≡_, refl, sym, ap, ap₂, _∙_, subst}
+use mathlib.Core.Path.{_≡_, refl, sym, ap, ap₂, _∙_}
 use mathlib.Core.List.{List, map, map-map}
-use Prim.Native.Nat.{ℕ, zero, suc, _+_, _-_, _*_, _/_, _%_, _^_, _≤_, _<_}
+use Prim.Native.Nat.{ℕ, zero, suc, _+_, _-_, _*_, _/_, _%_, _^_, _≤_}
 use native.Mathlib.Omega.{arith}
-use lib.ListN.{length, getD, take, drop, length-map}
+use lib.ListN.{length, take, drop, length-map}
 use lib.Seq.{take-all}
-use Rattle.binar.specs.Echelon.{Row, EchelonForm, echelon, rank as echelonRank}
+use Rattle.binar.specs.Echelon.{Row, rank as echelonRank}
 use Rattle.binar.specs.Layout.{formIn}
 use Rattle.binar.specs.Words.{matrix}
 use Rattle.binar.proofs.Lists.{map-drop}
 use Rattle.binar.proofs.Matrix.{length-matrix}
 use Rattle.binar.proofs.Bounds.{rank-rows}
 use Rattle.pauli.specs.Pauli.{Pauli, indexedProduct}
-use Rattle.pauli.specs.Signed.{listIn, pauliIn}
+use Rattle.pauli.specs.Signed.{listIn}
 use Rattle.pauli_theory.proofs.Form.{map-take}
 use Rattle.standard_form.specs.Area.{listAt, standardAt, spareAt, rowWords, strideOf, Outside}
 use Rattle.standard_form.specs.Groups.{productsNamed, Built}

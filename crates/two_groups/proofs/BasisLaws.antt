@@ -1,21 +1,20 @@
 -- Laws of the common basis in the work area: the standard generators of two lists stacked, and the two reductions.
-use mathlib.Core.Path.{_≡_, refl, sym, ap, ap₂, _∙_, subst}
+use mathlib.Core.Path.{_≡_, refl, ap, ap₂, _∙_}
 use mathlib.Core.List.{List, _++_, map, List·Memᴰ as Mem}
 use Prim.Native.Nat.{ℕ, _+_, _-_, _*_, _^_, _≤_, _<_}
 use native.Mathlib.Omega.{arith}
 use lib.ListN.{length, getD, take, drop, length-drop, length-map}
 use lib.Seq.{take-all}
-use Rattle.binar.specs.Echelon.{Row, EchelonForm, echelon, rank as echelonRank}
+use Rattle.binar.specs.Echelon.{Row, EchelonForm, rank as echelonRank}
 use Rattle.binar.specs.Layout.{formIn}
 use Rattle.binar.proofs.Bounds.{rank-rows}
 use Rattle.binar.proofs.Lists.{all-of, all-map, all-join, map-same}
 use Rattle.binar.proofs.Theorems.{transform-law}
-use Rattle.rolls.specs.Roll.{Sparse, countOf, support, mostQubits}
+use Rattle.rolls.specs.Roll.{Sparse, support, mostQubits}
 use Rattle.rolls.specs.RollTheorems.{All, Rising}
 use Rattle.rolls.specs.Known.{Gathered}
-use Rattle.rolls.specs.Told.{answer}
 use Rattle.rolls.proofs.Lists.{in-getD}
-use Rattle.pauli.specs.Condense.{listOf, condensed}
+use Rattle.pauli.specs.Condense.{condensed}
 use Rattle.pauli.specs.Pauli.{Pauli, normal, indexedProduct}
 use Rattle.pauli.specs.Signed.{listIn}
 use Rattle.pauli.specs.Writing.{OnPlaces}

@@ -1,17 +1,16 @@
 -- Laws of the common part in the work area: from the common basis, with exponents noted twice, to the Paulis that are written.
-use mathlib.Core.Path.{_≡_, refl, sym, ap, ap₂, _∙_, subst}
+use mathlib.Core.Path.{_≡_, refl, sym, ap, ap₂, _∙_}
 use mathlib.Core.List.{List, [], _∷_, _++_, map}
 use mathlib.Core.Option.{Option, some, none}
 use Prim.Native.Nat.{ℕ, _+_, _*_, _/_, _%_, _^_, _≤_, _<_}
 use native.Mathlib.Omega.{arith}
 use lib.ListN.{length, getD, take}
-use Rattle.binar.specs.Solve.{transposeSolve}
 use Rattle.binar.proofs.Lists.{all-map, all-over, all-under}
-use Rattle.rolls.specs.Roll.{countOf, write}
+use Rattle.rolls.specs.Roll.{countOf}
 use Rattle.rolls.specs.RollTheorems.{All, Rising}
 use Rattle.rolls.specs.Told.{Told, answer, refused, mapTold}
 use Rattle.pauli.specs.Condense.{listOf, condensed}
-use Rattle.pauli.specs.Pauli.{Pauli, indexedProduct}
+use Rattle.pauli.specs.Pauli.{Pauli}
 use Rattle.pauli.specs.PauliTheorems.{On, PauliOn}
 use Rattle.pauli.specs.Sets.{condense}
 use Rattle.pauli.specs.Signed.{listIn}
@@ -20,14 +19,13 @@ use Rattle.pauli.proofs.Places.{condense-bit}
 use Rattle.pauli_theory.specs.Group.{Promise}
 use Rattle.pauli_theory.specs.Standard.{supportOf, phaseStep}
 use Rattle.pauli_theory.specs.Common.{commonBasis, withExponent, consSome, phasesFrom, commonPhases, commonPart, lesser, bitand}
-use Rattle.pauli_theory.specs.CommonPlaces.{formOfPlaces, sharedExponent, withSome, sharedWith, exponentBy, solvedExponent}
+use Rattle.pauli_theory.specs.CommonPlaces.{sharedExponent, withSome, sharedWith, exponentBy, solvedExponent}
 use Rattle.pauli_theory.specs.ModuloPlaces.{movedPauli}
 use Rattle.pauli_theory.specs.Order.{Order, partialCmp}
 use Rattle.pauli_theory.proofs.CommonExponents.{Solved, basis-left, basis-right}
-use Rattle.pauli_theory.proofs.CommonPlaces.{basisPlaces, places-basis}
-use Rattle.pauli_theory.proofs.CommonWritten.{sharedAt, partPlaces, part-places-on, written-part}
+use Rattle.pauli_theory.proofs.CommonPlaces.{places-basis}
+use Rattle.pauli_theory.proofs.CommonWritten.{partPlaces, part-places-on, written-part}
 use Rattle.pauli_theory.proofs.ModuloPlaces.{joined}
-use Rattle.pauli_theory.proofs.OverPlaces.{placed}
 use Rattle.pauli_theory.proofs.Placed.{condensed-on}
 use Rattle.pauli_theory.proofs.Products.{indexed-lt}
 use Rattle.pauli_theory.proofs.Rows.{support-rises}

@@ -9,7 +9,7 @@ use native.Mathlib.Omega.{arith}
 use borrow.Author.Tests.{lt-ltb, le-ltb}
 use lib.ListN.{length, getD, set, take, length-set}
 use lib.Seq.{sets, length-take-le, getD-set-same, getD-set-other}
-use Rattle.binar.specs.Layout.{formIn, Solvable}
+use Rattle.binar.specs.Layout.{formIn}
 use Rattle.binar.specs.Solve.{transposeSolve}
 use Rattle.pauli.specs.declared.signed.Pauli.{Pauli as Held}
 use Rattle.pauli.specs.Pauli.{Pauli, I, normal, indexedProduct}
@@ -20,7 +20,6 @@ use Rattle.rolls.specs.Told.{answer}
 use Rattle.pauli.proofs.Writers.{length-list}
 use Rattle.rolls.specs.RollTheorems.{All}
 use Rattle.binar.proofs.Lists.{all-get}
-use Rattle.pauli.specs.Sets.{condense}
 use Rattle.pauli.specs.Signed.{held, pauliIn, pauliWords, listIn}
 use Rattle.pauli.proofs.Algebra.{pauli-path}
 use Rattle.pauli.proofs.Places.{condense-lt}
@@ -32,30 +31,13 @@ use Rattle.pauli_theory.specs.CommonPlaces.{formOfPlaces, sharedExponentFrom, s
 use Rattle.pauli_theory.specs.ModuloPlaces.{movedSet, movedPauli}
 use Rattle.pauli_theory.proofs.CommonWritten.{shared-append, phases-next}
 use Rattle.pauli_theory.proofs.IfZero.{ifZero-zero, ifZero-more}
-use Rattle.pauli_theory.proofs.Products.{indexed-lt}
 use Rattle.standard_form.specs.Area.{targetAt, listAt, spareAt, rowWords, strideOf, Outside}
 use Rattle.standard_form.specs.Groups.{paulis, overSupport, Grouped}
 use Rattle.standard_form.specs.Lists.{rowOver}
 use Rattle.standard_form.proofs.FactorLaws.{grouped-solvable}
 use Rattle.standard_form.proofs.GroupedLaws.{list-length, list-few, group-places}
 use Rattle.standard_form.proofs.AreaLaws.{form-room}
-use Rattle.standard_form.proofs.ListLaws.{
-  pauli-same,
-  list-same,
-  list-at,
-  on-places-at,
-  list-append,
-  list-snoc,
-  list-kept,
-  list-kept-after,
-  pauli-kept-after,
-  outside-refl,
-  outside-join,
-  outside-wider,
-  store-outside,
-  list-store,
-  store-further,
-}
+use Rattle.standard_form.proofs.ListLaws.{pauli-same, list-same, list-at, on-places-at, list-append, list-snoc, list-kept, list-kept-after, pauli-kept-after, outside-refl, list-store, store-further}
 use Rattle.standard_form.proofs.SolveLaws.{solvable-kept, form-kept}
 use Rattle.two_groups.specs.Calls.{listBytes}
 use Rattle.two_groups.specs.Moved.{MovablePauli}
@@ -63,6 +45,11 @@ use Rattle.two_groups.specs.Shared.{Solving, exponentOver, exponentFor, 
 
 pub mod-le : (n m : ℕ) → n % m ≤ n
 mod-le n m = omega (arith, div-add-mod' n m)
+
+some-more : (i j : ℕ) → (i + j ≡ 0 → ⊥) → 0 < max i j
+some-more zero zero d = absurd (d refl)
+some-more zero (suc j) d = omega arith
+some-more (suc i) j d = omega arith
 
 -- ---- the shared exponent of two
 
@@ -94,13 +81,8 @@ module _ (a b u v : ℕ) where
 
     pub shared-miss : ((e + 4 - u) % 4 % a + (e + 4 - v) % 4 % b ≡ 0 → ⊥) → SharedFrom (e + 1)
     shared-miss h =
-        let m : 0 < misses e = more ((e + 4 - u) % 4 % a) ((e + 4 - v) % 4 % b) h in
+        let m : 0 < misses e = some-more ((e + 4 - u) % 4 % a) ((e + 4 - v) % 4 % b) h in
         sym (ifZero-more (misses e) (some e) (sharedExponentFrom a b u v (4 - (e + 1)) (e + 1)) m) ∙ next
-      where
-        more : (i j : ℕ) → (i + j ≡ 0 → ⊥) → 0 < max i j
-        more zero zero d = absurd (d refl)
-        more zero (suc j) d = omega arith
-        more (suc i) j d = omega arith
 
   pub shared-end : (e : ℕ) → 4 ≤ e → e ≤ 4 → SharedFrom e → exponentFound 4 ≡ sharedExponent a b u v
   unfolding exponentFound sharedExponentFrom
@@ -210,15 +192,10 @@ module _ (a b n : ℕ) (first : List ℕ) where
       within = omega arith;
       few = let f = P .few in omega arith;
       list =
-          let z : phasesFrom a b 1 k ≡ [] = ifZero-more (max (k % a) (k % b)) (phase k ∷ []) [] (more (k % a) (k % b) d) in
+          let z : phasesFrom a b 1 k ≡ [] = ifZero-more (max (k % a) (k % b)) (phase k ∷ []) [] (some-more (k % a) (k % b) d) in
           sym (append-nil (listIn w spareAt total)) ∙ ap (listIn w spareAt total ++_) (sym z) ∙ here;
       size = P .size;
     }
-      where
-        more : (i j : ℕ) → (i + j ≡ 0 → ⊥) → 0 < max i j
-        more zero zero d = absurd (d refl)
-        more zero (suc j) d = omega arith
-        more (suc i) j d = omega arith
 
     pub phases-put : k % a + k % b ≡ 0 → (u : List ℕ) → listIn u (spareAt + 5 * total) 1 ≡ phase k ∷ [] → Outside (spareAt + 5 * total) 5 w u
         → PhasesUpTo a b n first (k + 1) (total + 1) u

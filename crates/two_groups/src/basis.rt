@@ -1,6 +1,6 @@
 // The common basis of two groups, up to exponents.
 ghost use mathlib.Core.Path.{_≡_};
-ghost use Prim.Native.Nat.{_+_, _≤_, _<_};
+ghost use Prim.Native.Nat.{_+_, _≤_};
 ghost use lib.ListN.{length};
 ghost use Rattle.rolls.specs.Roll.{countOf};
 ghost use Rattle.rolls.specs.Told.{answer};

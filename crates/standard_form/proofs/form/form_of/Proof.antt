@@ -1,14 +1,6 @@
-use Prim.Native.Nat.{ℕ, _+_, _*_, _≤_, _<_}
-use Rattle.binar.specs.Layout.{formStride, FormIs}
-use Rattle.binar.specs.Words.{image}
-use Rattle.pauli.specs.Signed.{listIn}
 use Rattle.standard_form.proofs.AreaLaws.{form-room-more, stride-least}
 use Rattle.standard_form.proofs.MadeLaws.{made-rank, made-form, made-fits, made-outside}
-use Rattle.standard_form.specs.Area.{strideOf, rowWords}
-use Rattle.standard_form.specs.Lists.{rowOver}
-use lib.ListN.{length, drop}
-use mathlib.Core.List.{List, map}
-use mathlib.Core.Path.{_≡_, sym, ap, _∙_, subst}
+use mathlib.Core.Path.{_∙_}
 use native.Mathlib.Omega.{arith}
 use borrow.Author.Needs.{needs}
 use Rattle.standard_form.proofs.form.form_of.Statement.{statement}

@@ -8,7 +8,6 @@ use Rattle.standard_form.proofs.FormLaws.{named-count, row-room, produc
 use Rattle.standard_form.proofs.ListLaws.{StoredUpTo, stored-none, stored-step, stored-all}
 use Rattle.standard_form.specs.Area.{rowWords, strideOf}
 use Rattle.standard_form.specs.Lists.{productsBy}
-use mathlib.Core.Path.{_≡_, sym, ap, _∙_}
 use native.Mathlib.Omega.{arith}
 use Rattle.standard_form.proofs.form.put_products.Statement.{statement}
 use Rattle.standard_form.proofs.form.put_products.Tie as tie

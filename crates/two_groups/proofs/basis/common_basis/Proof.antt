@@ -1,10 +1,8 @@
 use mathlib.Core.Logic.{inl, inr}
-use mathlib.Core.Path.{_≡_, ap, _∙_}
+use mathlib.Core.Path.{_∙_}
 use native.Mathlib.Omega.{arith}
-use borrow.Author.Needs.{needs}
 use Rattle.two_groups.proofs.BasisLaws.{stack-count, stack-first, stack-on, stack-rank, stack-zeros, dependencies-on, basis-count, basis-is}
 use Rattle.two_groups.proofs.PartLaws.{lists-few}
-use borrow.Author.Needs.{needs}
 use Rattle.two_groups.proofs.basis.common_basis.Statement.{statement}
 use Rattle.two_groups.proofs.basis.common_basis.Tie as tie
 

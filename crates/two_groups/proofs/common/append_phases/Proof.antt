@@ -1,7 +1,6 @@
 -- Invariant: the phases below exponent k are appended.
 use mathlib.Core.Logic.{⊎-elim}
-use mathlib.Core.Path.{_≡_, ap, _∙_, subst}
-use Prim.Native.Nat.{_-_, _≤_}
+use Prim.Native.Nat.{_-_}
 use native.Mathlib.Omega.{arith}
 use Rattle.two_groups.proofs.SharedLaws.{mod-le, PhasesUpTo, phases-none, phases-skip, phases-put, phases-all}
 use Rattle.two_groups.proofs.common.append_phases.Statement.{statement}

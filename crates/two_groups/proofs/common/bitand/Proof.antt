@@ -1,10 +1,10 @@
-use Rattle.joining.specs.Answers.{toldCounts, countsIn}
+use Rattle.joining.specs.Answers.{toldCounts}
 use Rattle.rolls.specs.Roll.{mostPaulis}
-use Rattle.joining.proofs.JoinLaws.{Joining, counts-joining}
+use Rattle.joining.proofs.JoinLaws.{counts-joining}
 use Rattle.two_groups.proofs.OrderLaws.{pair-refused, pair-short, order-cleared}
 use Rattle.two_groups.proofs.PartLaws.{common-refused, common-answered}
 use lib.Seq.{length-take-le}
-use mathlib.Core.Path.{_≡_, sym, ap, _∙_}
+use mathlib.Core.Path.{sym, ap, _∙_}
 use borrow.Author.Needs.{needs}
 use borrow.Author.Needs.{needs}
 use Rattle.two_groups.proofs.common.bitand.Statement.{statement}

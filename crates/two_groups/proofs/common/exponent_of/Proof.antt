@@ -1,10 +1,6 @@
-use Prim.Native.Nat.{_%_}
-use native.Mathlib.Nat.{mod-lt}
 use native.Mathlib.Omega.{arith}
 use borrow.Author.Needs.{needs}
-use mathlib.Core.Path.{_≡_, sym, ap, _∙_}
-use Rattle.pauli.specs.Signed.{held}
-use Rattle.standard_form.proofs.AreaLaws.{form-room}
+use mathlib.Core.Path.{sym, ap, _∙_}
 use Rattle.standard_form.specs.Members.{setTold}
 use Rattle.two_groups.proofs.MoveLaws.{loaded-movable}
 use Rattle.two_groups.proofs.SharedLaws.{target-low, exponent-none, exponent-set}

@@ -1,8 +1,7 @@
 -- Invariant: of the first i Paulis those with a shared exponent are kept.
 use borrow.Author.Needs.{needs}
 use mathlib.Core.Logic.{⊎-elim}
-use mathlib.Core.Path.{_≡_, ap, _∙_}
-use Prim.Native.Nat.{_+_, _-_, _*_, _≤_}
+use Prim.Native.Nat.{_+_, _-_, _*_}
 use native.Mathlib.Omega.{arith}
 use Rattle.two_groups.proofs.SharedLaws.{KeptUpTo, kept-none, found-noted, kept-dropped, kept-more, kept-all}
 use Rattle.two_groups.proofs.common.keep_shared.Statement.{statement}

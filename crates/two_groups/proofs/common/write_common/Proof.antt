@@ -1,8 +1,7 @@
 use mathlib.Core.List.{List}
-use mathlib.Core.Path.{_≡_, sym, ap, _∙_}
+use mathlib.Core.Path.{ap, _∙_}
 use Prim.Native.Nat.{ℕ}
 use borrow.Author.Needs.{needs}
-use Rattle.pauli.specs.Condense.{listOf}
 use Rattle.pauli.specs.Writing.{toldBytes, leftIn}
 use Rattle.rolls.specs.Told.{answer}
 use Rattle.standard_form.proofs.GroupedLaws.{cleared-whole}
