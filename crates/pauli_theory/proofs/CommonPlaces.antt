@@ -1,7 +1,7 @@
 -- The common basis by products over places: the rows of the products are the sums of rows, and the rows of the reduced form.
 use mathlib.Core.Path.{_≡_, sym, ap, ap₂, _∙_}
 use mathlib.Core.List.{List, [], _∷_, _++_, map, map-append, map-map}
-use Prim.Native.Nat.{ℕ, suc, _+_, _*_, _/_, _%_, _^_, _<_}
+use Prim.Native.Nat.{ℕ, suc, _+_, _-_, _*_, _/_, _%_, _^_, _≤_, _<_}
 use native.Mathlib.Omega.{arith}
 use lib.ListN.{length}
 use lib.Pow.{field, mod-mod-pow}
@@ -14,6 +14,7 @@ use Rattle.pauli.specs.Pauli.{Pauli, I, normal, times, select, indexedProduct}
 use Rattle.pauli.specs.Sets.{rowOf, pauliOfRow}
 use Rattle.pauli.specs.PauliTheorems.{PauliOn}
 use Rattle.pauli.specs.Condense.{condensed}
+use Rattle.pauli.specs.Writing.{OnPlaces}
 use Rattle.pauli.proofs.Algebra.{normal-lt}
 use Rattle.pauli.proofs.Products.{product-none, indexed-cons}
 use Rattle.pauli.proofs.Rows.{row-back}
@@ -26,7 +27,7 @@ use Rattle.pauli_theory.proofs.Products.{indexed-lt, indexed-zero}
 use Rattle.pauli_theory.proofs.Form.{rows-split, pivot-rows-are, zero-rows-are, rows-made}
 use Rattle.pauli_theory.proofs.Rows.{row-indexed, rows-narrow, on-subgroup, support-rises}
 use Rattle.pauli_theory.proofs.StandardLaw.{standard-law}
-use Rattle.pauli_theory.proofs.Placed.{condensed-indexed}
+use Rattle.pauli_theory.proofs.Placed.{condensed-on, condensed-indexed}
 use Rattle.pauli_theory.proofs.OverPlaces.{placed}
 use Rattle.pauli_theory.proofs.ModuloPlaces.{joined, left-standard-on, moved-standard}
 
@@ -44,6 +45,14 @@ first-product t (p ∷ ps) rs =
     indexed-cons (t % 2 ^ suc n) p (ps ++ rs)
     ∙ ap₂ (λ (d s : ℕ). times (ifBit d p I) (indexedProduct s (ps ++ rs))) low high
     ∙ ap (times (ifBit (t % 2) p I)) (first-product (t / 2) ps rs) ∙ sym (indexed-cons t p ps)
+
+-- a set whose numbers from k on do not matter
+pub product-mod : (t k : ℕ) (ps : List Pauli) → length ps ≤ k → indexedProduct (t % 2 ^ k) ps ≡ indexedProduct t ps
+product-mod t k ps h =
+    let n = length ps in
+    let parts : k ≡ k - n + n = omega arith in
+    let same : t % 2 ^ k % 2 ^ n ≡ t % 2 ^ n = ap (λ (j : ℕ). t % 2 ^ j % 2 ^ n) parts ∙ mod-mod-pow t (k - n) n in
+    sym (first-product (t % 2 ^ k) ps []) ∙ ap (λ (s : ℕ). indexedProduct s (ps ++ [])) same ∙ first-product t ps []
 
 -- ---- Paulis on rising qubits, with exponents by value, over places
 module _ (qs : List ℕ) (rises : Rising 0 qs) where
@@ -124,12 +133,15 @@ module _ (qs : List ℕ) (rises : Rising 0 qs) where
     abbrev dependencyPaulis : List Pauli
     dependencyPaulis = map (λ q. indexedProduct (q .t) ps) zeroRowsOf
 
-    stacked : map (λ p. p .x + 2 ^ length qs * p .z) (places ps ++ places rs) ≡ A ++ B
+    pub stacked : map (λ p. p .x + 2 ^ length qs * p .z) (places ps ++ places rs) ≡ A ++ B
     stacked = map-append (λ p. p .x + 2 ^ length qs * p .z) (places ps) (places rs) ∙ ap₂ _++_ (rows-of-places ps) (rows-of-places rs)
 
     dependency-products : dependencyProducts (length qs) (places ps) (places rs) ≡ places dependencyPaulis
     unfolding dependencyProducts
     dependency-products = rw (stacked, ← zero-rows-are (2 * length qs) (A ++ B)) (products-places ps on low zeroRowsOf)
+
+    pub dependency-on : OnPlaces (length qs) (dependencyProducts (length qs) (places ps) (places rs))
+    dependency-on = rw dependency-products (condensed-on qs dependencyPaulis)
 
     dependency-rows : map (rowOf qs) dependencyPaulis ≡ commonSums (2 * length qs) A B
     unfolding commonSums dependencies

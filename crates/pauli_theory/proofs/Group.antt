@@ -86,7 +86,7 @@ joined-law gs hs = record {
 }
 
 -- the joined group is the least that has both, so it is the group of a list whose group has the other's
-joined-least : (gs hs ks : List Pauli) → Inside gs ks → Inside hs ks → Inside (gs ++ hs) ks
+pub joined-least : (gs hs ks : List Pauli) → Inside gs ks → Inside hs ks → Inside (gs ++ hs) ks
 joined-least gs hs ks f g = inside-by (gs ++ hs) ks (all-join (Generated ks) gs hs (all-inside gs ks f) (all-inside hs ks g))
 
 pub joined-left : (gs hs : List Pauli) → Inside hs gs → SameGroup gs (gs ++ hs)

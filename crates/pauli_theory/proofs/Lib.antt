@@ -48,3 +48,4 @@ pub mod ModuloPlaces
 pub mod CommonPlaces
 pub mod CommonExponents
 pub mod CommonWritten
+pub mod CommonCount

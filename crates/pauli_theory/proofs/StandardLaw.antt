@@ -60,7 +60,7 @@ module _ (gs : List Pauli) where
       (all-map (λ p l. omega (arith, divisor-le (grade-divisor gs))) (basis gs) basis-low) (appended-values _ (basis gs)))
 
 -- ---- how many
-appended-count : (k : ℕ) (ps : List Pauli) → length (appended k ps) ≤ 1
+pub appended-count : (k : ℕ) (ps : List Pauli) → length (appended k ps) ≤ 1
 unfolding appended
 appended-count zero ps = omega arith
 appended-count (suc zero) ps = omega arith

@@ -54,6 +54,14 @@ form-room n h =
     let a : n * (4 + (n + 63) / 64) ≤ n * 6 = mul-le-mul-left n t in
     (omega (arith, a), t)
 
+-- and one of at most 129
+pub form-room-more : (n : ℕ) → n ≤ 129 → (n * strideOf n + n ≤ 1032) × (strideOf n ≤ 7)
+unfolding strideOf formStride
+form-room-more n h =
+    let t : 4 + (n + 63) / 64 ≤ 7 = omega arith in
+    let a : n * (4 + (n + 63) / 64) ≤ n * 7 = mul-le-mul-left n t in
+    (omega (arith, a), t)
+
 pub stride-least : (n : ℕ) → 4 ≤ strideOf n
 unfolding strideOf formStride
 stride-least n = omega arith

@@ -1,24 +1,43 @@
 -- What is in the work area once the form and the standard generators of a list are made.
-use mathlib.Core.Path.{_≡_, refl, sym, ap, ap₂, _∙_, subst}
+use mathlib.Core.Path.{_≡_, refl, sym, ap, ap₂, _∙_}
 use mathlib.Core.List.{List, map, map-map}
-use Prim.Native.Nat.{ℕ, zero, suc, _+_, _-_, _*_, _/_, _%_, _^_, _≤_, _<_}
+use Prim.Native.Nat.{ℕ, zero, suc, _+_, _-_, _*_, _/_, _%_, _^_, _≤_}
 use native.Mathlib.Omega.{arith}
-use lib.ListN.{length, getD, take, drop, length-map}
-use Rattle.binar.specs.Echelon.{Row, EchelonForm, echelon, rank as echelonRank}
+use lib.ListN.{length, take, drop, length-map}
+use lib.Seq.{take-all}
+use Rattle.binar.specs.Echelon.{Row, rank as echelonRank}
 use Rattle.binar.specs.Layout.{formIn}
 use Rattle.binar.specs.Words.{matrix}
+use Rattle.binar.proofs.Lists.{map-drop}
+use Rattle.binar.proofs.Matrix.{length-matrix}
 use Rattle.binar.proofs.Bounds.{rank-rows}
 use Rattle.pauli.specs.Pauli.{Pauli, indexedProduct}
-use Rattle.pauli.specs.Signed.{listIn, pauliIn}
+use Rattle.pauli.specs.Signed.{listIn}
+use Rattle.pauli_theory.proofs.Form.{map-take}
 use Rattle.standard_form.specs.Area.{listAt, standardAt, spareAt, rowWords, strideOf, Outside}
 use Rattle.standard_form.specs.Groups.{productsNamed, Built}
 use Rattle.standard_form.specs.Lists.{rowOver, formOver, productsBy, fromProducts}
 use Rattle.standard_form.proofs.AreaLaws.{form-alike, form-room}
 use Rattle.standard_form.proofs.ListLaws.{outside-join, outside-wider, list-kept, list-kept-after}
 
-pub products-named : (n cols r : ℕ) (l : List ℕ) (ps : List Pauli) → productsBy n l ps ≡ productsNamed (formIn (strideOf n) n rowWords cols r l) ps
-unfolding productsBy productsNamed formIn
-products-named n cols r l ps = sym (map-map (λ (q : Row). indexedProduct (q .t) ps) (λ (v : ℕ). record { r = v % 2 ^ cols; t = v / 2 ^ (64 * rowWords) }) (matrix (strideOf n) n l))
+-- by the rows of the form
+pub products-rows : (n cols r first count : ℕ) (l : List ℕ) (ps : List Pauli)
+    → productsBy n first count l ps ≡ map (λ q. indexedProduct (q .t) ps) (take count (drop first (formIn (strideOf n) n rowWords cols r l .rows)))
+unfolding productsBy formIn
+products-rows n cols r first count l ps =
+    let M = matrix (strideOf n) n l in
+    let row : ℕ → Row = λ v. record { r = v % 2 ^ cols; t = v / 2 ^ (64 * rowWords) } in
+    sym (map-map (λ (q : Row). indexedProduct (q .t) ps) row (take count (drop first M)))
+    ∙ ap (map (λ (q : Row). indexedProduct (q .t) ps)) (map-take row count (drop first M) ∙ ap (take count) (sym (map-drop row first M)))
+
+pub products-named : (n cols r : ℕ) (l : List ℕ) (ps : List Pauli)
+    → productsBy n 0 n l ps ≡ productsNamed (formIn (strideOf n) n rowWords cols r l) ps
+unfolding productsNamed formIn
+products-named n cols r l ps =
+    let row : ℕ → Row = λ v. record { r = v % 2 ^ cols; t = v / 2 ^ (64 * rowWords) } in
+    let M = matrix (strideOf n) n l in
+    products-rows n cols r 0 n l ps
+    ∙ ap (map (λ (q : Row). indexedProduct (q .t) ps)) (take-all n (map row M) (omega (arith, length-map M row, length-matrix (strideOf n) n l)))
 
 pub list-count : (l : List ℕ) (base n : ℕ) → length (listIn l base n) ≡ n
 unfolding listIn
@@ -34,7 +53,7 @@ module _ (l f p x : List ℕ) (n s r total : ℕ) (few : n ≤ 128) (size : leng
     (rank-is : r ≡ echelonRank (formOver s (listIn l listAt n)))
     (form : formIn (strideOf n) n rowWords (2 * s) r f ≡ formOver s (listIn l listAt n))
     (formed : Outside 0 (n * strideOf n + n) l f)
-    (products : listIn p standardAt n ≡ productsBy n f (listIn f listAt n))
+    (products : listIn p standardAt n ≡ productsBy n 0 n f (listIn f listAt n))
     (multiplied : Outside standardAt (5 * n) f p)
     (count : total ≡ length (fromProducts r (listIn p standardAt n)))
     (list : listIn x standardAt total ≡ fromProducts r (listIn p standardAt n))

@@ -23,9 +23,9 @@ use Rattle.binar.proofs.Theorems.{form-law}
 use Rattle.pauli.specs.Pauli.{Pauli}
 use Rattle.pauli.specs.Signed.{listIn, pauliIn}
 use Rattle.pauli.specs.Writing.{OnPlaces}
-use Rattle.standard_form.specs.Area.{listAt, rowWords, strideOf, Outside}
+use Rattle.standard_form.specs.Area.{rowWords, strideOf, Outside}
 use Rattle.standard_form.specs.Lists.{rowOver, formOver}
-use Rattle.standard_form.proofs.AreaLaws.{form-room}
+use Rattle.standard_form.proofs.AreaLaws.{form-room-more}
 use Rattle.standard_form.proofs.ListLaws.{list-map-at, on-places-at, outside-join, outside-wider}
 use Rattle.standard_form.proofs.RowLaws.{row-lt}
 
@@ -46,12 +46,12 @@ image-outside s n M l rest k count inside size room same low = record {
 
 -- ---- the form of a list
 
-module _ (l : List ℕ) (n s : ℕ) (few : n ≤ 128) (places : s ≤ 128) (size : length l ≡ 4096) (on : OnPlaces s (listIn l listAt n)) where
+module _ (l : List ℕ) (base n s : ℕ) (few : n ≤ 129) (places : s ≤ 128) (size : length l ≡ 4096) (on : OnPlaces s (listIn l base n)) where
   abbrev S : ℕ
   S = strideOf n
 
   abbrev L : List Pauli
-  L = listIn l listAt n
+  L = listIn l base n
 
   abbrev M : List ℕ
   M = map (rowOver s) L
@@ -60,16 +60,16 @@ module _ (l : List ℕ) (n s : ℕ) (few : n ≤ 128) (places : s ≤ 128) (size
   abbrev rows : List ℕ
   rows = image S M (drop (n * S) l)
 
-  room : n * S + n ≤ 896
-  room = form-room n few .0
+  room : n * S + n ≤ 1032
+  room = form-room-more n few .0
 
-  count-list : (k base : ℕ) → length (listIn l base k) ≡ k
+  count-list : (k from : ℕ) → length (listIn l from k) ≡ k
   unfolding listIn
-  count-list zero base = refl
-  count-list (suc k) base = ap suc (count-list k (base + 5))
+  count-list zero from = refl
+  count-list (suc k) from = ap suc (count-list k (from + 5))
 
   count : length M ≡ n
-  count = length-map L _ ∙ count-list n listAt
+  count = length-map L _ ∙ count-list n base
 
   wide : 64 * 4 ≤ 64 * S
   unfolding strideOf formStride
@@ -80,8 +80,8 @@ module _ (l : List ℕ) (n s : ℕ) (few : n ≤ 128) (places : s ≤ 128) (size
     where
       go : Dec (i < n) → getD M i 0 < 2 ^ (64 * S)
       go (yes h) =
-          let o = on-places-at s l listAt n i on h in
-          lt-of-lt-of-le (subst (λ (v : ℕ). v < 2 ^ (64 * 4)) (sym (list-map-at (rowOver s) l listAt n i 0 h)) (row-lt s (pauliIn l (listAt + 5 * i)) places (o .0) (o .1))) (pow-mono wide)
+          let o = on-places-at s l base n i on h in
+          lt-of-lt-of-le (subst (λ (v : ℕ). v < 2 ^ (64 * 4)) (sym (list-map-at (rowOver s) l base n i 0 h)) (row-lt s (pauliIn l (base + 5 * i)) places (o .0) (o .1))) (pow-mono wide)
       go (no h) = subst (λ (v : ℕ). v < 2 ^ (64 * S)) (sym (List·getD-eq-default M 0 (omega (arith, count)))) (pow-pos (64 * S))
 
   rows-size : length rows ≡ 4096

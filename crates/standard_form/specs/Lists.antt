@@ -31,9 +31,9 @@ formOver s ps = echelon (2 * s) (map (rowOver s) ps)
 
 -- ---- standard generators from the products that T's rows name
 
--- the products of the generators ps that the T part of each row of a form in a slice names
-unfoldable pub productsBy : ℕ → List ℕ → List Pauli → List Pauli
-productsBy n l ps = map (λ v. indexedProduct (v / 2 ^ (64 * rowWords)) ps) (matrix (strideOf n) n l)
+-- the products of the Paulis ps that T names in count rows of a form of n rows in a slice, from row first on
+unfoldable pub productsBy : ℕ → ℕ → ℕ → List ℕ → List Pauli → List Pauli
+productsBy n first count l ps = map (λ v. indexedProduct (v / 2 ^ (64 * rowWords)) ps) (take count (drop first (matrix (strideOf n) n l)))
 
 -- `StandardForm::new`, from these products: the first r belong to the nonzero rows
 unfoldable pub fromProducts : ℕ → List Pauli → List Pauli

@@ -13,6 +13,7 @@ ghost use Rattle.standard_form.specs.Promises.{promiseOf};
 ghost use Rattle.standard_form.specs.Area.{listAt, spareAt, cleared, Outside};
 ghost use Rattle.standard_form.specs.Groups.{paulis, Built, Grouped, Described};
 use crate::area::LIST;
+use crate::area::STANDARD;
 use crate::area::WORK_WORDS;
 use crate::form::form_of;
 use crate::form::put_products;
@@ -46,8 +47,8 @@ pub fn build(w: &mut [u64], n: usize, s: usize) -> Group
     ensures built { λ r. ⌜ Built (now (w .entry)) n s (now (w .exit)) (r .rank) (r .total) ⌝ }
     ensures places { λ r. ⌜ r .places ≡ s ⌝ }
 {
-    let rank = form_of(w, n, s);
-    put_products(w, n);
+    let rank = form_of(w, LIST, n, s);
+    put_products(w, n, 0, n, LIST, n, STANDARD);
     let total = standardize(w, n, rank);
     Group {
         places: s,

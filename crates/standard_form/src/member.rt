@@ -86,7 +86,7 @@ fn is_supported(b: &[u8], n: usize, i: usize, support: &[u32], count: usize) -> 
 }
 
 // Finds the generators whose rows add up to that of p, by the form of n rows over s places.
-fn solve(w: &mut [u64], n: usize, s: usize, rank: usize, p: Pauli) -> Solved
+pub fn solve(w: &mut [u64], n: usize, s: usize, rank: usize, p: Pauli) -> Solved
     requires { ⌜ (length (now w) ≡ 4096) × (n ≤ 128) × (s ≤ 128) × (held p .x < 2 ^ s) × (held p .z < 2 ^ s) × Solvable (now w) (strideOf n) n (2 * s) rank targetAt ⌝ }
     ensures told { λ r. ⌜ setTold r ≡ transposeSolve (2 * s) (formIn (strideOf n) n rowWords (2 * s) rank (now (w .entry))) (rowOver s (held p)) ⌝ }
     ensures rest { λ _. ⌜ Outside targetAt (strideOf n) (now (w .entry)) (now (w .exit)) ⌝ }

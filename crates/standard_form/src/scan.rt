@@ -92,7 +92,7 @@ pub fn some_anticommute(w: &[u64], base: usize, n: usize) -> u64
 }
 
 // Writes i^k to the five words from word at on.
-fn put_phase(w: &mut [u64], at: usize, k: u8)
+pub fn put_phase(w: &mut [u64], at: usize, k: u8)
     requires { ⌜ (at + 5 ≤ length (now w)) × (k < 4) ⌝ }
     ensures list { λ _. ⌜ listIn (now (w .exit)) at 1 ≡ phase k ∷ [] ⌝ }
     ensures rest { λ _. ⌜ Outside at 5 (now (w .entry)) (now (w .exit)) ⌝ }

@@ -4,3 +4,6 @@ pub mod MoveLaws
 pub mod RemainderLaws
 pub mod ModuloLaws
 pub mod QuotientLaws
+pub mod SharedLaws
+pub mod BasisLaws
+pub mod PartLaws

@@ -4,3 +4,4 @@ pub mod Contracts
 pub mod Compare
 pub mod Moved
 pub mod Remainder
+pub mod Shared

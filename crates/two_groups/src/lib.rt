@@ -10,3 +10,7 @@ pub(crate) mod moved;
 pub mod modulo;
 // The call for the quotient.
 pub mod quotient;
+// The common basis of two groups.
+pub(crate) mod basis;
+// The call for the common part.
+pub mod common;

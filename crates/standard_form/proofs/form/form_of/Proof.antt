@@ -1,14 +1,6 @@
-use Prim.Native.Nat.{ℕ, _+_, _*_, _≤_, _<_}
-use Rattle.binar.specs.Layout.{formStride, FormIs}
-use Rattle.binar.specs.Words.{image}
-use Rattle.pauli.specs.Signed.{listIn}
-use Rattle.standard_form.proofs.AreaLaws.{form-room, stride-least}
+use Rattle.standard_form.proofs.AreaLaws.{form-room-more, stride-least}
 use Rattle.standard_form.proofs.MadeLaws.{made-rank, made-form, made-fits, made-outside}
-use Rattle.standard_form.specs.Area.{strideOf, listAt, rowWords}
-use Rattle.standard_form.specs.Lists.{rowOver}
-use lib.ListN.{length, drop}
-use mathlib.Core.List.{List, map}
-use mathlib.Core.Path.{_≡_, sym, ap, _∙_, subst}
+use mathlib.Core.Path.{_∙_}
 use native.Mathlib.Omega.{arith}
 use borrow.Author.Needs.{needs}
 use Rattle.standard_form.proofs.form.form_of.Statement.{statement}
@@ -18,7 +10,9 @@ stride-of-requires : tie.Need-stride-of-requires
 stride-of-requires c κs = search needs
 
 put-rows-requires : tie.Need-put-rows-requires
-put-rows-requires c κs = (omega (arith, c .before .before .before .pre .0), rw (c .stride-of .ensures) (omega (arith, form-room (c .before .before .before .args .n) (c .before .before .before .pre .1) .0)), rw (c .stride-of .ensures) (stride-least (c .before .before .before .args .n)), c .before .before .before .pre .2, c .before .before .before .pre .3)
+put-rows-requires c κs =
+    let s = c .before .before .before in
+    (s .pre .3, rw (c .stride-of .ensures) (omega (arith, form-room-more (s .args .n) (s .pre .1) .0, s .pre .2)), rw (c .stride-of .ensures) (stride-least (s .args .n)), s .pre .4, s .pre .5)
 
 mul-echelon-form : tie.Need-mul-echelon-form
 mul-echelon-form c = search needs
@@ -36,13 +30,13 @@ same-length : tie.Need-same-length
 same-length c = c .before .before .before .before .before .echelon-form .kept .0 ∙ c .before .before .before .before .before .before .before .before .before .put-rows .kept .0
 
 returns : tie.Need-returns
-returns c = let s = c .before .before .before .before .before .before .before .before .before .before .before .before .before in let A = c .before .before .before .before .before .before .before .before .before .before .stride-of .ensures in let B = c .before .before .before .before .before .before .before .before .before .put-rows .ensures in let C = c .before .before .before .before .before .echelon-form .ensures in (made-rank (s .args .w .now) (s .args .n) (s .args .s) (s .pre .1) (s .pre .2) (s .pre .0) (s .pre .3) _ A _ B _ _ C _ (c .before .formation .given .1), (made-form (s .args .w .now) (s .args .n) (s .args .s) (s .pre .1) (s .pre .2) (s .pre .0) (s .pre .3) _ A _ B _ _ C _ (c .before .formation .given .1), made-outside (s .args .w .now) (s .args .n) (s .args .s) (s .pre .1) (s .pre .2) (s .pre .0) (s .pre .3) _ A _ B _ _ C))
+returns c = let s = c .before .before .before .before .before .before .before .before .before .before .before .before .before in let A = c .before .before .before .before .before .before .before .before .before .before .stride-of .ensures in let B = c .before .before .before .before .before .before .before .before .before .put-rows .ensures in let C = c .before .before .before .before .before .echelon-form .ensures in (made-rank (s .args .w .now) (s .args .base) (s .args .n) (s .args .s) (s .pre .1) (s .pre .4) (s .pre .0) (s .pre .5) _ A _ B _ _ C _ (c .before .formation .given .1), (made-form (s .args .w .now) (s .args .base) (s .args .n) (s .args .s) (s .pre .1) (s .pre .4) (s .pre .0) (s .pre .5) _ A _ B _ _ C _ (c .before .formation .given .1), made-outside (s .args .w .now) (s .args .base) (s .args .n) (s .args .s) (s .pre .1) (s .pre .4) (s .pre .0) (s .pre .5) _ A _ B _ _ C))
 
 same-length-2 : tie.Need-same-length-2
 same-length-2 c = c .before .before .before .before .echelon-form .kept .0 ∙ c .before .before .before .before .before .before .before .before .put-rows .kept .0
 
 returns-2 : tie.Need-returns-2
-returns-2 c = let s = c .before .before .before .before .before .before .before .before .before .before .before .before in absurd (made-fits (s .args .w .now) (s .args .n) (s .args .s) (s .pre .1) (s .pre .2) (s .pre .0) (s .pre .3) _ (c .before .before .before .before .before .before .before .before .before .stride-of .ensures) _ (c .before .before .before .before .before .before .before .before .put-rows .ensures) _ _ (c .before .before .before .before .echelon-form .ensures) (c .enum-told .given .1))
+returns-2 c = let s = c .before .before .before .before .before .before .before .before .before .before .before .before in absurd (made-fits (s .args .w .now) (s .args .base) (s .args .n) (s .args .s) (s .pre .1) (s .pre .4) (s .pre .0) (s .pre .5) _ (c .before .before .before .before .before .before .before .before .before .stride-of .ensures) _ (c .before .before .before .before .before .before .before .before .put-rows .ensures) _ _ (c .before .before .before .before .echelon-form .ensures) (c .enum-told .given .1))
 
 pub form-of-spec : {M : Type 1} → statement M
 form-of-spec =

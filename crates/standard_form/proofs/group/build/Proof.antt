@@ -3,16 +3,23 @@ use Rattle.pauli.specs.Signed.{listIn}
 use Rattle.standard_form.proofs.BuildLaws.{built, rank-few}
 use Rattle.standard_form.specs.Area.{listAt}
 use lib.ListN.{length}
+use mathlib.Core.Logic.{inl}
 use mathlib.Core.Path.{_≡_, refl, _∙_}
 use native.Mathlib.Omega.{arith}
 use Rattle.standard_form.proofs.group.build.Statement.{statement}
 use Rattle.standard_form.proofs.group.build.Tie as tie
 
 form-of-requires : tie.Need-form-of-requires
-form-of-requires c κs = (c .before .before .pre .0, c .before .before .pre .1, c .before .before .pre .2, c .before .before .pre .3)
+form-of-requires c κs =
+    let s = c .before .before in
+    (s .pre .0, omega (arith, s .pre .1), omega arith, omega (arith, s .pre .0, s .pre .1), s .pre .2, s .pre .3)
 
 put-products-requires : tie.Need-put-products-requires
-put-products-requires c κs = (c .before .before .before .form-of .kept .0 ∙ c .before .before .before .before .before .before .pre .0, c .before .before .before .before .before .before .pre .1)
+put-products-requires c κs =
+    let s = c .before .before .before .before .before .before in
+    let size = c .before .before .before .form-of .kept .0 ∙ s .pre .0 in
+    let few = s .pre .1 in
+    (size, omega arith, omega arith, few, omega arith, omega arith, omega arith, inl (omega arith))
 
 standardize-requires : tie.Need-standardize-requires
 standardize-requires c κs = (c .before .before .before .put-products .kept .0 ∙ c .before .before .before .before .before .before .before .form-of .kept .0 ∙ c .before .before .before .before .before .before .before .before .before .before .pre .0, c .before .before .before .before .before .before .before .before .before .before .pre .1, omega (arith, c .before .before .before .before .before .before .before .form-of .ensures .0, rank-few (c .before .before .before .before .before .before .before .before .before .before .args .w .now) (c .before .before .before .before .before .before .before .before .before .before .args .n) (c .before .before .before .before .before .before .before .before .before .before .args .s)))

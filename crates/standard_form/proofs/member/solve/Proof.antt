@@ -1,5 +1,6 @@
 -- The target's row is the Pauli's, with zeros behind it; what solving leaves behind its words of R is the set.
 use Rattle.binar.specs.Layout.{formStride}
+use Rattle.standard_form.proofs.FormLaws.{names-whole}
 use Rattle.standard_form.proofs.SolveLaws.{pauli-solvable, pauli-rest, pauli-set, pauli-none}
 use Rattle.standard_form.specs.Area.{strideOf}
 use mathlib.Core.Path.{sym, _∙_}
@@ -57,7 +58,10 @@ returns c =
     let s = stride .before .before in (
       pauli-set _ (λ q. stride .before .slice-known .given q .fits) _ _ _ (s .args .p) (s .pre .2) (s .pre .3) (s .pre .4)
           (s .pre .5) _ (stride .stride-of .ensures) _ _ (clear .clear-bits .ensures) (put .put-row .ensures)
-          _ (solve .transpose-solve .ensures .1) _ (c .named-by .ensures)
+          _ (solve .transpose-solve .ensures .1) _
+          (c .named-by .ensures
+          ∙ names-whole _ _ _ (λ q. c .before .before .before .before .slice-known4 .given q .fits)
+          (omega (arith, s .pre .5 .target, solve .transpose-solve .kept .0, put .put-row .kept .0, clear .clear-bits .kept .0)) (s .pre .1))
           (sym (c .before .before .enum-told .given .1) ∙ solve .transpose-solve .ensures .0),
       pauli-rest _ (λ q. stride .before .slice-known .given q .fits) _ _ _ (s .args .p) (s .pre .2) (s .pre .3) (s .pre .4)
           (s .pre .5) _ (stride .stride-of .ensures) _ _ (clear .clear-bits .ensures) (put .put-row .ensures)

@@ -18,7 +18,7 @@ abbrev μ-loop : tie.MeasureT-loop
 μ-loop w₀ m n group own joined size places at k₀ w k = group .rank - k
 
 stride-of-requires : tie.Need-stride-of-requires Inv-loop μ-loop
-stride-of-requires c κs = c .before .before .before .pre .6 .list-few
+stride-of-requires c κs = omega (arith, c .before .before .before .pre .6 .list-few)
 
 mul-at : tie.Need-mul-at Inv-loop μ-loop
 mul-at c =
