@@ -32,7 +32,7 @@ import roll
 from calls import CALLS, PROMISES, Request, unhex
 from roll import Pauli, Refusal
 
-LAST = 16  # the last operation that replay has
+LAST = 18  # the last operation that replay has
 NAMES = {call.name: op for op, call in CALLS.items()}
 LISTING_OUTPUT = 131_072
 BLOCK = 10_000

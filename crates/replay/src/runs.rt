@@ -14,6 +14,7 @@ use crate::tells::print_phases;
 use crate::tells::print_rank;
 use crate::tells::print_size;
 use closing_report::report::closing_report;
+use common_part::common::bitand;
 use joining::joined::EntryFound;
 use joining::joined::join;
 use joining::joined::joined_body;
@@ -162,7 +163,11 @@ fn run_two(
         let w = modulo(first, second, p, q, work, out);
         return print_wrote(w);
     }
-    let w = try_quotient(first, second, p, q, work, out);
+    if op == 16 {
+        let w = try_quotient(first, second, p, q, work, out);
+        return print_wrote(w);
+    }
+    let w = bitand(first, second, p, q, work, out);
     print_wrote(w)
 }
 
@@ -217,7 +222,7 @@ pub(crate) fn run_group(
         end_line(out, n, f);
         return true;
     }
-    if op > 16 {
+    if op > 17 {
         return false;
     }
     let n = run_two(op, p, q, first, second, work, out);

@@ -4,6 +4,3 @@ pub mod MoveLaws
 pub mod RemainderLaws
 pub mod ModuloLaws
 pub mod QuotientLaws
-pub mod SharedLaws
-pub mod BasisLaws
-pub mod PartLaws

@@ -9,7 +9,6 @@ use Rattle.rolls.specs.Told.{Told, answer, refused, refuseIf, andThen, mapTold}
 use Rattle.pauli.specs.Pauli.{Pauli}
 use Rattle.pauli.specs.Sets.{sparseOf}
 use Rattle.joining.specs.Calls.{readBoth, fewQubits}
-use Rattle.pauli_theory.specs.Common.{bitand}
 use Rattle.pauli_theory.specs.Group.{Promise}
 use Rattle.pauli_theory.specs.Modulo.{modulo, tryQuotient}
 use Rattle.pauli_theory.specs.Order.{Order, partialCmp}
@@ -47,16 +46,3 @@ quotientBytes none = refused 11 0
 -- "`try_quotient` is the reference": the left list by the right one, the divisor; after the work area (9) the divisor (11)
 unfoldable pub quotientCall : Promise → Promise → List ℕ → List ℕ → ℕ → Told (List ℕ)
 quotientCall left right l r words = andThen (twoLists l r words) λ b. quotientBytes (tryQuotient left right (b .left) (b .right))
-
--- ---- the common part
-
--- a list as a written roll
-unfoldable pub listBytes : List Pauli → List ℕ
-listBytes ps = write (map sparseOf ps)
-
--- "`bitand` is the common part in the crate's reading"
-unfoldable pub commonBytes : Promise → Promise → Pair → List ℕ
-commonBytes left right b = listBytes (bitand left right (b .left) (b .right))
-
-unfoldable pub commonCall : Promise → Promise → List ℕ → List ℕ → ℕ → Told (List ℕ)
-commonCall left right l r words = mapTold (commonBytes left right) (twoLists l r words)

@@ -10,7 +10,7 @@ use Rattle.pauli_theory.specs.Group.{Promise}
 use Rattle.standard_form.specs.Area.{areaAfter}
 use Rattle.two_groups.specs.declared.answers.OrderFound.{OrderFound}
 use Rattle.two_groups.specs.Answers.{toldOrder}
-use Rattle.two_groups.specs.Calls.{twoLists, orderCall, moduloCall, quotientCall, commonCall}
+use Rattle.two_groups.specs.Calls.{twoLists, orderCall, moduloCall, quotientCall}
 
 pub record OrderCall (left right : Promise) (l r work : List ℕ) (found : OrderFound) (work′ : List ℕ) : Type 0 where
   pub told : toldOrder found ≡ orderCall left right l r (length work)
@@ -24,9 +24,4 @@ pub record ModuloCall (right : Promise) (l r work out : List ℕ) (wrote : Wrote
 pub record QuotientCall (left right : Promise) (l r work out : List ℕ) (wrote : Wrote) (work′ out′ : List ℕ) : Type 0 where
   pub told : toldWrote wrote ≡ toldBytes (quotientCall left right l r (length work)) out
   pub written : out′ ≡ leftIn (quotientCall left right l r (length work)) out
-  pub area : work′ ≡ areaAfter (twoLists l r (length work)) work
-
-pub record CommonCall (left right : Promise) (l r work out : List ℕ) (wrote : Wrote) (work′ out′ : List ℕ) : Type 0 where
-  pub told : toldWrote wrote ≡ toldBytes (commonCall left right l r (length work)) out
-  pub written : out′ ≡ leftIn (commonCall left right l r (length work)) out
   pub area : work′ ≡ areaAfter (twoLists l r (length work)) work

@@ -4,4 +4,3 @@ pub mod Contracts
 pub mod Compare
 pub mod Moved
 pub mod Remainder
-pub mod Shared
