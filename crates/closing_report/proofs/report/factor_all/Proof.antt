@@ -25,7 +25,7 @@ factor-requires : tie.Need-factor-requires Inv-loop μ-loop
 factor-requires c κs =
     let s = c .before .before .before .before .before .before in
     let inv = c .before .before .loop .inv in
-    (s .pre .0, c .before .loop-test .taken, s .pre .1, inv .1, s .pre .3, asked-now (s .pre .4) _ (inv .2 (s .pre .4)))
+    (s .pre .0, omega arith, s .pre .1, inv .1, s .pre .3, asked-now (s .pre .4) _ (inv .2 (s .pre .4)))
 
 mul-store-result : tie.Need-mul-store-result Inv-loop μ-loop
 unfolding mostPaulis
