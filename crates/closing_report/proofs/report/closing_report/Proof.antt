@@ -4,7 +4,8 @@ use lib.Seq.{length-take-le}
 use Rattle.rolls.specs.Answers.{toldCount}
 use Rattle.closing_report.specs.Split.{rollsTold}
 use Rattle.closing_report.proofs.InputLaws.{parted}
-use Rattle.closing_report.proofs.CallLaws.{input-refused, generators-refused, elements-refused, work-short, work-enough, call-line, call-short, call-done}
+use Rattle.closing_report.proofs.CallLaws.{input-refused, generators-refused, elements-refused, work-short, work-enough}
+use Rattle.closing_report.proofs.CallLaws.{call-line, call-short, call-done}
 use borrow.Author.Needs.{needs}
 use Rattle.closing_report.proofs.report.closing_report.Statement.{statement}
 use Rattle.closing_report.proofs.report.closing_report.Tie as tie
@@ -23,7 +24,8 @@ same-length c = search needs
 
 returns : tie.Need-returns
 returns c =
-    let cut = sym (c .before .before .before .before .before .before .split-input .ensures .0) ∙ ap (rollsTold _) (c .before .before .before .before .enum-told .given .1) in
+    let split = c .before .before .before .before in
+    let cut = sym (split .before .before .split-input .ensures .0) ∙ ap (rollsTold _) (split .enum-told .given .1) in
     let wrote = c .before .before .write-cut .ensures in
     call-line _ _ _ (input-refused _ _ _ _ cut) (wrote .0) (wrote .1)
 
@@ -188,7 +190,8 @@ slice-relend-prefix-write-report c = search needs
 slice-aggregate-write-report : tie.Need-slice-aggregate-write-report
 slice-aggregate-write-report c =
     let test = c .before .before .before in
-    let s = test .before .before .before .before .before .before .before .before .before .before .before .before .before .before .before .before .before .before in
+    let first = test .before .before .before .before .before .before .before in
+    let s = first .before .before .before .before .before .before .before .before .before .before .before in
     sym (length-take-le 4096 (s .args .work .now) (test .if1 .left))
 
 write-report-requires : tie.Need-write-report-requires
