@@ -15,7 +15,7 @@ use Rattle.rolls.specs.Roll.{mostPaulis, Sparse, read, countOf}
 use Rattle.rolls.specs.RollTheorems.{All}
 use Rattle.pauli.specs.Sets.{members, pauliOf}
 use Rattle.rolls.specs.Told.{Told, answer, refused, mapTold}
-use Rattle.pauli.specs.Writing.{putBytes, toldBytes, leftIn}
+use Rattle.pauli.specs.Writing.{putBytes}
 use Rattle.joining.proofs.JoinLaws.{accepted-few}
 use Rattle.rolls.proofs.Told.{test-pass}
 use Rattle.pauli_theory.specs.Group.{Promise, none as noPromise}
@@ -35,7 +35,7 @@ use Rattle.closing_report.specs.Listing.{rollsIn, report, orRefusedIn, l
 use Rattle.closing_report.specs.Stored.{Storable}
 use Rattle.closing_report.proofs.DecimalLaws.{few-digits}
 use Rattle.pauli_theory.proofs.IndexSets.{members-upTo}
-use Rattle.closing_report.proofs.PutLaws.{text-told, text-left}
+use Rattle.closing_report.proofs.CallLaws.{call-told, call-put}
 use Rattle.closing_report.proofs.RefusalLaws.{OfRoll, of-test, of-read}
 
 -- ---- the lines
@@ -182,11 +182,10 @@ never-refused input work out r work′ out′ c h l =
     let s = listing-short input (length work) h in
     let fits : length (s .text) ≤ length out = omega (arith, s .short) in
     let front : take (length (s .text)) out′ ≡ s .text
-    = ap (take (length (s .text))) (c .left ∙ ap (λ (t : Told (List ℕ)). leftIn t out) (s .listed) ∙ text-left (s .text) out fits)
-    ∙ text-front (s .text) out in
+    = ap (take (length (s .text))) (call-put c (s .text) (s .listed) fits) ∙ text-front (s .text) out in
     record {
       size = length (s .text);
-      told = c .told ∙ ap (λ (t : Told (List ℕ)). toldBytes t out) (s .listed) ∙ text-told (s .text) out fits;
+      told = call-told c (s .text) (s .listed) fits;
       room = omega (arith, length-take (length (s .text)) out′, ap length front);
       listed = s .listed ∙ ap answer (sym front);
     }

@@ -15,7 +15,7 @@ use Rattle.pauli.specs.Condense.{listOf}
 use Rattle.pauli.specs.Pauli.{Pauli}
 use Rattle.rolls.specs.Roll.{countOf}
 use Rattle.rolls.specs.Told.{Told, answer, refused, refuseIf, andThen}
-use Rattle.pauli.specs.Writing.{toldBytes, leftIn}
+use Rattle.pauli.specs.Writing.{putBytes, toldBytes, leftIn}
 use Rattle.joining.proofs.JoinLaws.{accepted, count-refused}
 use Rattle.pauli_theory.specs.Group.{none}
 use Rattle.pauli_theory.specs.Membership.{Factorization, factorizationOf}
@@ -26,6 +26,7 @@ use Rattle.standard_form.proofs.GroupedLaws.{cleared-part}
 use Rattle.closing_report.specs.Contract.{ReportCall}
 use Rattle.closing_report.specs.Lines.{firstLine, memberLines, refusedLine}
 use Rattle.closing_report.specs.Listing.{Rolls, rollsIn, report, orRefusedIn, listing, asked}
+use Rattle.closing_report.proofs.PutLaws.{text-told, text-left}
 
 module _ (input : List ℕ) (words : ℕ) where
   -- a roll is refused: the line that is printed, and no use of the work area
@@ -104,3 +105,12 @@ module _ (input work out : List ℕ) where
     left = w ∙ ap (λ (b : Told (List ℕ)). leftIn b out) (sym h);
     area = rw a (ap (_++ drop workWords work) c ∙ cleared-part work room);
   }
+
+-- a text that the output has room for is told and put
+module _ {input work out : List ℕ} {r : Wrote} {work′ out′ : List ℕ} (c : ReportCall input work out r work′ out′) (text : List ℕ)
+    (listed : listing input (length work) ≡ answer text) (room : length text ≤ length out) where
+  pub call-told : toldWrote r ≡ answer (length text)
+  call-told = c .told ∙ ap (λ (t : Told (List ℕ)). toldBytes t out) listed ∙ text-told text out room
+
+  pub call-put : out′ ≡ putBytes out 0 text
+  call-put = c .left ∙ ap (λ (t : Told (List ℕ)). leftIn t out) listed ∙ text-left text out room

@@ -1,5 +1,5 @@
 -- The example holds by computation.
-use mathlib.Core.Path.{refl}
+use mathlib.Core.Path.{refl, sym, ap, _∙_}
 use lib.Count.{ones}
 use Rattle.binar.specs.Row.{_⊕_, bit, dot, ifBit}
 use Rattle.binar.specs.Echelon.{
@@ -43,7 +43,8 @@ use Rattle.rolls.specs.Roll.{
   encode,
 }
 use Rattle.pauli.specs.Sets.{setOf, membersFrom, members, pauliOf, condense, expand, rowOf, pauliOfRow}
-use Rattle.rolls.specs.Told.{refuseIf, andThen}
+use Rattle.rolls.specs.Told.{Told, refuseIf, andThen}
+use Rattle.joining.specs.Calls.{Lists, readBoth}
 use Rattle.pauli_theory.specs.Standard.{
   usedBy,
   supportOf,
@@ -70,12 +71,13 @@ use Rattle.pauli_theory.specs.Standard.{
   phaseStep,
 }
 use Rattle.pauli_theory.specs.Membership.{outside, exponentLeft, withPhase, factorizationOf}
-use Rattle.standard_form.specs.Area.{enough}
+use Rattle.standard_form.specs.Area.{enough, areaAfter}
 use Rattle.standard_form.specs.Groups.{paulis}
 use Rattle.closing_report.specs.Decimal.{ascii, digitsUpTo, digits}
 use Rattle.closing_report.specs.Lines.{lineFeed, labelled, phasesText, abelianText, firstLine, indexesText, memberLine, memberLines, refusedLine}
-use Rattle.closing_report.specs.Listing.{rollsIn, report, orRefusedIn, listing}
-use Rattle.closing_report.specs.Example.{inputOf, generators, elements, Example}
+use Rattle.closing_report.specs.Listing.{rollsIn, report, orRefusedIn, listing, asked}
+use Rattle.closing_report.specs.Example.{inputOf, generators, elements, text, Example}
+use Rattle.closing_report.proofs.CallLaws.{call-told, call-put}
 
 pub example : Example
 unfolding ones _⊕_ bit dot ifBit inColumn byColumns pivotOf swapRows clear unless addToOthers placePivot withPivot onFound echelonizeFrom echelonize
@@ -85,5 +87,14 @@ unfolding ones _⊕_ bit dot ifBit inColumn byColumns pivotOf swapRows clear unl
     supportOf formOf rank phaseOf ifZero zeroRows nonzeroRows modulusOf modulus rowGenerators someOrderFour anticommutesWithSome someAnticommute
     phase appended exponentMod standard nonabelian bare someImaginary someMinus phaseStep outside exponentLeft withPhase factorizationOf enough paulis
     ascii digitsUpTo digits lineFeed labelled phasesText abelianText firstLine indexesText memberLine memberLines refusedLine rollsIn report
-    orRefusedIn listing inputOf generators elements
-example = record { printed = refl; no-indexes = refl; no-roll = refl }
+    orRefusedIn listing asked readBoth areaAfter inputOf generators elements text
+example = record {
+  printed = refl;
+  called = λ work out r work′ out′ words room c.
+      let listed = ap (listing (inputOf generators elements)) (sym words) in
+      let used = ap (asked (inputOf generators elements)) (sym words) in
+      (call-told c text listed room, call-put c text listed room, c .area ∙ ap (λ (t : Told Lists). areaAfter t work) used);
+  no-indexes = refl;
+  second-roll = refl;
+  no-roll = refl;
+}

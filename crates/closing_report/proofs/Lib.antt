@@ -4,8 +4,8 @@ pub mod IndexLaws
 pub mod LineLaws
 pub mod StoredLaws
 pub mod RefusalLaws
-pub mod BoundLaws
 pub mod InputLaws
-pub mod ResultLaws
 pub mod CallLaws
+pub mod BoundLaws
+pub mod ResultLaws
 pub mod Example

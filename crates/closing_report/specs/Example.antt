@@ -1,12 +1,16 @@
 -- The example of document 01, "The closing listing".
 use mathlib.Core.Path.{_≡_}
 use mathlib.Core.List.{List, [], _∷_, _++_}
-use Prim.Native.Nat.{ℕ}
+use Prim.Native.Nat.{ℕ, _≤_}
 use lib.ListN.{length}
 use Rattle.rolls.specs.Bytes.{le32}
 use Rattle.rolls.specs.Roll.{Sparse, encode}
 use Rattle.rolls.specs.Told.{answer}
-use Rattle.standard_form.specs.Area.{workWords}
+use Rattle.pauli.specs.Answers.{toldWrote}
+use Rattle.pauli.specs.Writing.{putBytes}
+use Rattle.pauli.specs.declared.write.Wrote.{Wrote}
+use Rattle.standard_form.specs.Area.{workWords, cleared}
+use Rattle.closing_report.specs.Contract.{ReportCall}
 use Rattle.closing_report.specs.Decimal.{ascii}
 use Rattle.closing_report.specs.Listing.{listing}
 
@@ -24,12 +28,20 @@ elements =
     record { e = 0; xs = 0 ∷ 1 ∷ []; zs = 0 ∷ 1 ∷ [] } ∷ record { e = 2; xs = 0 ∷ 1 ∷ []; zs = 0 ∷ 1 ∷ [] }
     ∷ record { e = 0; xs = []; zs = 2 ∷ [] } ∷ []
 
+-- "it prints .."
+unfoldable pub text : List ℕ
+text = ascii "rank 2 phases 0 abelian yes\n0 member 0 1 phase 0\n1 not member\n2 not member\n"
+
 pub record Example : Type 0 where
-  -- "it prints .."
-  pub printed : listing (inputOf generators elements) workWords
-      ≡ answer (ascii "rank 2 phases 0 abelian yes\n0 member 0 1 phase 0\n1 not member\n2 not member\n")
+  pub printed : listing (inputOf generators elements) workWords ≡ answer text
+  -- the call puts the text into any output that has room for it, and leaves the first 4,096 words of the work area as zeros
+  pub called : (work out : List ℕ) (r : Wrote) (work′ out′ : List ℕ) → workWords ≡ length work → length text ≤ length out
+      → ReportCall (inputOf generators elements) work out r work′ out′
+      → (toldWrote r ≡ answer (length text)) × (out′ ≡ putBytes out 0 text) × (work′ ≡ cleared work)
   -- "with no indexes, `0 member phase 0`": the identity, and no generators
   pub no-indexes : listing (inputOf [] (record { e = 0; xs = []; zs = [] } ∷ [])) workWords
       ≡ answer (ascii "rank 0 phases 0 abelian yes\n0 member phase 0\n")
+  -- "A refusal prints only `refused N at K in roll R`": the second roll is cut
+  pub second-roll : listing (le32 2 ++ encode []) 0 ≡ answer (ascii "refused 1 at 0 in roll 2\n")
   -- "input without a whole first roll [..] is 1 at 0 in roll 1", whatever the work area
   pub no-roll : listing [] 0 ≡ answer (ascii "refused 1 at 0 in roll 1\n")

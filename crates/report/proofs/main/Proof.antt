@@ -1,5 +1,6 @@
 -- The text lies within the output.
 use mathlib.Core.Path.{sym}
+use native.Mathlib.Omega.{arith}
 use lib.Seq.{length-take-le}
 use borrow.Author.Needs.{needs}
 use Rattle.report.proofs.main.Statement.{statement}
@@ -24,7 +25,7 @@ slice-aggregate-text-of-3 : tie.Need-slice-aggregate-text-of-3
 slice-aggregate-text-of-3 c = search needs
 
 text-of-requires : tie.Need-text-of-requires
-text-of-requires c κs = search needs
+text-of-requires c κs = (omega arith, omega arith)
 
 array-share-prefix-out : tie.Need-array-share-prefix-out
 array-share-prefix-out c = search needs

@@ -21,8 +21,9 @@ same-length-2 c = search needs
 
 returns : tie.Need-returns
 returns c =
-    let s = c .before .before .before .before .before .before .before .before .before .before .before .before in
-    absurd (not-refused _ _ _ _ _ _ (c .before .before .before .before .before .before .closing-report .ensures) (s .pre .0) (s .pre .1) _ (c .enum-told .given .1))
+    let call = c .before .before .before .before .before .before in
+    let s = call .before .before .before .before .before .before in
+    absurd (not-refused _ _ _ _ _ _ (call .closing-report .ensures) (s .pre .0) (s .pre .1) _ (c .enum-told .given .1))
 
 same-length-3 : tie.Need-same-length-3
 same-length-3 c = search needs
@@ -32,8 +33,9 @@ same-length-4 c = search needs
 
 returns-2 : tie.Need-returns-2
 returns-2 c =
-    let s = c .before .before .before .before .before .before .before .before .before .before .before .before .before in
-    text-put _ _ _ _ _ _ (c .before .before .before .before .before .before .before .closing-report .ensures) (s .pre .0) (s .pre .1) _ (c .before .wrote .given .1)
+    let call = c .before .before .before .before .before .before .before in
+    let s = call .before .before .before .before .before .before in
+    text-put _ _ _ _ _ _ (call .closing-report .ensures) (s .pre .0) (s .pre .1) _ (c .before .wrote .given .1)
 
 pub text-of-spec : {M : Type 1} → statement M
 text-of-spec =

@@ -4,7 +4,8 @@ use lib.Seq.{length-take-le}
 use Rattle.rolls.specs.Answers.{toldCount}
 use Rattle.closing_report.specs.Split.{rollsTold}
 use Rattle.closing_report.proofs.InputLaws.{parted}
-use Rattle.closing_report.proofs.CallLaws.{input-refused, generators-refused, elements-refused, work-short, work-enough, call-line, call-short, call-done}
+use Rattle.closing_report.proofs.CallLaws.{input-refused, generators-refused, elements-refused, work-short, work-enough}
+use Rattle.closing_report.proofs.CallLaws.{call-line, call-short, call-done}
 use borrow.Author.Needs.{needs}
 use Rattle.closing_report.proofs.report.closing_report.Statement.{statement}
 use Rattle.closing_report.proofs.report.closing_report.Tie as tie
@@ -23,7 +24,8 @@ same-length c = search needs
 
 returns : tie.Need-returns
 returns c =
-    let cut = sym (c .before .before .before .before .before .before .split-input .ensures .0) ∙ ap (rollsTold _) (c .before .before .before .before .enum-told .given .1) in
+    let split = c .before .before .before .before in
+    let cut = sym (split .before .before .split-input .ensures .0) ∙ ap (rollsTold _) (split .enum-told .given .1) in
     let wrote = c .before .before .write-cut .ensures in
     call-line _ _ _ (input-refused _ _ _ _ cut) (wrote .0) (wrote .1)
 
@@ -33,19 +35,22 @@ enum-known-split c = search needs
 sub-check-roll : tie.Need-sub-check-roll
 sub-check-roll c =
     let split = c .before in
-    let parts = parted _ _ (split .before .before .split-input .ensures .0) (split .before .before .split-input .ensures .1) _ (split .split .given .1) in
+    let told = split .before .before .split-input .ensures in
+    let parts = parted _ _ (told .0) (told .1) _ (split .split .given .1) in
     parts .low
 
 part-check-roll-start : tie.Need-part-check-roll-start
 part-check-roll-start c =
     let split = c .before in
-    let parts = parted _ _ (split .before .before .split-input .ensures .0) (split .before .before .split-input .ensures .1) _ (split .split .given .1) in
+    let told = split .before .before .split-input .ensures in
+    let parts = parted _ _ (told .0) (told .1) _ (split .split .given .1) in
     parts .low
 
 part-check-roll-end : tie.Need-part-check-roll-end
 part-check-roll-end c =
     let split = c .before in
-    let parts = parted _ _ (split .before .before .split-input .ensures .0) (split .before .before .split-input .ensures .1) _ (split .split .given .1) in
+    let told = split .before .before .split-input .ensures in
+    let parts = parted _ _ (told .0) (told .1) _ (split .split .given .1) in
     parts .high
 
 check-roll-requires : tie.Need-check-roll-requires
@@ -62,9 +67,11 @@ same-length-2 c = search needs
 
 returns-2 : tie.Need-returns-2
 returns-2 c =
-    let split = c .before .before .before .before .before .before .before .before .before .before in
-    let parts = parted _ _ (split .before .before .split-input .ensures .0) (split .before .before .split-input .ensures .1) _ (split .split .given .1) in
-    let generators = sym (c .before .before .before .before .before .before .before .check-roll .ensures) ∙ ap toldCount (c .before .before .before .before .before .first .given .1) in
+    let first = c .before .before .before .before .before in
+    let split = first .before .before .before .before .before in
+    let told = split .before .before .split-input .ensures in
+    let parts = parted _ _ (told .0) (told .1) _ (split .split .given .1) in
+    let generators = sym (first .before .before .check-roll .ensures) ∙ ap toldCount (first .first .given .1) in
     let wrote = c .before .before .write-refused .ensures in
     call-line _ _ _ (generators-refused _ _ _ (parts .rolls) _ _ generators) (wrote .0) (wrote .1)
 
@@ -73,14 +80,18 @@ enum-known-first-2 c = search needs
 
 sub-check-roll-2 : tie.Need-sub-check-roll-2
 sub-check-roll-2 c =
-    let split = c .before .before .before .before .before .before in
-    let parts = parted _ _ (split .before .before .split-input .ensures .0) (split .before .before .split-input .ensures .1) _ (split .split .given .1) in
+    let first = c .before in
+    let split = first .before .before .before .before .before in
+    let told = split .before .before .split-input .ensures in
+    let parts = parted _ _ (told .0) (told .1) _ (split .split .given .1) in
     parts .high
 
 part-check-roll-start-2 : tie.Need-part-check-roll-start-2
 part-check-roll-start-2 c =
-    let split = c .before .before .before .before .before .before in
-    let parts = parted _ _ (split .before .before .split-input .ensures .0) (split .before .before .split-input .ensures .1) _ (split .split .given .1) in
+    let first = c .before in
+    let split = first .before .before .before .before .before in
+    let told = split .before .before .split-input .ensures in
+    let parts = parted _ _ (told .0) (told .1) _ (split .split .given .1) in
     parts .high
 
 part-check-roll-end-2 : tie.Need-part-check-roll-end-2
@@ -100,10 +111,13 @@ same-length-3 c = search needs
 
 returns-3 : tie.Need-returns-3
 returns-3 c =
-    let split = c .before .before .before .before .before .before .before .before .before .before .before .before .before .before .before in
-    let parts = parted _ _ (split .before .before .split-input .ensures .0) (split .before .before .split-input .ensures .1) _ (split .split .given .1) in
-    let generators = sym (c .before .before .before .before .before .before .before .before .before .before .before .before .check-roll .ensures) ∙ ap toldCount (c .before .before .before .before .before .before .before .before .before .before .first2 .given .1) in
-    let elements = sym (c .before .before .before .before .before .before .before .check-roll2 .ensures) ∙ ap toldCount (c .before .before .before .before .before .second .given .1) in
+    let second = c .before .before .before .before .before in
+    let first = second .before .before .before .before .before in
+    let split = first .before .before .before .before .before in
+    let told = split .before .before .split-input .ensures in
+    let parts = parted _ _ (told .0) (told .1) _ (split .split .given .1) in
+    let generators = sym (first .before .before .check-roll .ensures) ∙ ap toldCount (first .first2 .given .1) in
+    let elements = sym (second .before .before .check-roll2 .ensures) ∙ ap toldCount (second .second .given .1) in
     let wrote = c .before .before .write-refused2 .ensures in
     call-line _ _ _ (elements-refused _ _ _ (parts .rolls) _ generators _ _ elements) (wrote .0) (wrote .1)
 
@@ -112,41 +126,59 @@ enum-known-second-2 c = search needs
 
 returns-4 : tie.Need-returns-4
 returns-4 c =
-    let split = c .before .before .before .before .before .before .before .before .before .before .before .before in
-    let parts = parted _ _ (split .before .before .split-input .ensures .0) (split .before .before .split-input .ensures .1) _ (split .split .given .1) in
-    let generators = sym (c .before .before .before .before .before .before .before .before .before .check-roll .ensures) ∙ ap toldCount (c .before .before .before .before .before .before .before .first2 .given .1) in
-    let elements = sym (c .before .before .before .before .check-roll2 .ensures) ∙ ap toldCount (c .before .before .second2 .given .1) in
+    let second = c .before .before in
+    let first = second .before .before .before .before .before in
+    let split = first .before .before .before .before .before in
+    let told = split .before .before .split-input .ensures in
+    let parts = parted _ _ (told .0) (told .1) _ (split .split .given .1) in
+    let generators = sym (first .before .before .check-roll .ensures) ∙ ap toldCount (first .first2 .given .1) in
+    let elements = sym (second .before .before .check-roll2 .ensures) ∙ ap toldCount (second .second2 .given .1) in
     let short = work-short _ _ _ (parts .rolls) _ generators _ elements (c .if1 .taken) in
     call-short _ _ _ _ (short .0) (short .1)
 
 sub-write-report : tie.Need-sub-write-report
 sub-write-report c =
-    let split = c .before .before .before .before .before .before .before .before .before .before .before .before in
-    let parts = parted _ _ (split .before .before .split-input .ensures .0) (split .before .before .split-input .ensures .1) _ (split .split .given .1) in
+    let second = c .before .before in
+    let first = second .before .before .before .before .before in
+    let split = first .before .before .before .before .before in
+    let told = split .before .before .split-input .ensures in
+    let parts = parted _ _ (told .0) (told .1) _ (split .split .given .1) in
     parts .low
 
 part-write-report-start : tie.Need-part-write-report-start
 part-write-report-start c =
-    let split = c .before .before .before .before .before .before .before .before .before .before .before .before in
-    let parts = parted _ _ (split .before .before .split-input .ensures .0) (split .before .before .split-input .ensures .1) _ (split .split .given .1) in
+    let second = c .before .before in
+    let first = second .before .before .before .before .before in
+    let split = first .before .before .before .before .before in
+    let told = split .before .before .split-input .ensures in
+    let parts = parted _ _ (told .0) (told .1) _ (split .split .given .1) in
     parts .low
 
 part-write-report-end : tie.Need-part-write-report-end
 part-write-report-end c =
-    let split = c .before .before .before .before .before .before .before .before .before .before .before .before in
-    let parts = parted _ _ (split .before .before .split-input .ensures .0) (split .before .before .split-input .ensures .1) _ (split .split .given .1) in
+    let second = c .before .before in
+    let first = second .before .before .before .before .before in
+    let split = first .before .before .before .before .before in
+    let told = split .before .before .split-input .ensures in
+    let parts = parted _ _ (told .0) (told .1) _ (split .split .given .1) in
     parts .high
 
 sub-write-report-2 : tie.Need-sub-write-report-2
 sub-write-report-2 c =
-    let split = c .before .before .before .before .before .before .before .before .before .before .before .before .before in
-    let parts = parted _ _ (split .before .before .split-input .ensures .0) (split .before .before .split-input .ensures .1) _ (split .split .given .1) in
+    let second = c .before .before .before in
+    let first = second .before .before .before .before .before in
+    let split = first .before .before .before .before .before in
+    let told = split .before .before .split-input .ensures in
+    let parts = parted _ _ (told .0) (told .1) _ (split .split .given .1) in
     parts .high
 
 part-write-report-start-2 : tie.Need-part-write-report-start-2
 part-write-report-start-2 c =
-    let split = c .before .before .before .before .before .before .before .before .before .before .before .before .before in
-    let parts = parted _ _ (split .before .before .split-input .ensures .0) (split .before .before .split-input .ensures .1) _ (split .split .given .1) in
+    let second = c .before .before .before in
+    let first = second .before .before .before .before .before in
+    let split = first .before .before .before .before .before in
+    let told = split .before .before .split-input .ensures in
+    let parts = parted _ _ (told .0) (told .1) _ (split .split .given .1) in
     parts .high
 
 part-write-report-end-2 : tie.Need-part-write-report-end-2
@@ -156,13 +188,21 @@ slice-relend-prefix-write-report : tie.Need-slice-relend-prefix-write-report
 slice-relend-prefix-write-report c = search needs
 
 slice-aggregate-write-report : tie.Need-slice-aggregate-write-report
-slice-aggregate-write-report c = sym (length-take-le 4096 (c .before .before .before .before .before .before .before .before .before .before .before .before .before .before .before .before .before .before .before .before .before .args .work .now) (c .before .before .before .if1 .left))
+slice-aggregate-write-report c =
+    let test = c .before .before .before in
+    let first = test .before .before .before .before .before .before .before in
+    let s = first .before .before .before .before .before .before .before .before .before .before .before in
+    sym (length-take-le 4096 (s .args .work .now) (test .if1 .left))
 
 write-report-requires : tie.Need-write-report-requires
 write-report-requires c κs =
-    let generators = sym (c .before .before .before .before .before .before .before .before .before .before .before .before .before .check-roll .ensures) ∙ ap toldCount (c .before .before .before .before .before .before .before .before .before .before .before .first2 .given .1) in
-    let elements = sym (c .before .before .before .before .before .before .before .before .check-roll2 .ensures) ∙ ap toldCount (c .before .before .before .before .before .before .second2 .given .1) in
-    (generators, elements, length-take-le 4096 (c .before .before .before .before .before .before .before .before .before .before .before .before .before .before .before .before .before .before .before .before .before .before .args .work .now) (c .before .before .before .before .if1 .left))
+    let test = c .before .before .before .before in
+    let second = test .before .before in
+    let first = second .before .before .before .before .before in
+    let s = first .before .before .before .before .before .before .before .before .before .before .before in
+    let generators = sym (first .before .before .check-roll .ensures) ∙ ap toldCount (first .first2 .given .1) in
+    let elements = sym (second .before .before .check-roll2 .ensures) ∙ ap toldCount (second .second2 .given .1) in
+    (generators, elements, length-take-le 4096 (s .args .work .now) (test .if1 .left))
 
 same-length-4 : tie.Need-same-length-4
 same-length-4 c = search needs
@@ -172,13 +212,18 @@ same-length-5 c = search needs
 
 returns-5 : tie.Need-returns-5
 returns-5 c =
-    let split = c .before .before .before .before .before .before .before .before .before .before .before .before .before .before .before .before .before .before .before .before .before in
-    let parts = parted _ _ (split .before .before .split-input .ensures .0) (split .before .before .split-input .ensures .1) _ (split .split .given .1) in
-    let generators = sym (c .before .before .before .before .before .before .before .before .before .before .before .before .before .before .before .before .before .before .check-roll .ensures) ∙ ap toldCount (c .before .before .before .before .before .before .before .before .before .before .before .before .before .before .before .before .first2 .given .1) in
-    let elements = sym (c .before .before .before .before .before .before .before .before .before .before .before .before .before .check-roll2 .ensures) ∙ ap toldCount (c .before .before .before .before .before .before .before .before .before .before .before .second2 .given .1) in
-    let room = c .before .before .before .before .before .before .before .before .before .if1 .left in
+    let call = c .before .before .before .before in
+    let test = call .before .before .before .before .before in
+    let second = test .before .before in
+    let first = second .before .before .before .before .before in
+    let split = first .before .before .before .before .before in
+    let told = split .before .before .split-input .ensures in
+    let parts = parted _ _ (told .0) (told .1) _ (split .split .given .1) in
+    let generators = sym (first .before .before .check-roll .ensures) ∙ ap toldCount (first .first2 .given .1) in
+    let elements = sym (second .before .before .check-roll2 .ensures) ∙ ap toldCount (second .second2 .given .1) in
+    let room = test .if1 .left in
     let enough = work-enough _ _ _ (parts .rolls) _ generators _ elements room in
-    let wrote = c .before .before .before .before .write-report .ensures in
+    let wrote = call .write-report .ensures in
     call-done _ _ _ room _ (enough .0) _ (enough .1) (wrote .0) (wrote .1 .0) (wrote .1 .1)
 
 pub closing-report-spec : {M : Type 1} → statement M

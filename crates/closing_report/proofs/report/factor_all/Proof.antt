@@ -13,7 +13,9 @@ use Rattle.closing_report.proofs.report.factor_all.Statement.{statement
 use Rattle.closing_report.proofs.report.factor_all.Tie as tie
 
 abbrev Inv-loop : tie.InvT-loop
-Inv-loop b m known n group step w₀ k₀ w k = (k ≤ m) × (length w ≡ 4096) × ((g : Asked known w₀ n (group .places) (group .rank) (group .total) step) → Factored g (listOf b) k w)
+Inv-loop b m known n group step w₀ k₀ w k =
+    (k ≤ m) × (length w ≡ 4096)
+    × ((g : Asked known w₀ n (group .places) (group .rank) (group .total) step) → Factored g (listOf b) k w)
 
 abbrev μ-loop : tie.MeasureT-loop
 μ-loop b m known n group step w₀ k₀ w k = m - k
@@ -25,23 +27,33 @@ factor-requires : tie.Need-factor-requires Inv-loop μ-loop
 factor-requires c κs =
     let s = c .before .before .before .before .before .before in
     let inv = c .before .before .loop .inv in
-    (s .pre .0, c .before .loop-test .taken, s .pre .1, inv .1, s .pre .3, asked-now (s .pre .4) _ (inv .2 (s .pre .4)))
+    (s .pre .0, omega arith, s .pre .1, inv .1, s .pre .3, asked-now (s .pre .4) _ (inv .2 (s .pre .4)))
 
 mul-store-result : tie.Need-mul-store-result Inv-loop μ-loop
 unfolding mostPaulis
-mul-store-result c = omega (arith, accepted-few _ _ (c .before .before .before .before .before .before .before .before .before .before .pre .0), c .before .before .before .before .before .loop-test .taken)
+mul-store-result c =
+    let test = c .before .before .before .before .before in
+    let s = test .before .before .before .before .before in
+    omega (arith, accepted-few _ _ (s .pre .0), test .loop-test .taken)
 
 add-store-result : tie.Need-add-store-result Inv-loop μ-loop
 unfolding mostPaulis
-add-store-result c = omega (arith, accepted-few _ _ (c .before .before .before .before .before .before .before .before .before .before .pre .0), c .before .before .before .before .before .loop-test .taken)
+add-store-result c =
+    let test = c .before .before .before .before .before in
+    let s = test .before .before .before .before .before in
+    omega (arith, accepted-few _ _ (s .pre .0), test .loop-test .taken)
 
 store-result-requires : tie.Need-store-result-requires Inv-loop μ-loop
 unfolding mostPaulis asked-now
 store-result-requires c κs =
-    let s = c .before .before .before .before .before .before .before .before .before .before in
-    let inv = c .before .before .before .before .before .before .loop .inv in
-    let factor = c .before .before .before .factor .ensures in
-    (omega (arith, accepted-few _ _ (s .pre .0), c .before .before .before .before .before .loop-test .taken, factor .1 .size, inv .1), storable _ _ _ _ (sym (factor .0 (asked-now (s .pre .4) _ (inv .2 (s .pre .4))))))
+    let factored = c .before .before .before in
+    let test = factored .before .before in
+    let inv = test .before .loop .inv in
+    let s = test .before .before .before .before .before in
+    let factor = factored .factor .ensures in (
+      omega (arith, accepted-few _ _ (s .pre .0), test .loop-test .taken, factor .1 .size, inv .1),
+      storable _ _ _ _ (sym (factor .0 (asked-now (s .pre .4) _ (inv .2 (s .pre .4))))),
+    )
 
 add-k : tie.Need-add-k Inv-loop μ-loop
 add-k c = omega arith
@@ -52,15 +64,17 @@ loop-less c = omega arith
 loop-again : tie.Need-loop-again Inv-loop μ-loop
 unfolding asked-now
 loop-again c =
-    let s = c .before .before .before .before .before .before .before .before .before .before .before .before .before in
-    let inv = c .before .before .before .before .before .before .before .before .before .loop .inv in
-    let test = c .before .before .before .before .before .before .before .before .loop-test .taken in
-    let factor = c .before .before .before .before .before .before .factor .ensures in
+    let factored = c .before .before .before .before .before .before in
+    let test = factored .before .before in
+    let inv = test .before .loop .inv in
+    let s = test .before .before .before .before .before in
+    let factor = factored .factor .ensures in
     let stored = c .before .before .store-result .ensures in
-    let size = accepted _ _ (s .pre .0) .1 in (
+    let size = accepted _ _ (s .pre .0) .1 in
+    let taken = test .loop-test .taken in (
       omega arith,
       stored .rest .size ∙ factor .1 .size ∙ inv .1,
-      λ g. let f = inv .2 g in factored-next g _ f (s .pre .1) (inv .1) (omega (arith, size, test)) (factor .0 (asked-now g _ f)) (factor .1) stored,
+      λ g. let f = inv .2 g in factored-next g _ f (s .pre .1) (inv .1) (omega (arith, size, taken)) (factor .0 (asked-now g _ f)) (factor .1) stored,
     )
 
 same-length : tie.Need-same-length Inv-loop μ-loop

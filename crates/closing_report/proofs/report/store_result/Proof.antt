@@ -17,7 +17,10 @@ enum-known-factoring : tie.Need-enum-known-factoring
 enum-known-factoring c = search needs
 
 store-member-requires : tie.Need-store-member-requires
-store-member-requires c κs = (omega arith, subst Storable (ap factoringTold (c .before .before .factoring .given .1)) (c .before .before .before .before .before .pre .1))
+store-member-requires c κs =
+    let told = c .before .before in
+    let s = told .before .before .before in
+    (omega arith, subst Storable (ap factoringTold (told .factoring .given .1)) (s .pre .1))
 
 same-length : tie.Need-same-length
 same-length c = search needs

@@ -25,8 +25,9 @@ group-of-requires c κs = let s = c .before .before .before .before .before .bef
 
 signs-of-requires : tie.Need-signs-of-requires
 signs-of-requires c κs =
-    let s = c .before .before .before .before .before .before .before .before .before .before .before in
-    let group = c .before .before .before .before .group-of in
+    let made = c .before .before .before .before in
+    let s = made .before .before .before .before .before .before .before in
+    let group = made .group-of in
     omega (arith, group-total _ _ (s .pre .0) (group .ensures .0), group .kept .1 .1 .1 .0, s .pre .2)
 
 slice-aggregate-factor-all : tie.Need-slice-aggregate-factor-all
@@ -34,8 +35,9 @@ slice-aggregate-factor-all c = search needs
 
 factor-all-requires : tie.Need-factor-all-requires
 factor-all-requires c κs =
-    let s = c .before .before .before .before .before .before .before .before .before .before .before .before .before .before in
-    let group = c .before .before .before .before .before .before .before .group-of in
+    let made = c .before .before .before .before .before .before .before in
+    let s = made .before .before .before .before .before .before .before in
+    let group = made .group-of in
     let signs = c .before .before .signs-of .ensures in
     let few = list-few _ (s .args .n) (s .pre .0) in
     let size = list-length _ (s .args .n) (s .pre .0) in (
@@ -49,14 +51,18 @@ factor-all-requires c κs =
 write-listing-requires : tie.Need-write-listing-requires
 unfolding mostPaulis
 write-listing-requires c κs =
-    let s = c .before .before .before .before .before .before .before .before .before .before .before .before .before .before .before .before .before .before .before in
+    let put = c .before .before .before .before in
+    let made = put .before .before .before .before .before .before .before .before in
+    let s = made .before .before .before .before .before .before .before in
     let few = accepted-few _ _ (s .pre .1) in
-    (omega (arith, few, c .before .before .before .before .factor-all .kept .1 .1 .1 .1 .1 .1 .0, c .before .before .before .before .before .before .before .before .before .before .before .before .group-of .kept .1 .1 .1 .0, s .pre .2), omega (arith, few))
+    (omega (arith, few, put .factor-all .kept .1 .1 .1 .1 .1 .1 .0, made .group-of .kept .1 .1 .1 .0, s .pre .2), omega (arith, few))
 
 clear-bits-requires : tie.Need-clear-bits-requires
 clear-bits-requires c κs =
-    let s = c .before .before .before .before .before .before .before .before .before .before .before .before .before .before .before .before .before .before .before .before .before .before .before in
-    omega (arith, c .before .before .before .before .before .before .before .before .factor-all .kept .1 .1 .1 .1 .1 .1 .0, c .before .before .before .before .before .before .before .before .before .before .before .before .before .before .before .before .group-of .kept .1 .1 .1 .0, s .pre .2)
+    let put = c .before .before .before .before .before .before .before .before in
+    let made = put .before .before .before .before .before .before .before .before in
+    let s = made .before .before .before .before .before .before .before in
+    omega (arith, put .factor-all .kept .1 .1 .1 .1 .1 .1 .0, made .group-of .kept .1 .1 .1 .0, s .pre .2)
 
 same-length : tie.Need-same-length
 same-length c = search needs
@@ -67,19 +73,24 @@ same-length-2 c = search needs
 returns : tie.Need-returns
 unfolding asked-of
 returns c =
-    let s = c .before .before .before .before .before .before .before .before .before .before .before .before .before .before .before .before .before .before .before .before .before .before .before .before .before .before in
-    let group = c .before .before .before .before .before .before .before .before .before .before .before .before .before .before .before .before .before .before .before .group-of in
-    let signs = c .before .before .before .before .before .before .before .before .before .before .before .before .before .before .signs-of .ensures in
-    let all = c .before .before .before .before .before .before .before .before .before .before .before .factor-all in
-    let wrote = c .before .before .before .before .before .before .write-listing .ensures in
-    let told = described (group .ensures .0) none _ _ _ (signs .0) (signs .1 .0) (signs .1 .1) in
+    let written = c .before .before .before .before .before .before in
+    let put = written .before .before .before .before .before in
+    let told = put .before .before .before in
+    let made = told .before .before .before .before .before in
+    let s = made .before .before .before .before .before .before .before in
+    let group = made .group-of in
+    let signs = told .signs-of .ensures in
+    let all = put .factor-all in
+    let wrote = written .write-listing .ensures in
+    let numbers = described (group .ensures .0) none _ _ _ (signs .0) (signs .1 .0) (signs .1 .1) in
     let results = all .ensures (asked-of _ _ (s .pre .0) (group .ensures .0) none (signs .0) (signs .1 .0) (signs .1 .1)) in
-    let text = report-text _ _ _ _ _ _ (told .rank-is) (told .step-is) (told .clash-is) results in
-    let out = s .args .out .now in (
+    let text = report-text _ _ _ _ _ _ (numbers .rank-is) (numbers .step-is) (numbers .clash-is) results in
+    let out = s .args .out .now in
+    let size = all .kept .1 .1 .1 .1 .1 .1 .0 ∙ group .kept .1 .1 .1 .0 ∙ s .pre .2 in (
       wrote .0 ∙ ap (λ (t : List ℕ). toldBytes (answer t) out) text,
       (
         wrote .1 ∙ ap (λ (t : List ℕ). leftIn (answer t) out) text,
-        c .before .before .clear-bits .ensures ∙ cleared-whole _ _ (all .kept .1 .1 .1 .1 .1 .1 .0 ∙ group .kept .1 .1 .1 .0 ∙ s .pre .2) (s .pre .2),
+        c .before .before .clear-bits .ensures ∙ cleared-whole _ _ size (s .pre .2),
       ),
     )
 
