@@ -160,16 +160,25 @@ def compare_damaged(requests, rng, args, oracle, output=damage.output_for):
     return collections.Counter(outcome(r, wanted) for r, wanted in pairs)
 
 
+def generators(r):
+    """How many generators the request's lists have: elements are not counted, joined lists are."""
+    rolls = [r.first[4:] if r.op == 18 else r.first] + ([r.second] if 11 <= r.op <= 17 else [])
+    return sum(int.from_bytes(b[:2], "little") for b in rolls)
+
+
 def compare_kind(op, args, programs):
     """Whole requests, then damaged ones."""
     gen, oracle = programs
     name = CALLS[op].name
     rng = random.Random(f"{args.seed} {name}")
     sizes = args.generators, args.qubits
+    large = 0
     for n in in_blocks(args.count):
-        compare(expected(rng, made(op, gen, rng, n, *sizes), oracle, few_more), args.replay)
+        requests = made(op, gen, rng, n, *sizes)
+        large += sum(generators(r) >= 40 for r in requests)
+        compare(expected(rng, requests, oracle, few_more), args.replay)
     if args.count:
-        print(f"{name}: {args.count} lines equal", flush=True)
+        print(f"{name}: {args.count} lines equal, {large} of them with 40 or more generators", flush=True)
     counts = collections.Counter()
     for n in in_blocks(args.damaged):
         requests = [damage.damaged(rng, r) for r in made(op, gen, rng, n, *sizes)]
