@@ -56,9 +56,11 @@ pub(crate) fn code_refusal(refusal: Refusal) -> Answer
     ensures { λ r. ⌜ r ≡ codeRefusal (numberOf (refusal .reason)) (refusal .place) ⌝ }
 {
     let reason = refusal.reason;
+    let number = number_of(reason);
+    let place = refusal.place as u64;
     Answer {
-        refusal: number_of(reason),
-        place: refusal.place as u64,
+        refusal: number,
+        place: place,
         first: 0,
         second: 0,
         third: 0,

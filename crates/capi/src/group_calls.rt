@@ -46,7 +46,8 @@ pub extern "C" fn howhiruke_rank(roll: &[u8], work: &mut [u64]) -> Answer
 pub extern "C" fn howhiruke_phases(roll: &[u8], promise: u64, work: &mut [u64]) -> Answer
     ensures { λ r. ⌜ Telling (codePhases (phasesCall (promiseNumbered promise) (now (roll .entry)) (length (now (work .entry))))) (oneList (now (roll .entry)) (length (now (work .entry)))) (now (work .entry)) r (now (work .exit)) ⌝ }
 {
-    let found = phases(roll, promise_numbered(promise), work);
+    let promised = promise_numbered(promise);
+    let found = phases(roll, promised, work);
     code_phases(found)
 }
 
@@ -54,7 +55,8 @@ pub extern "C" fn howhiruke_phases(roll: &[u8], promise: u64, work: &mut [u64]) 
 pub extern "C" fn howhiruke_is_abelian(roll: &[u8], promise: u64, work: &mut [u64]) -> Answer
     ensures { λ r. ⌜ Telling (codeNumber (abelianCall (promiseNumbered promise) (now (roll .entry)) (length (now (work .entry))))) (oneList (now (roll .entry)) (length (now (work .entry)))) (now (work .entry)) r (now (work .exit)) ⌝ }
 {
-    let decided = is_abelian(roll, promise_numbered(promise), work);
+    let promised = promise_numbered(promise);
+    let decided = is_abelian(roll, promised, work);
     code_decided(decided)
 }
 
@@ -66,7 +68,8 @@ pub extern "C" fn howhiruke_is_stabilizer_group(
 ) -> Answer
     ensures { λ r. ⌜ Telling (codeNumber (stabilizerCall (promiseNumbered promise) (now (roll .entry)) (length (now (work .entry))))) (oneList (now (roll .entry)) (length (now (work .entry)))) (now (work .entry)) r (now (work .exit)) ⌝ }
 {
-    let decided = is_stabilizer_group(roll, promise_numbered(promise), work);
+    let promised = promise_numbered(promise);
+    let decided = is_stabilizer_group(roll, promised, work);
     code_decided(decided)
 }
 
@@ -74,7 +77,8 @@ pub extern "C" fn howhiruke_is_stabilizer_group(
 pub extern "C" fn howhiruke_log2_size(roll: &[u8], promise: u64, work: &mut [u64]) -> Answer
     ensures { λ r. ⌜ Telling (codeNumber (sizeCall (promiseNumbered promise) (now (roll .entry)) (length (now (work .entry))))) (oneList (now (roll .entry)) (length (now (work .entry)))) (now (work .entry)) r (now (work .exit)) ⌝ }
 {
-    let found = log2_size(roll, promise_numbered(promise), work);
+    let promised = promise_numbered(promise);
+    let found = log2_size(roll, promised, work);
     code_size(found)
 }
 
@@ -90,14 +94,8 @@ pub extern "C" fn howhiruke_indexed_factorization_of(
 ) -> Answer
     ensures { λ r. ⌜ Factoring (factorizationCall (promiseNumbered promise) (now (generators .entry)) (now (elements .entry)) number (length (now (work .entry)))) (question (now (generators .entry)) (now (elements .entry)) number (length (now (work .entry)))) (now (work .entry)) (now (out .entry)) r (now (work .exit)) (now (out .exit)) ⌝ }
 {
-    let found = indexed_factorization_of(
-        generators,
-        elements,
-        number,
-        promise_numbered(promise),
-        work,
-        out,
-    );
+    let promised = promise_numbered(promise);
+    let found = indexed_factorization_of(generators, elements, number, promised, work, out);
     code_member(found)
 }
 
@@ -113,7 +111,8 @@ pub extern "C" fn howhiruke_elements(
 ) -> Answer
     ensures { λ r. ⌜ Listing (elementsCall (promiseNumbered promise) start count (now (roll .entry)) (length (now (work .entry)))) (oneList (now (roll .entry)) (length (now (work .entry)))) (now (work .entry)) (now (out .entry)) r (now (work .exit)) (now (out .exit)) ⌝ }
 {
-    let wrote = elements(roll, promise_numbered(promise), start, count, work, out);
+    let promised = promise_numbered(promise);
+    let wrote = elements(roll, promised, start, count, work, out);
     code_wrote(wrote)
 }
 

@@ -22,13 +22,9 @@ pub extern "C" fn howhiruke_partial_cmp(
 ) -> Answer
     ensures { λ r. ⌜ Telling (codeOrder (orderCall (promiseNumbered «left_promise») (promiseNumbered «right_promise») (now (left .entry)) (now (right .entry)) (length (now (work .entry))))) (twoLists (now (left .entry)) (now (right .entry)) (length (now (work .entry)))) (now (work .entry)) r (now (work .exit)) ⌝ }
 {
-    let found = partial_cmp(
-        left,
-        right,
-        promise_numbered(left_promise),
-        promise_numbered(right_promise),
-        work,
-    );
+    let l = promise_numbered(left_promise);
+    let r = promise_numbered(right_promise);
+    let found = partial_cmp(left, right, l, r, work);
     code_order(found)
 }
 
@@ -44,14 +40,9 @@ pub extern "C" fn howhiruke_modulo(
 ) -> Answer
     ensures { λ r. ⌜ Listing (moduloCall (promiseNumbered «right_promise») (now (left .entry)) (now (right .entry)) (length (now (work .entry)))) (twoLists (now (left .entry)) (now (right .entry)) (length (now (work .entry)))) (now (work .entry)) (now (out .entry)) r (now (work .exit)) (now (out .exit)) ⌝ }
 {
-    let wrote = modulo(
-        left,
-        right,
-        promise_numbered(left_promise),
-        promise_numbered(right_promise),
-        work,
-        out,
-    );
+    let l = promise_numbered(left_promise);
+    let r = promise_numbered(right_promise);
+    let wrote = modulo(left, right, l, r, work, out);
     code_wrote(wrote)
 }
 
@@ -67,13 +58,8 @@ pub extern "C" fn howhiruke_try_quotient(
 ) -> Answer
     ensures { λ r. ⌜ Listing (quotientCall (promiseNumbered «left_promise») (promiseNumbered «right_promise») (now (left .entry)) (now (right .entry)) (length (now (work .entry)))) (twoLists (now (left .entry)) (now (right .entry)) (length (now (work .entry)))) (now (work .entry)) (now (out .entry)) r (now (work .exit)) (now (out .exit)) ⌝ }
 {
-    let wrote = try_quotient(
-        left,
-        right,
-        promise_numbered(left_promise),
-        promise_numbered(right_promise),
-        work,
-        out,
-    );
+    let l = promise_numbered(left_promise);
+    let r = promise_numbered(right_promise);
+    let wrote = try_quotient(left, right, l, r, work, out);
     code_wrote(wrote)
 }
