@@ -1,0 +1,149 @@
+/* Signed Pauli groups: the calls of crates/capi, for C on x86-64 Linux. Link target/staticlib/libcapi.a.
+ *
+ * A Pauli (e, x, z) is i^e times X on the qubits x, then Z on the qubits z; Y on one qubit has e = 1. A list of Paulis is given
+ * as a roll of bytes, all little-endian: the count n (2 bytes), n entries of 10 bytes (given 1, exponent 1, start 4, x count 2,
+ * z count 2), then the bodies: x numbers, then z numbers, 4 bytes each, strictly rising in each set. `given` is 1, and `start` is
+ * how many qubit numbers stand in earlier bodies. At most 128 Paulis, 128 distinct qubits, qubit number 65,535.
+ *
+ * Every slice is a pointer and a length: bytes of a roll or an output, 64-bit words of a work area. The pointer is not NULL, also
+ * where the length is 0. Slices lent to one call must not overlap where one of them is written (work, out, words). A work area has
+ * 4,096 words or more; it may hold anything. Its first 4,096 words end as zeros, but are untouched at refusals 1 to 9; its other words
+ * are never touched. An output is written from its front, and only the result's own bytes; a refusal leaves it alone.
+ *
+ * Nothing is asked of the contents: a call on any bytes ends, and answers or refuses.
+ *
+ * Refusals, in this order; per roll 1 to 7, left before right, generators before elements:
+ *    1  under 2 bytes, table cut, or length not that of the table
+ *    2  over 128 Paulis, or joined list over 128
+ *    3  `given` above 1, or start wrong
+ *    4  exponent missing (`given` 0)
+ *    5  qubit above 65,535
+ *    6  a set not strictly rising
+ *    7  over 128 distinct qubits, also joined
+ *    8  generator or element number past its list
+ *    9  work area under 4,096 words
+ *   10  listing with rank above 16
+ *   11  divisor not a subgroup
+ *   12  output shorter than the result
+ */
+#ifndef HOWHIRUKE_H
+#define HOWHIRUKE_H
+
+#include <stddef.h>
+#include <stdint.h>
+
+#ifdef __cplusplus
+extern "C" {
+#endif
+
+#define HOWHIRUKE_WORK_WORDS 4096
+
+/* refusal is 0 for an answer, which is in first, second and third; what a call does not name is 0. At a refusal, place is the
+ * Pauli's index in its own roll for 3 to 6, else 0, and the others are 0. */
+typedef struct {
+    uint64_t refusal;
+    uint64_t place;
+    uint64_t first;
+    uint64_t second;
+    uint64_t third;
+} howhiruke_answer;
+
+/* What the caller promises of a list; every other number is read as none. A false promise changes answers. */
+enum { HOWHIRUKE_NONE = 0, HOWHIRUKE_ABELIAN = 1, HOWHIRUKE_NOT_ABELIAN = 2 };
+
+/* How two groups compare. */
+enum { HOWHIRUKE_EQUAL = 0, HOWHIRUKE_LESS = 1, HOWHIRUKE_GREATER = 2, HOWHIRUKE_NO_ORDER = 3 };
+
+/* ---- rolls: no work area */
+
+/* first: how many Paulis the roll has. Refusals 1 to 7. */
+howhiruke_answer howhiruke_check_roll(const uint8_t *roll, size_t roll_len);
+
+/* Writes a roll of one Pauli, the product of Pauli i of left and Pauli j of right. first: its length. Refusals 1 to 8, 12; 7 also
+ * for the qubits of both rolls together. */
+howhiruke_answer howhiruke_product(const uint8_t *left, size_t left_len, size_t i,
+                                   const uint8_t *right, size_t right_len, size_t j,
+                                   uint8_t *out, size_t out_len);
+
+/* Writes the roll of left's Paulis, then right's. first: its length. Refusals 1 to 7, 12; 2 and 7 also joined. */
+howhiruke_answer howhiruke_join(const uint8_t *left, size_t left_len, const uint8_t *right, size_t right_len,
+                                uint8_t *out, size_t out_len);
+
+/* Generator n of the joined list. first: its exponent, 0 to 3; second: its x count; third: its z count. Refusals 1 to 8. */
+howhiruke_answer howhiruke_joined_entry(const uint8_t *left, size_t left_len, const uint8_t *right, size_t right_len, size_t n);
+
+/* Where its body stands. first: 0 for left, 1 for right; second: the body's first byte in that roll; third: its length in bytes.
+ * Refusals 1 to 8. */
+howhiruke_answer howhiruke_joined_body(const uint8_t *left, size_t left_len, const uint8_t *right, size_t right_len, size_t n);
+
+/* ---- groups: refusals 1 to 7 and 9, and those named */
+
+/* Writes the standard generators. first: the roll's length. Also 12. */
+howhiruke_answer howhiruke_standard_generators(const uint8_t *roll, size_t roll_len, uint64_t *work, size_t work_len,
+                                               uint8_t *out, size_t out_len);
+
+/* first: the rank. */
+howhiruke_answer howhiruke_rank(const uint8_t *roll, size_t roll_len, uint64_t *work, size_t work_len);
+
+/* first: how many phases the group has: 1 (0), 2 (0, 2) or 4 (0, 1, 2, 3). */
+howhiruke_answer howhiruke_phases(const uint8_t *roll, size_t roll_len, uint64_t promise, uint64_t *work, size_t work_len);
+
+/* first: 1 for yes, 0 for no. */
+howhiruke_answer howhiruke_is_abelian(const uint8_t *roll, size_t roll_len, uint64_t promise, uint64_t *work, size_t work_len);
+
+/* first: 1 where the group is abelian and does not have -I, else 0. */
+howhiruke_answer howhiruke_is_stabilizer_group(const uint8_t *roll, size_t roll_len, uint64_t promise,
+                                               uint64_t *work, size_t work_len);
+
+/* first: the binary logarithm of the number of elements. */
+howhiruke_answer howhiruke_log2_size(const uint8_t *roll, size_t roll_len, uint64_t promise, uint64_t *work, size_t work_len);
+
+/* Whether Pauli `number` of the roll elements is in the group of generators. first: 1 for a member, second: how many generators
+ * multiply to it, third: the exponent left; their indexes go to the output, rising, 2 bytes each. first: 0 for no member, which is
+ * no refusal. Also 8, and 12 for a member alone. */
+howhiruke_answer howhiruke_indexed_factorization_of(const uint8_t *generators, size_t generators_len,
+                                                    const uint8_t *elements, size_t elements_len, size_t number,
+                                                    uint64_t promise, uint64_t *work, size_t work_len,
+                                                    uint8_t *out, size_t out_len);
+
+/* Writes a page of the group's elements: subsets of the standard generators by size, then lexicographic, phases fastest; count of
+ * them from number start on (count 0 means 16, above 128 means 128). A start past the end gives an empty roll. first: the roll's
+ * length. Also 10 and 12. */
+howhiruke_answer howhiruke_elements(const uint8_t *roll, size_t roll_len, uint64_t promise, uint32_t start, uint32_t count,
+                                    uint64_t *work, size_t work_len, uint8_t *out, size_t out_len);
+
+/* Writes generators of the same group in pairs: the two of a pair anticommute, all else commutes. first: the roll's length.
+ * Also 12. */
+howhiruke_answer howhiruke_symplectic_form_of(const uint8_t *roll, size_t roll_len, uint64_t *work, size_t work_len,
+                                              uint8_t *out, size_t out_len);
+
+/* ---- two groups: refusals 1 to 7 and 9, and those named; 2 and 7 also joined */
+
+/* first: HOWHIRUKE_EQUAL, HOWHIRUKE_LESS (left is inside right), HOWHIRUKE_GREATER or HOWHIRUKE_NO_ORDER. */
+howhiruke_answer howhiruke_partial_cmp(const uint8_t *left, size_t left_len, const uint8_t *right, size_t right_len,
+                                       uint64_t left_promise, uint64_t right_promise, uint64_t *work, size_t work_len);
+
+/* Writes left's generators, each multiplied by the standard generators of right at whose pivots it has a one. The left promise is
+ * not read. first: the roll's length. Also 12. */
+howhiruke_answer howhiruke_modulo(const uint8_t *left, size_t left_len, const uint8_t *right, size_t right_len,
+                                  uint64_t left_promise, uint64_t right_promise, uint64_t *work, size_t work_len,
+                                  uint8_t *out, size_t out_len);
+
+/* The same, where right is a subgroup of left. Also 11 and 12. */
+howhiruke_answer howhiruke_try_quotient(const uint8_t *left, size_t left_len, const uint8_t *right, size_t right_len,
+                                        uint64_t left_promise, uint64_t right_promise, uint64_t *work, size_t work_len,
+                                        uint8_t *out, size_t out_len);
+
+/* ---- bit matrices */
+
+/* Reduced row echelon form of rows rows of cols columns, in place. A row is width words, bit c of the row at bit c % 64 of word
+ * c / 64, then (rows + 63) / 64 words that the call fills with the transform. The pivot columns come behind the rows, a word each,
+ * so words has rows * (width + (rows + 63) / 64) + rows words or more. first: 1, second: the rank. first: 0 where the matrix does not
+ * fit, and words is left alone. No refusal. */
+howhiruke_answer howhiruke_echelon_form(uint64_t *words, size_t words_len, size_t width, size_t rows, size_t cols);
+
+#ifdef __cplusplus
+}
+#endif
+
+#endif
