@@ -16,8 +16,8 @@ use pauli_group::answers::Phases;
 use pauli_group::answers::PhasesFound;
 use pauli_group::answers::RankFound;
 use pauli_group::answers::SizeFound;
-use rolls::refusal::Reason;
 use rolls::refusal::Refusal;
+use rolls::refusal::number_of;
 use rolls::roll::Checked;
 use two_groups::answers::Order;
 use two_groups::answers::OrderFound;
@@ -32,31 +32,11 @@ pub struct Answer {
     pub third: u64,
 }
 
-// Document 01's number of a reason.
-fn number_of(reason: Reason) -> u64
-    ensures { λ r. ⌜ r ≡ numberOf reason ⌝ }
-{
-    match reason {
-        Reason::Length => 1,
-        Reason::Paulis => 2,
-        Reason::Entry => 3,
-        Reason::Exponent => 4,
-        Reason::Qubit => 5,
-        Reason::Rising => 6,
-        Reason::Qubits => 7,
-        Reason::Number => 8,
-        Reason::Work => 9,
-        Reason::Listing => 10,
-        Reason::Subgroup => 11,
-        Reason::Output => 12,
-    }
-}
-
 pub(crate) fn code_refusal(refusal: Refusal) -> Answer
     ensures { λ r. ⌜ r ≡ codeRefusal (numberOf (refusal .reason)) (refusal .place) ⌝ }
 {
     let reason = refusal.reason;
-    let number = number_of(reason);
+    let number = number_of(reason) as u64;
     let place = refusal.place as u64;
     Answer {
         refusal: number,

@@ -12,3 +12,5 @@ pub mod group_calls;
 pub mod pair_calls;
 // The echelon form of a matrix.
 pub mod matrix_calls;
+// The call for the closing listing.
+pub mod report_calls;

@@ -1,5 +1,6 @@
 // The calls on two lists. Each lends a work area.
 ghost use lib.ListN.{length};
+ghost use Rattle.common_part.specs.Calls.{commonCall};
 ghost use Rattle.two_groups.specs.Calls.{twoLists, orderCall, moduloCall, quotientCall};
 ghost use Rattle.capi.specs.Code.{codeOrder, promiseNumbered};
 ghost use Rattle.capi.specs.Contracts.{Telling, Listing};
@@ -7,6 +8,7 @@ use crate::answer::Answer;
 use crate::answer::code_order;
 use crate::answer::code_wrote;
 use crate::promise::promise_numbered;
+use common_part::common::bitand;
 use two_groups::modulo::modulo;
 use two_groups::order::partial_cmp;
 use two_groups::quotient::try_quotient;
@@ -61,5 +63,23 @@ pub extern "C" fn howhiruke_try_quotient(
     let l = promise_numbered(left_promise);
     let r = promise_numbered(right_promise);
     let wrote = try_quotient(left, right, l, r, work, out);
+    code_wrote(wrote)
+}
+
+// Writes the common part of the groups of two lists.
+#[no_mangle]
+pub extern "C" fn howhiruke_bitand(
+    left: &[u8],
+    right: &[u8],
+    left_promise: u64,
+    right_promise: u64,
+    work: &mut [u64],
+    out: &mut [u8],
+) -> Answer
+    ensures { λ r. ⌜ Listing (commonCall (promiseNumbered «left_promise») (promiseNumbered «right_promise») (now (left .entry)) (now (right .entry)) (length (now (work .entry)))) (twoLists (now (left .entry)) (now (right .entry)) (length (now (work .entry)))) (now (work .entry)) (now (out .entry)) r (now (work .exit)) (now (out .exit)) ⌝ }
+{
+    let l = promise_numbered(left_promise);
+    let r = promise_numbered(right_promise);
+    let wrote = bitand(left, right, l, r, work, out);
     code_wrote(wrote)
 }
