@@ -134,6 +134,20 @@ howhiruke_answer howhiruke_try_quotient(const uint8_t *left, size_t left_len, co
                                         uint64_t left_promise, uint64_t right_promise, uint64_t *work, size_t work_len,
                                         uint8_t *out, size_t out_len);
 
+/* Writes the common part of the two groups: the smaller list where one group holds the other; else a basis of the rows that both
+ * span, each with the least phase that both groups have (an element without one is dropped, so the list may be smaller than the true
+ * common part), then the shared powers of i, rising. first: the roll's length. Also 12. */
+howhiruke_answer howhiruke_bitand(const uint8_t *left, size_t left_len, const uint8_t *right, size_t right_len,
+                                  uint64_t left_promise, uint64_t right_promise, uint64_t *work, size_t work_len,
+                                  uint8_t *out, size_t out_len);
+
+/* ---- the report */
+
+/* Writes the closing listing of an input: a 4-byte length, a generator roll of that length, an element roll. first: the text's length,
+ * at most 53,924 bytes. An input that is refused gives the line `refused N at K in roll R`. Refusals: 9 and 12. */
+howhiruke_answer howhiruke_closing_report(const uint8_t *input, size_t input_len, uint64_t *work, size_t work_len,
+                                          uint8_t *out, size_t out_len);
+
 /* ---- bit matrices */
 
 /* Reduced row echelon form of rows rows of cols columns, in place. A row is width words, bit c of the row at bit c % 64 of word

@@ -211,6 +211,26 @@ static void others(void)
         exit(1);
 }
 
+/* The common part, and the closing example. */
+static void common_and_report(void)
+{
+    roll bell = LIST(XX, ZZ), xx = LIST(XX), x = LIST(X), z = LIST(Z);
+    listed("common part of one inside", CALL(bitand, ROLL(bell), ROLL(xx), 0, 0, WORK, OUT), LIST(XX));
+    listed("common part of two apart", CALL(bitand, ROLL(x), ROLL(z), 0, 0, WORK, OUT), LIST(I));
+    pauli both = {0, {0, 1, E}, {0, 1, E}}, minus = {2, {0, 1, E}, {0, 1, E}}, outside = {0, {E}, {2, E}};
+    roll elements = LIST(both, minus, outside);
+    const char *text = "rank 2 phases 0 abelian yes\n0 member 0 1 phase 0\n1 not member\n2 not member\n";
+    uint8_t input[4 + sizeof bell.b + sizeof elements.b] = {(uint8_t)bell.n};
+    memcpy(input + 4, bell.b, bell.n);
+    memcpy(input + 4 + bell.n, elements.b, elements.n);
+    told("closing example", CALL(closing_report, input, 4 + bell.n + elements.n, WORK, OUT), strlen(text), 0, 0);
+    if (memcmp(out, text, strlen(text)))
+        exit(1);
+    told("closing refusal", CALL(closing_report, input, 3, WORK, OUT), 25, 0, 0);
+    if (memcmp(out, "refused 1 at 0 in roll 1\n", 25))
+        exit(1);
+}
+
 static void refusals(void)
 {
     roll bell = LIST(XX, ZZ), x = LIST(X), z = LIST(Z), xx = LIST(XX);
@@ -257,6 +277,7 @@ int main(void)
 {
     marked();
     others();
+    common_and_report();
     refusals();
     edges();
     printf("C: %d rows equal\n", rows);

@@ -46,5 +46,12 @@ extern "C" {
         left: *const u8, nl: usize, right: *const u8, nr: usize, left_promise: u64, right_promise: u64, work: *mut u64, words: usize,
         out: *mut u8, room: usize,
     ) -> Answer;
+    pub fn howhiruke_bitand(
+        left: *const u8, nl: usize, right: *const u8, nr: usize, left_promise: u64, right_promise: u64, work: *mut u64, words: usize,
+        out: *mut u8, room: usize,
+    ) -> Answer;
+    pub fn howhiruke_closing_report(
+        input: *const u8, n: usize, work: *mut u64, words: usize, out: *mut u8, room: usize,
+    ) -> Answer;
     pub fn howhiruke_echelon_form(words: *mut u64, n: usize, width: usize, rows: usize, cols: usize) -> Answer;
 }

@@ -322,6 +322,45 @@ pub fn try_quotient(
     })
 }
 
+/// Writes the common part of the groups of `left` and `right`; the roll's length.
+pub fn bitand(
+    left: &[u8],
+    right: &[u8],
+    left_promise: Promise,
+    right_promise: Promise,
+    work: &mut [u64],
+    out: &mut [u8],
+) -> Result<usize, Refusal> {
+    number(unsafe {
+        calls::howhiruke_bitand(
+            left.as_ptr(),
+            left.len(),
+            right.as_ptr(),
+            right.len(),
+            left_promise as u64,
+            right_promise as u64,
+            work.as_mut_ptr(),
+            work.len(),
+            out.as_mut_ptr(),
+            out.len(),
+        )
+    })
+}
+
+/// Writes the closing listing of an input; the text's length.
+pub fn closing_report(input: &[u8], work: &mut [u64], out: &mut [u8]) -> Result<usize, Refusal> {
+    number(unsafe {
+        calls::howhiruke_closing_report(
+            input.as_ptr(),
+            input.len(),
+            work.as_mut_ptr(),
+            work.len(),
+            out.as_mut_ptr(),
+            out.len(),
+        )
+    })
+}
+
 /// Reduces a matrix of `rows` rows of `width` words in place; `../howhiruke.h` has the layout.
 pub fn echelon_form(words: &mut [u64], width: usize, rows: usize, cols: usize) -> Formation {
     let a = unsafe { calls::howhiruke_echelon_form(words.as_mut_ptr(), words.len(), width, rows, cols) };
