@@ -9,6 +9,11 @@ pub struct Answer {
     pub third: u64,
 }
 
+/// A call on two lists that writes a roll.
+pub type OnTwo = unsafe extern "C" fn(
+    *const u8, usize, *const u8, usize, u64, u64, *mut u64, usize, *mut u8, usize,
+) -> Answer;
+
 extern "C" {
     pub fn howhiruke_check_roll(roll: *const u8, n: usize) -> Answer;
     pub fn howhiruke_product(

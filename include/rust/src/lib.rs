@@ -272,8 +272,9 @@ pub fn partial_cmp(
     })
 }
 
-/// Writes `left` modulo `right`; the roll's length. The left promise is not read.
-pub fn modulo(
+/// A call on two lists that writes a roll.
+fn on_two(
+    call: calls::OnTwo,
     left: &[u8],
     right: &[u8],
     left_promise: Promise,
@@ -282,7 +283,7 @@ pub fn modulo(
     out: &mut [u8],
 ) -> Result<usize, Refusal> {
     number(unsafe {
-        calls::howhiruke_modulo(
+        call(
             left.as_ptr(),
             left.len(),
             right.as_ptr(),
@@ -295,6 +296,18 @@ pub fn modulo(
             out.len(),
         )
     })
+}
+
+/// Writes `left` modulo `right`; the roll's length. The left promise is not read.
+pub fn modulo(
+    left: &[u8],
+    right: &[u8],
+    left_promise: Promise,
+    right_promise: Promise,
+    work: &mut [u64],
+    out: &mut [u8],
+) -> Result<usize, Refusal> {
+    on_two(calls::howhiruke_modulo, left, right, left_promise, right_promise, work, out)
 }
 
 /// Writes the quotient of `left` by `right`, the divisor; the roll's length.
@@ -306,20 +319,7 @@ pub fn try_quotient(
     work: &mut [u64],
     out: &mut [u8],
 ) -> Result<usize, Refusal> {
-    number(unsafe {
-        calls::howhiruke_try_quotient(
-            left.as_ptr(),
-            left.len(),
-            right.as_ptr(),
-            right.len(),
-            left_promise as u64,
-            right_promise as u64,
-            work.as_mut_ptr(),
-            work.len(),
-            out.as_mut_ptr(),
-            out.len(),
-        )
-    })
+    on_two(calls::howhiruke_try_quotient, left, right, left_promise, right_promise, work, out)
 }
 
 /// Writes the common part of the groups of `left` and `right`; the roll's length.
@@ -331,20 +331,7 @@ pub fn bitand(
     work: &mut [u64],
     out: &mut [u8],
 ) -> Result<usize, Refusal> {
-    number(unsafe {
-        calls::howhiruke_bitand(
-            left.as_ptr(),
-            left.len(),
-            right.as_ptr(),
-            right.len(),
-            left_promise as u64,
-            right_promise as u64,
-            work.as_mut_ptr(),
-            work.len(),
-            out.as_mut_ptr(),
-            out.len(),
-        )
-    })
+    on_two(calls::howhiruke_bitand, left, right, left_promise, right_promise, work, out)
 }
 
 /// Writes the closing listing of an input; the text's length.
