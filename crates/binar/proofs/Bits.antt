@@ -1,7 +1,7 @@
 -- Laws of the sum of two rows, of their bits, and of the parity of what they share.
 use mathlib.Core.Path.{_≡_, refl, sym, ap, _∙_}
 use Prim.Native.Nat.{ℕ, zero, suc, _+_, _-_, _*_, _/_, _%_, _^_, _≤_, _<_, min}
-use native.Mathlib.Nat.{mod-lt, zero-lt-suc, div-eq-of-lt, lt-of-lt-of-le, add-mul-mod-self-left, mod-add-div}
+use native.Mathlib.Nat.{mod-lt, mod-eq-of-lt, zero-mul, one-mul, zero-lt-suc, div-eq-of-lt, lt-of-lt-of-le, add-mul-mod-self-left, mod-add-div}
 use native.Mathlib.Omega.{arith}
 use native.Mathlib.Decide.{decLt}
 use lib.Arith.{bin-ind}
@@ -12,6 +12,8 @@ use lib.Bits.{
   xor-step,
   and-shr,
   and-comm,
+  and-zero-l,
+  and-mask,
   xor-shr as shr-of-xor,
   xor-mod as mod-of-xor,
   xor-lt as lt-of-xor,
@@ -253,3 +255,9 @@ dot-zero-l b = rw ones-zero
 
 pub dot-zero-r : (b : ℕ) → dot b 0 ≡ 0
 dot-zero-r b = dot-comm b 0 ∙ dot-zero-l b
+
+-- a word under a mask of 64 ones, or of none
+pub masked : (b y : ℕ) → b ≤ 1 → y < 2 ^ 64 → bitAnd (b * 18446744073709551615) y ≡ b * y
+masked zero y hb hy = rw (zero-mul y) (and-zero-l y)
+masked (suc zero) y hb hy = and-comm 18446744073709551615 y ∙ and-mask y 64 ∙ mod-eq-of-lt hy ∙ sym (one-mul y)
+masked (suc (suc b)) y hb hy = absurd (omega arith)

@@ -3,7 +3,7 @@ use mathlib.Core.Path.{_≡_, refl, sym, ap, ap₂, _∙_, subst}
 use mathlib.Core.Bool.{Bool, true, false}
 use mathlib.Core.List.{List, [], _∷_}
 use Prim.Native.Nat.{ℕ, zero, suc, _+_, _*_, _^_, _≤_, _<_}
-use native.Mathlib.Nat.{add-zero, zero-add}
+use native.Mathlib.Nat.{add-zero, zero-add, zero-mul, one-mul}
 use native.Mathlib.Omega.{arith}
 use borrow.Author.Tests.{eq-eqb, ne-eqb}
 use lib.Dec.{eqb}
@@ -12,11 +12,20 @@ use lib.Pow.{pow-pos}
 use Rattle.binar.specs.Row.{_⊕_, bit, ifBit}
 use Rattle.binar.specs.Words.{rowAt, putRow, matrix}
 use Rattle.binar.specs.Echelon.{clear, unless, addToOthers}
-use Rattle.binar.proofs.Bits.{bit-lt, xor-lt}
+use Rattle.binar.proofs.Bits.{bit-lt, xor-lt, xor-zero-r}
 use Rattle.binar.proofs.Slice.{AreWords}
 use Rattle.binar.proofs.Matrix.{Below, length-matrix, matrix-row}
 use Rattle.binar.proofs.RowByRow.{rewritten, row-here, row-same, rewritten-row, rewritten-same}
-use Rattle.binar.proofs.Search.{if-one, if-zero}
+
+times-bit : (b p v : ℕ) → b < 2 → ifBit b (v ⊕ p) v ≡ v ⊕ b * p
+unfolding ifBit
+times-bit zero p v h = sym (ap (v ⊕_) (zero-mul p) ∙ xor-zero-r v)
+times-bit (suc zero) p v h = ap (v ⊕_) (sym (one-mul p))
+times-bit (suc (suc b)) p v h = absurd (omega arith)
+
+clear-times : (c p v : ℕ) → clear c p v ≡ v ⊕ bit v c * p
+unfolding clear
+clear-times c p v = times-bit (bit v c) p v (bit-lt v c)
 
 module _ (c p r : ℕ) where
   pub length-added : (i : ℕ) (M : List ℕ) → length (addToOthers c p r i M) ≡ length M
@@ -38,13 +47,10 @@ module _ (c p r : ℕ) where
     unfolding unless
     added-pivot e = at-row 0 M k h ∙ rw (zero-add k, eq-eqb k r e)
 
-    pub added-one : (k ≡ r → ⊥) → bit (getD M k 0) c ≡ 1 → getD (addToOthers c p r 0 M) k 0 ≡ getD M k 0 ⊕ p
-    unfolding unless clear
-    added-one n o = at-row 0 M k h ∙ rw (zero-add k, ne-eqb k r n) (if-one _ _ _ o)
-
-    pub added-zero : (k ≡ r → ⊥) → (bit (getD M k 0) c ≡ 1 → ⊥) → getD (addToOthers c p r 0 M) k 0 ≡ getD M k 0
-    unfolding unless clear
-    added-zero n o = at-row 0 M k h ∙ rw (zero-add k, ne-eqb k r n) (if-zero _ _ _ (bit-lt (getD M k 0) c) o)
+    -- and is added to every other row as often as the bit in the column says
+    pub added-other : (k ≡ r → ⊥) → getD (addToOthers c p r 0 M) k 0 ≡ getD M k 0 ⊕ bit (getD M k 0) c * p
+    unfolding unless
+    added-other n = at-row 0 M k h ∙ rw (zero-add k, ne-eqb k r n) (clear-times c p (getD M k 0))
 
 -- rows below 2^k stay so
 if-below : (k b x y : ℕ) → x < 2 ^ k → y < 2 ^ k → ifBit b x y < 2 ^ k
@@ -97,15 +103,12 @@ module _ (l : List ℕ) (s n r c : ℕ) (f : AreWords l) (room : n * s ≤ lengt
     unfolding cleared
     pivot-row = row-same l s n D f room count i h w e r hr (added-pivot c p r M r (rw (length-matrix s n l) hr) refl) ∙ matrix-row s n l r hr
 
-    pub clear-add : (i ≡ r → ⊥) → bit (getD M i 0) c ≡ 1 → putRow w (i * s) s (rowAt w (i * s) s ⊕ rowAt w (r * s) s) ≡ rewritten l s n D (i + 1)
+    pub clear-add : (i ≡ r → ⊥) → putRow w (i * s) s (rowAt w (i * s) s ⊕ bit (getD M i 0) c * rowAt w (r * s) s) ≡ rewritten l s n D (i + 1)
     unfolding cleared
-    clear-add ne o =
-        rewritten-row l s n D f room count i h w e _ (ap₂ _⊕_ (row-here l s n D f room count i h w e) pivot-row ∙ sym (added-one c p r M i inside ne o))
+    clear-add ne =
+        rewritten-row l s n D f room count i h w e _
+        (ap₂ (λ (v : ℕ) (q : ℕ). v ⊕ bit (getD M i 0) c * q) (row-here l s n D f room count i h w e) pivot-row ∙ sym (added-other c p r M i inside ne))
 
     pub clear-pivot : i ≡ r → w ≡ rewritten l s n D (i + 1)
     unfolding cleared
     clear-pivot k = rewritten-same l s n D f room count i h w e (added-pivot c p r M i inside k)
-
-    pub clear-skip : (i ≡ r → ⊥) → (bit (getD M i 0) c ≡ 1 → ⊥) → w ≡ rewritten l s n D (i + 1)
-    unfolding cleared
-    clear-skip ne o = rewritten-same l s n D f room count i h w e (added-zero c p r M i inside ne o)

@@ -3,7 +3,7 @@ use mathlib.Core.Path.{_≡_, refl, sym, ap, ap₂, _∙_, subst}
 use mathlib.Core.Logic.{_⊎_, inl, inr, ⊎-elim}
 use mathlib.Core.List.{List, [], _∷_, _++_, append-assoc}
 use Prim.Native.Nat.{ℕ, zero, suc, _+_, _-_, _*_, _/_, _%_, _^_, _≤_, _<_}
-use native.Mathlib.Nat.{add-zero, add-assoc, sub-zero}
+use native.Mathlib.Nat.{add-zero, add-assoc, sub-zero, mul-add, mul-assoc, one-mul, mul-le-mul-right}
 use native.Mathlib.Numerals.{add-one}
 use native.Mathlib.Omega.{arith}
 use native.Mathlib.Decide.{decLt}
@@ -17,6 +17,14 @@ use Rattle.binar.specs.Words.{value, words, rowAt, putRow, TwoRows}
 -- each element is a word
 abbrev pub AreWords : List ℕ → Type 0
 AreWords l = (k : ℕ) → getD l k 0 < 2 ^ 64
+
+-- a word stored leaves words
+pub words-set : (l : List ℕ) (i x : ℕ) → i < length l → x < 2 ^ 64 → AreWords l → AreWords (set l i x)
+words-set l i x h b f k =
+    elim (decLt i k) [
+      yes a ↦ rw (getD-set-other l i k x 0 (λ e. omega arith)) (f k)
+      | no a ↦ elim (decLt k i) [ yes d ↦ rw (getD-set-other l i k x 0 (λ e. omega arith)) (f k) | no d ↦ let e : k ≡ i = omega arith in rw (e, getD-set-same l i x 0 h) b ]
+    ]
 
 -- ---- a row read
 
@@ -105,9 +113,10 @@ rest-kept : (l : List ℕ) (i n x : ℕ) → rowAt (set l i x) (i + 1) n ≡ row
 unfolding Outside
 rest-kept l i n x = row-kept l i (i + 1) n x (inl (omega arith))
 
--- the rows of n words at i and j, after the first is set to a sum, to the second, or both are exchanged
-unfoldable pub added : List ℕ → ℕ → ℕ → ℕ → List ℕ
-added l i j n = putRow l i n (rowAt l i n ⊕ rowAt l j n)
+-- the rows of n words at i and j, after the second is added b times to the first, the first is set to the second, or both are
+-- exchanged
+unfoldable pub added : ℕ → List ℕ → ℕ → ℕ → ℕ → List ℕ
+added b l i j n = putRow l i n (rowAt l i n ⊕ b * rowAt l j n)
 
 unfoldable pub copied : List ℕ → ℕ → ℕ → ℕ → List ℕ
 copied l i j n = putRow l i n (rowAt l j n)
@@ -116,14 +125,22 @@ unfoldable pub exchanged : List ℕ → ℕ → ℕ → ℕ → List ℕ
 exchanged l i j n = putRow (putRow l i n (rowAt l j n)) j n (rowAt l i n)
 
 module _ (l : List ℕ) (i j n : ℕ) (f : AreWords l) (t : TwoRows l i j (suc n)) where
-  added-next : added l i j (suc n) ≡ added (set l i (bitXor (getD l i 0) (getD l j 0))) (i + 1) (j + 1) n
-  unfolding added _⊕_
-  added-next =
-      let x = bitXor (getD l i 0) (getD l j 0) in
-      ap₂ (λ (v : ℕ) (w : ℕ). putRow l i (suc n) (bitXor v w)) (row-next l i n (omega (arith, t .first))) (row-next l j n (omega (arith, t .second)))
-      ∙ ap (putRow l i (suc n)) (xor-block 64 (rowAt l (i + 1) n) (rowAt l (j + 1) n) (getD l i 0) (getD l j 0) (f i) (f j))
-      ∙ put-next l i n (bitXor (rowAt l (i + 1) n) (rowAt l (j + 1) n)) x (omega (arith, t .first)) (xor-lt 64 (getD l i 0) (getD l j 0) (f i) (f j))
-      ∙ sym (ap₂ (λ (v : ℕ) (w : ℕ). putRow (set l i x) (i + 1) n (bitXor v w)) (rest-kept l i n x) (two-kept l i j n x t))
+  module _ (b : ℕ) (hb : b ≤ 1) where
+    word-times : b * getD l j 0 < 2 ^ 64
+    word-times = omega (arith, mul-le-mul-right (getD l j 0) hb, one-mul (getD l j 0), f j)
+
+    word-sum : bitXor (getD l i 0) (b * getD l j 0) < 2 ^ 64
+    word-sum = xor-lt 64 (getD l i 0) (b * getD l j 0) (f i) word-times
+
+    added-next : added b l i j (suc n) ≡ added b (set l i (bitXor (getD l i 0) (b * getD l j 0))) (i + 1) (j + 1) n
+    unfolding added _⊕_
+    added-next =
+        let x = bitXor (getD l i 0) (b * getD l j 0) in
+        ap₂ (λ (v : ℕ) (w : ℕ). putRow l i (suc n) (bitXor v (b * w))) (row-next l i n (omega (arith, t .first))) (row-next l j n (omega (arith, t .second)))
+        ∙ ap (λ (w : ℕ). putRow l i (suc n) (bitXor (rowAt l (i + 1) n * 2 ^ 64 + getD l i 0) w)) (mul-add b (rowAt l (j + 1) n * 2 ^ 64) (getD l j 0) ∙ ap (_+ b * getD l j 0) (sym (mul-assoc b (rowAt l (j + 1) n) (2 ^ 64))))
+        ∙ ap (putRow l i (suc n)) (xor-block 64 (rowAt l (i + 1) n) (b * rowAt l (j + 1) n) (getD l i 0) (b * getD l j 0) (f i) word-times)
+        ∙ put-next l i n (bitXor (rowAt l (i + 1) n) (b * rowAt l (j + 1) n)) x (omega (arith, t .first)) word-sum
+        ∙ sym (ap₂ (λ (v : ℕ) (w : ℕ). putRow (set l i x) (i + 1) n (bitXor v (b * w))) (rest-kept l i n x) (two-kept l i j n x t))
 
   copied-next : copied l i j (suc n) ≡ copied (set l i (getD l j 0)) (i + 1) (j + 1) n
   unfolding copied
@@ -175,8 +192,8 @@ module _ (l : List ℕ) (i j n k : ℕ) (h : k < n) (t : TwoRows l (i + k) (j + 
   by-step F m e = ap (F l (i + k) (j + k)) here ∙ e ∙ ap₂ (λ (p : ℕ) (q : ℕ). F m p q (n - (k + 1))) (add-assoc i k 1) (add-assoc j k 1)
 
   module _ (f : AreWords l) where
-    pub added-step : added l (i + k) (j + k) (n - k) ≡ added (set l (i + k) (bitXor (getD l (i + k) 0) (getD l (j + k) 0))) (i + (k + 1)) (j + (k + 1)) (n - (k + 1))
-    added-step = by-step added _ (added-next l (i + k) (j + k) (n - (k + 1)) f two-here)
+    pub added-step : (b : ℕ) → b ≤ 1 → added b l (i + k) (j + k) (n - k) ≡ added b (set l (i + k) (bitXor (getD l (i + k) 0) (b * getD l (j + k) 0))) (i + (k + 1)) (j + (k + 1)) (n - (k + 1))
+    added-step b hb = by-step (added b) _ (added-next l (i + k) (j + k) (n - (k + 1)) f two-here b hb)
 
     pub copied-step : copied l (i + k) (j + k) (n - k) ≡ copied (set l (i + k) (getD l (j + k) 0)) (i + (k + 1)) (j + (k + 1)) (n - (k + 1))
     copied-step = by-step copied _ (copied-next l (i + k) (j + k) (n - (k + 1)) f two-here)
@@ -184,6 +201,30 @@ module _ (l : List ℕ) (i j n k : ℕ) (h : k < n) (t : TwoRows l (i + k) (j + 
     pub exchanged-step : exchanged l (i + k) (j + k) (n - k)
         ≡ exchanged (set (set l (i + k) (getD l (j + k) 0)) (j + k) (getD l (i + k) 0)) (i + (k + 1)) (j + (k + 1)) (n - (k + 1))
     exchanged-step = by-step exchanged _ (exchanged-next l (i + k) (j + k) (n - (k + 1)) f two-here)
+
+-- two words at once: the first is stored before the second
+module _ (l : List ℕ) (i j n k : ℕ) (h : k + 1 < n) (t : TwoRows l (i + k) (j + k) (n - k)) where
+  pub two-words : (x y : ℕ) → TwoRows (set (set l (i + k) x) (i + k + 1) y) (i + (k + 2)) (j + (k + 2)) (n - (k + 2))
+  two-words x y =
+      let e : k + 1 + 1 ≡ k + 2 = omega arith in
+      rw (add-assoc i k 1, ← e) (two-step (set l (i + k) x) i j n (k + 1) h (two-step l i j n k (omega arith) t x) y)
+
+  module _ (b : ℕ) (hb : b ≤ 1) (f : AreWords l) (x y : ℕ) (p : x ≡ bitXor (getD l (i + k) 0) (b * getD l (j + k) 0)) (q : y ≡ bitXor (getD l (i + k + 1) 0) (b * getD l (j + k + 1) 0)) where
+    pub added-two : added b l (i + k) (j + k) (n - k) ≡ added b (set (set l (i + k) x) (i + k + 1) y) (i + (k + 2)) (j + (k + 2)) (n - (k + 2))
+    added-two =
+        let m = set l (i + k) x in
+        let two : k + 1 + 1 ≡ k + 2 = omega arith in
+        let here : n - k ≡ suc (n - (k + 1)) = omega arith in
+        let u = two-step l i j n k (omega arith) t x in
+        let g : AreWords m = words-set l (i + k) x (omega (arith, t .first)) (rw p (word-sum l (i + k) (j + k) (n - (k + 1)) f (rw here at t) b hb)) f in
+        let own : getD m (i + (k + 1)) 0 ≡ getD l (i + k + 1) 0 = rw (← add-assoc i k 1) (getD-set-other l (i + k) (i + k + 1) x 0 (λ e. omega arith)) in
+        let other : getD m (j + (k + 1)) 0 ≡ getD l (j + k + 1) 0 =
+            rw (← add-assoc j k 1) (getD-set-other l (i + k) (j + k + 1) x 0 (λ e. ⊎-elim (λ a. omega arith) (⊎-elim (λ a. omega arith) (λ a. omega arith)) (t .apart))) in
+        added-step l i j n k (omega arith) t f b hb
+        ∙ ap (λ (v : ℕ). added b (set l (i + k) v) (i + (k + 1)) (j + (k + 1)) (n - (k + 1))) (sym p)
+        ∙ added-step m i j n (k + 1) h u g b hb
+        ∙ ap₂ (λ (v : ℕ) (r : ℕ). added b (set m (i + (k + 1)) v) (i + r) (j + r) (n - r)) (ap₂ (λ (v : ℕ) (w : ℕ). bitXor v (b * w)) own other ∙ sym q) two
+        ∙ ap (λ (r : ℕ). added b (set m r y) (i + (k + 2)) (j + (k + 2)) (n - (k + 2))) (sym (add-assoc i k 1))
 
 pub two-start : (l : List ℕ) (i j n : ℕ) → TwoRows l i j n → TwoRows l (i + 0) (j + 0) (n - 0)
 two-start l i j n t = simp (add-zero, sub-zero) t
@@ -196,9 +237,9 @@ module _ (l : List ℕ) (i j n k : ℕ) (h : n ≤ k) where
   none : n - k ≡ 0
   none = omega arith
 
-  pub added-none : added l (i + k) (j + k) (n - k) ≡ l
+  pub added-none : (b : ℕ) → added b l (i + k) (j + k) (n - k) ≡ l
   unfolding added
-  added-none = rw none (put-none l (i + k) _)
+  added-none b = rw none (put-none l (i + k) _)
 
   pub copied-none : copied l (i + k) (j + k) (n - k) ≡ l
   unfolding copied

@@ -9,6 +9,7 @@ ghost use lib.ListN.{length, getD, drop};
 ghost use Rattle.binar.specs.Words.{rowAt, putRow, matrix, image};
 ghost use Rattle.binar.specs.Echelon.{pivotOf, addToOthers, echelonize as echelonized, besideIdentity};
 ghost use Rattle.binar.specs.Layout.{laidOut, Shape, fits, FormIs, Solvable, swept, solution};
+use crate::row::add_if;
 use crate::row::bitxor_assign;
 use crate::row::clear_bits;
 use crate::row::index;
@@ -70,9 +71,8 @@ pub fn reduce(w: &mut [u64], stride: usize, rows: usize, r: usize, c: usize)
     let mut i = 0;
     while i < rows {
         if i != r {
-            if index(w, i * stride, c) == 1 {
-                bitxor_assign(w, i * stride, r * stride, stride);
-            }
+            let bit = index(w, i * stride, c);
+            add_if(w, i * stride, r * stride, stride, bit);
         }
         i += 1;
     }

@@ -84,16 +84,39 @@ pub fn assign(w: &mut [u64], to: usize, from: usize, n: usize)
     }
 }
 
+// The word x with y added over GF(2), if bit is 1.
+fn added_word(x: u64, y: u64, bit: u64) -> u64
+    requires { ⌜ bit ≤ 1 ⌝ }
+    ensures { λ r. ⌜ r ≡ x ⊕ bit * y ⌝ }
+{
+    x ^ ((bit * 18446744073709551615) & y)
+}
+
+// Adds the row of n words at word from to the one at word to, over GF(2), if bit is 1. It does the same work for both bits, two words
+// a turn: a branch on the bit would be guessed wrong half of the time.
+pub fn add_if(w: &mut [u64], to: usize, from: usize, n: usize, bit: u64)
+    requires { ⌜ TwoRows (now w) to from n × (bit ≤ 1) ⌝ }
+    ensures { λ _. ⌜ now (w .exit) ≡ putRow (now (w .entry)) to n (rowAt (now (w .entry)) to n ⊕ bit * rowAt (now (w .entry)) from n) ⌝ }
+{
+    let mut k = 0;
+    while k + 1 < n {
+        let a = added_word(w[to + k], w[from + k], bit);
+        let b = added_word(w[to + k + 1], w[from + k + 1], bit);
+        w[to + k] = a;
+        w[to + k + 1] = b;
+        k += 2;
+    }
+    if k < n {
+        w[to + k] = added_word(w[to + k], w[from + k], bit);
+    }
+}
+
 // Adds the row of n words at word from to the one at word to, over GF(2).
 pub fn bitxor_assign(w: &mut [u64], to: usize, from: usize, n: usize)
     requires { ⌜ TwoRows (now w) to from n ⌝ }
     ensures { λ _. ⌜ now (w .exit) ≡ putRow (now (w .entry)) to n (rowAt (now (w .entry)) to n ⊕ rowAt (now (w .entry)) from n) ⌝ }
 {
-    let mut k = 0;
-    while k < n {
-        w[to + k] = w[to + k] ^ w[from + k];
-        k += 1;
-    }
+    add_if(w, to, from, n, 1);
 }
 
 // Exchanges the rows of n words at words i and j.

@@ -1,9 +1,12 @@
 -- Invariant: the first i rows are done.
 use Prim.Native.Nat.{ℕ, _+_, _-_, _*_, _^_, _≤_, _<_}
 use Rattle.binar.proofs.Matrix.{row-in, two-rows}
-use Rattle.binar.proofs.Others.{cleared, length-cleared, clear-add, clear-pivot, clear-skip}
+use Rattle.binar.proofs.Others.{cleared, length-cleared, clear-add, clear-pivot}
 use Rattle.binar.proofs.RowByRow.{rewritten, rewritten-none, rewritten-all, bit-here}
-use Rattle.binar.specs.Words.{putRow, rowAt}
+use Rattle.binar.proofs.Bits.{bit-lt}
+use Rattle.binar.proofs.Slice.{AreWords}
+use Rattle.binar.specs.Row.{_⊕_}
+use Rattle.binar.specs.Words.{value, putRow, rowAt}
 use lib.ListN.{length, getD, drop}
 use mathlib.Core.Logic.{⊎-elim}
 use mathlib.Core.Path.{_≡_, refl, sym, ap, _∙_}
@@ -23,14 +26,18 @@ turn : (c : tie.Joined1 Inv-loop μ-loop)
     (c .if1 .w ≡ rewritten (start .w .now) (start .stride) (start .rows) (cleared (start .w .now) (start .stride) (start .rows) (start .r) (start .c)) (c .before .before .loop .i + 1))
     × (length (c .if1 .w) ≡ length (c .before .before .loop .w))
 turn c =
+    let known : AreWords (c .before .before .before .before .args .w .now) = λ q. c .before .before .before .slice-known .given q .fits in
+    let start = c .before .before .before .before in
+    let l = c .before .before .loop in
+    let inside = c .before .loop-test .taken in
     ⊎-elim
     (λ h. (
-      h .8 ∙ h .5 .ensures ∙ clear-add _ _ _ _ _ (λ q. c .before .before .before .slice-known .given q .fits) (c .before .before .before .before .pre .0) (c .before .before .before .before .pre .1) _ (c .before .loop-test .taken) _ (c .before .before .loop .inv .2) (h .0 .taken) (sym (h .2 .ensures ∙ bit-here _ _ _ _ (λ q. c .before .before .before .slice-known .given q .fits) (c .before .before .before .before .pre .0) (length-cleared _ _ _ _ _) _ (c .before .loop-test .taken) _ (c .before .before .loop .inv .2) _ (omega (arith, c .before .before .before .before .pre .0, c .before .before .loop .inv .1)) (c .before .before .before .before .pre .2)) ∙ h .3 .taken),
-      ap length (h .8) ∙ h .5 .kept .0,
+      h .7 ∙ h .4 .ensures
+      ∙ ap (λ (b : ℕ). putRow _ _ _ (rowAt _ _ _ ⊕ b * rowAt _ _ _)) (h .2 .ensures ∙ bit-here _ _ _ _ known (start .pre .0) (length-cleared _ _ _ _ _) _ inside _ (l .inv .2) _ (omega (arith, start .pre .0, l .inv .1)) (start .pre .2))
+      ∙ clear-add _ _ _ _ _ known (start .pre .0) (start .pre .1) _ inside _ (l .inv .2) (h .0 .taken),
+      ap length (h .7) ∙ h .4 .kept .0,
     ))
-    (⊎-elim
-    (λ h. (h .4 ∙ clear-skip _ _ _ _ _ (λ q. c .before .before .before .slice-known .given q .fits) (c .before .before .before .before .pre .0) (c .before .before .before .before .pre .1) _ (c .before .loop-test .taken) _ (c .before .before .loop .inv .2) (h .0 .taken) (λ e. h .3 .left (h .2 .ensures ∙ bit-here _ _ _ _ (λ q. c .before .before .before .slice-known .given q .fits) (c .before .before .before .before .pre .0) (length-cleared _ _ _ _ _) _ (c .before .loop-test .taken) _ (c .before .before .loop .inv .2) _ (omega (arith, c .before .before .before .before .pre .0, c .before .before .loop .inv .1)) (c .before .before .before .before .pre .2) ∙ e)), ap length (h .4)))
-    (λ h. (h .1 ∙ clear-pivot _ _ _ _ _ (λ q. c .before .before .before .slice-known .given q .fits) (c .before .before .before .before .pre .0) (c .before .before .before .before .pre .1) _ (c .before .loop-test .taken) _ (c .before .before .loop .inv .2) (h .0 .left), ap length (h .1))))
+    (λ h. (h .1 ∙ clear-pivot _ _ _ _ _ known (start .pre .0) (start .pre .1) _ inside _ (l .inv .2) (h .0 .left), ap length (h .1)))
     (c .if1 .came)
 
 loop-holds : tie.Need-loop-holds Inv-loop μ-loop
@@ -42,14 +49,14 @@ mul-index c = omega (arith, row-in (c .before .before .before .loop .i) (c .befo
 index-requires : tie.Need-index-requires Inv-loop μ-loop
 index-requires c κs = omega (arith, row-in (c .before .before .before .loop .i) (c .before .before .before .before .before .args .rows) (c .before .before .before .before .before .args .stride) (c .before .before .loop-test .taken), c .before .before .before .before .before .pre .0, c .before .before .before .before .before .pre .2, c .before .before .before .loop .inv .1)
 
-mul-bitxor-assign : tie.Need-mul-bitxor-assign Inv-loop μ-loop
-mul-bitxor-assign c = omega (arith, row-in (c .before .before .before .before .before .before .loop .i) (c .before .before .before .before .before .before .before .before .args .rows) (c .before .before .before .before .before .before .before .before .args .stride) (c .before .before .before .before .before .loop-test .taken), c .before .before .before .before .before .before .before .before .pre .0)
+mul-add-if : tie.Need-mul-add-if Inv-loop μ-loop
+mul-add-if c = omega (arith, row-in (c .before .before .before .before .before .loop .i) (c .before .before .before .before .before .before .before .args .rows) (c .before .before .before .before .before .before .before .args .stride) (c .before .before .before .before .loop-test .taken), c .before .before .before .before .before .before .before .pre .0)
 
-mul-bitxor-assign-2 : tie.Need-mul-bitxor-assign-2 Inv-loop μ-loop
-mul-bitxor-assign-2 c = omega (arith, row-in (c .before .before .before .before .before .before .before .before .args .r) (c .before .before .before .before .before .before .before .before .args .rows) (c .before .before .before .before .before .before .before .before .args .stride) (c .before .before .before .before .before .before .before .before .pre .1), c .before .before .before .before .before .before .before .before .pre .0)
+mul-add-if-2 : tie.Need-mul-add-if-2 Inv-loop μ-loop
+mul-add-if-2 c = omega (arith, row-in (c .before .before .before .before .before .before .before .args .r) (c .before .before .before .before .before .before .before .args .rows) (c .before .before .before .before .before .before .before .args .stride) (c .before .before .before .before .before .before .before .pre .1), c .before .before .before .before .before .before .before .pre .0)
 
-bitxor-assign-requires : tie.Need-bitxor-assign-requires Inv-loop μ-loop
-bitxor-assign-requires c κs = two-rows _ _ _ _ _ (omega (arith, c .before .before .before .before .before .before .before .before .pre .0, c .before .before .before .before .before .before .loop .inv .1)) (c .before .before .before .before .before .loop-test .taken) (c .before .before .before .before .before .before .before .before .pre .1)
+add-if-requires : tie.Need-add-if-requires Inv-loop μ-loop
+add-if-requires c κs = (two-rows _ _ _ _ _ (omega (arith, c .before .before .before .before .before .before .before .pre .0, c .before .before .before .before .before .loop .inv .1)) (c .before .before .before .before .loop-test .taken) (c .before .before .before .before .before .before .before .pre .1), omega (arith, c .before .index .ensures, bit-lt (value (drop (c .before .before .before .before .before .loop .i * c .before .before .before .before .before .before .before .args .stride) (c .before .before .before .before .before .loop .w))) (c .before .before .before .before .before .before .before .args .c)))
 
 add-i : tie.Need-add-i Inv-loop μ-loop
 add-i c = omega arith
@@ -76,9 +83,9 @@ reduce-spec =
     loop-holds
     mul-index
     index-requires
-    mul-bitxor-assign
-    mul-bitxor-assign-2
-    bitxor-assign-requires
+    mul-add-if
+    mul-add-if-2
+    add-if-requires
     add-i
     loop-less
     loop-again

@@ -1,83 +1,16 @@
--- Invariant: what is left to do on the slice as it is gives what was to be done on the slice at entry.
-use Prim.Native.Nat.{ℕ, _+_, _-_, _*_, _/_, _%_, _^_, _≤_, _<_}
-use Rattle.binar.proofs.Slice.{added, added-step, added-none, two-step, two-start, by-start}
-use Rattle.binar.specs.Words.{TwoRows}
-use lib.ListN.{length, length-set, getD}
-use mathlib.Core.Path.{_≡_, refl, sym, ap, _∙_}
-use native.Mathlib.Omega.{arith}
+use borrow.Author.Needs.{needs}
+use native.Mathlib.Nat.{one-mul}
 use Rattle.binar.proofs.row.bitxor_assign.Statement.{statement}
 use Rattle.binar.proofs.row.bitxor_assign.Tie as tie
 
-abbrev Inv-loop : tie.InvT-loop
-Inv-loop w₀ to from n k₀ w k = (k ≤ n) × (length w ≡ length w₀) × TwoRows w (to + k) (from + k) (n - k) × (added w₀ to from n ≡ added w (to + k) (from + k) (n - k))
+add-if-requires : tie.Need-add-if-requires
+add-if-requires c κs = search needs
 
-abbrev μ-loop : tie.MeasureT-loop
-μ-loop w₀ to from n k₀ w k = n - k
+same-length : tie.Need-same-length
+same-length c = search needs
 
-loop-holds : tie.Need-loop-holds Inv-loop μ-loop
-loop-holds c = (omega arith, refl, two-start _ _ _ _ (c .pre), by-start added _ _ _ _)
-
-add-w : tie.Need-add-w Inv-loop μ-loop
-add-w c = omega arith
-
-mul-w : tie.Need-mul-w Inv-loop μ-loop
-mul-w c = omega arith
-
-slice-read-w : tie.Need-slice-read-w Inv-loop μ-loop
-slice-read-w c = omega arith
-
-add-w-2 : tie.Need-add-w-2 Inv-loop μ-loop
-add-w-2 c = omega arith
-
-mul-w-2 : tie.Need-mul-w-2 Inv-loop μ-loop
-mul-w-2 c = omega arith
-
-slice-read-w-2 : tie.Need-slice-read-w-2 Inv-loop μ-loop
-slice-read-w-2 c = omega arith
-
-add-w-3 : tie.Need-add-w-3 Inv-loop μ-loop
-add-w-3 c = omega arith
-
-mul-w-3 : tie.Need-mul-w-3 Inv-loop μ-loop
-mul-w-3 c = omega arith
-
-slice-write-w : tie.Need-slice-write-w Inv-loop μ-loop
-slice-write-w c = omega arith
-
-add-k : tie.Need-add-k Inv-loop μ-loop
-add-k c = omega arith
-
-loop-less : tie.Need-loop-less Inv-loop μ-loop
-loop-less c = omega arith
-
-loop-again : tie.Need-loop-again Inv-loop μ-loop
-loop-again c = (omega arith, simp length-set (c .before .before .before .loop .inv .1), two-step _ _ _ _ _ (c .before .before .loop-test .taken) (c .before .before .before .loop .inv .2) _, c .before .before .before .loop .inv .3 ∙ added-step _ _ _ _ _ (c .before .before .loop-test .taken) (c .before .before .before .loop .inv .2) (λ q. c .slice-known2 .given q .fits))
-
-same-length : tie.Need-same-length Inv-loop μ-loop
-same-length c = omega arith
-
-returns : tie.Need-returns Inv-loop μ-loop
-unfolding added
-returns c = sym (c .before .loop .inv .3 ∙ added-none _ _ _ _ _ (omega arith))
+returns : tie.Need-returns
+returns c = simp one-mul at (c .before .before .add-if .ensures)
 
 pub bitxor-assign-spec : {M : Type 1} → statement M
-bitxor-assign-spec =
-    tie.close
-    (tie.spec
-    Inv-loop
-    μ-loop
-    loop-holds
-    add-w
-    mul-w
-    slice-read-w
-    add-w-2
-    mul-w-2
-    slice-read-w-2
-    add-w-3
-    mul-w-3
-    slice-write-w
-    add-k
-    loop-less
-    loop-again
-    same-length
-    returns)
+bitxor-assign-spec = tie.close (tie.spec add-if-requires same-length returns)
