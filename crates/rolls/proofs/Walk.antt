@@ -140,7 +140,7 @@ unfolding lower firstPlace
 lower-nil q = refl
 
 -- in a rising list a number's place is where it stands
-lower-here : (least q : ℕ) (l : List ℕ) → Rising least l → (i : ℕ) → i < length l → getD l i 0 ≡ q → i ≡ lower q l
+pub lower-here : (least q : ℕ) (l : List ℕ) → Rising least l → (i : ℕ) → i < length l → getD l i 0 ≡ q → i ≡ lower q l
 lower-here least q [] h i k e = absurd (omega arith)
 lower-here least q (r ∷ rs) h zero k e = sym (lower-stop q r rs (omega arith))
 lower-here least q (r ∷ rs) h (suc i) k e =
