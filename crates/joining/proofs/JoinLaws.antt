@@ -120,7 +120,7 @@ module _ (l r : List ℕ) (nl nr : ℕ) (el : countOf l ≡ answer nl) (er : cou
       let few : length (insertAll (numbersAt l (2 + 10 * nl) kl) []) ≤ mostQubits = rw left-support (answer-parts l (listOf l) (accepted l nl el .0) .qubits) in
       let size : length (take m mid) ≡ m = ap length (g .known few) ∙ sym (gathered-all _ _ _ _ g few .0) in
       let more : m ≤ k = omega (arith, size, g .count, h .count, insertAll-longer (numbersAt r (2 + 10 * nr) kr) (take m mid)) in
-      record { count = rw same at (h .count); known = rw same at (h .known); among = rw same at (h .among); rest = h .rest ∙ drop-more m k mid old more (g .rest) }
+      record { count = rw same at (h .count); known = rw same at (h .known); among = rw same at (h .among); rises = h .rises; rest = h .rest ∙ drop-more m k mid old more (g .rest) }
 
 -- ---- the counts
 

@@ -15,7 +15,10 @@ use borrow.Author.Tests.{lt-ltb, le-ltb, eq-eqb, ne-eqb}
 use Rattle.rolls.specs.Bytes.{u32At, numbersAt}
 use Rattle.rolls.specs.Roll.{mostQubits, insert, insertAll}
 use Rattle.rolls.specs.Known.{placeOf, firstPlace, lower, putAt, insertedAt, Noted, Gathered}
+use Rattle.rolls.specs.RollTheorems.{Rising}
+use Rattle.rolls.proofs.Lists.{in-getD}
 use Rattle.rolls.proofs.SupportLaws.{by-order, insert-below, insert-same, insert-above, insert-length, insertAll-keeps}
+use Rattle.rolls.proofs.SupportLaws.{rising-least, insert-rises}
 
 -- ---- the first place that passes a test
 
@@ -136,6 +139,17 @@ lower-nil : (q : ℕ) → lower q [] ≡ 0
 unfolding lower firstPlace
 lower-nil q = refl
 
+-- in a rising list a number's place is where it stands
+pub lower-here : (least q : ℕ) (l : List ℕ) → Rising least l → (i : ℕ) → i < length l → getD l i 0 ≡ q → i ≡ lower q l
+lower-here least q [] h i k e = absurd (omega arith)
+lower-here least q (r ∷ rs) h zero k e = sym (lower-stop q r rs (omega arith))
+lower-here least q (r ∷ rs) h (suc i) k e =
+    let above : r < q = omega (arith, rising-least (suc r) rs (h .1) (in-getD rs i 0 (omega arith))) in
+    rw (lower-go q r rs above) (ap suc (lower-here (suc r) q rs (h .1) i (omega arith) e))
+
+pub lower-known : (l : List ℕ) (n q : ℕ) → n ≤ length l → Rising 0 (take n l) → (i : ℕ) → i < n → getD l i 0 ≡ q → i ≡ lower q (take n l)
+lower-known l n q room h i k e = lower-here 0 q (take n l) h i (omega (arith, length-take-le n l room)) (getD-take n l i 0 k ∙ e)
+
 -- a number that stands at its place changes nothing
 pub insert-there : (q : ℕ) (l : List ℕ) → lower q l < length l → getD l (lower q l) 0 ≡ q → insert q l ≡ l
 insert-there q [] h e = absurd (omega arith)
@@ -223,10 +237,19 @@ module _ (b : List ℕ) (at total : ℕ) (old : List ℕ) (count : ℕ) where
     pub size : length l ≡ length old
     pub left : all ≡ insertAll (numbersAt b (at + 4 * i) (total - i)) (take n l)
     pub walk : (s : ℕ) → last < s → from ≤ lower s (take n l)
+    pub rises : Rising 0 (take n l)
     pub rest : drop n l ≡ drop n old
 
-  pub walking-start : count ≤ suc mostQubits → Walking old count 0 0 0
-  walking-start h = record { done = omega arith; few = h; size = refl; left = simp (add-zero, sub-zero); walk = λ s k. omega arith; rest = refl }
+  pub walking-start : count ≤ suc mostQubits → Rising 0 (take count old) → Walking old count 0 0 0
+  walking-start h rises = record {
+    done = omega arith;
+    few = h;
+    size = refl;
+    left = simp (add-zero, sub-zero);
+    walk = λ s k. omega arith;
+    rises = rises;
+    rest = refl;
+  }
 
   module _ (room : mostQubits < length old) (l : List ℕ) (n from last i : ℕ) (w : Walking l n from last i) where
     pub walking-next : i < total → (q : ℕ) → q ≡ u32At b (at + 4 * i) → (new : List ℕ) (m p : ℕ) → n ≤ mostQubits → length new ≡ length l → Noted q n l new m p → Walking new m p q (i + 1)
@@ -237,6 +260,7 @@ module _ (b : List ℕ) (at total : ℕ) (old : List ℕ) (count : ℕ) where
       size = same ∙ w .size;
       left = w .left ∙ rw (numbers-next b at total i h, ← e, t .known);
       walk = λ s k. rw (t .next, t .known) (lower-next q s (take n l) k);
+      rises = rw (t .known) (insert-rises 0 q (take n l) (omega arith) (w .rises));
       rest = t .rest ∙ drop-more n m l old (omega (arith, t .count, insert-length q (take n l) .0, length-take-le n l (omega (arith, w .size)))) (w .rest);
     }
 
@@ -247,10 +271,10 @@ module _ (b : List ℕ) (at total : ℕ) (old : List ℕ) (count : ℕ) where
     walking-full h =
         let more = insertAll-longer (numbersAt b (at + 4 * i) (total - i)) (take n l) in
         let long : suc mostQubits ≤ length all = rw (w .left) (omega (arith, more, known-all)) in
-        record { count = omega (arith, w .few, long); known = λ k. absurd (omega arith); among = λ q. rw (w .left) (insertAll-keeps (numbersAt b (at + 4 * i) (total - i)) (take n l) q); rest = w .rest }
+        record { count = omega (arith, w .few, long); known = λ k. absurd (omega arith); among = λ q. rw (w .left) (insertAll-keeps (numbersAt b (at + 4 * i) (total - i)) (take n l) q); rises = w .rises; rest = w .rest }
 
     pub walking-end : total ≤ i → Gathered all old l n
     unfolding insertAll
     walking-end h =
         let e : all ≡ take n l = w .left ∙ rw (numbers-end b at total i h) in
-        record { count = rw e (omega (arith, w .few, known-all)); known = λ _. sym e; among = λ q. rw e (λ h. h); rest = w .rest }
+        record { count = rw e (omega (arith, w .few, known-all)); known = λ _. sym e; among = λ q. rw e (λ h. h); rises = w .rises; rest = w .rest }

@@ -6,6 +6,7 @@ use Prim.Native.Nat.{ℕ, suc, _≤_, min}
 use lib.Dec.{eqb, ltb}
 use lib.ListN.{length, take, drop}
 use Rattle.rolls.specs.Roll.{mostQubits, insert}
+use Rattle.rolls.specs.RollTheorems.{Rising}
 
 -- the first place whose number passes the test, or the list's length
 unfoldable pub firstPlace : (ℕ → Bool) → List ℕ → ℕ
@@ -33,11 +34,12 @@ pub record Noted (q n : ℕ) (old new : List ℕ) (m p : ℕ) : Type 0 where
   pub rest : drop m new ≡ drop m old
 
 -- once the numbers S are gathered, at most one more than a list may have: the slice was `old` and is `new`, m numbers are known,
--- each one of S, and they are S if no more than a list may have; the rest of the slice is as it was
+-- rising, each one of S, and they are S if no more than a list may have; the rest of the slice is as it was
 pub record Gathered (S old new : List ℕ) (m : ℕ) : Type 0 where
   pub count : m ≡ min (length S) (suc mostQubits)
   pub known : length S ≤ mostQubits → take m new ≡ S
   pub among : (q : ℕ) → Mem q (take m new) → Mem q S
+  pub rises : Rising 0 (take m new)
   pub rest : drop m new ≡ drop m old
 
 -- "A qubit's number and its place in the support are two counters, as in `condense` and `expand`": the place of qubit q, which is

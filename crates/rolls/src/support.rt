@@ -6,6 +6,7 @@ ghost use lib.Dec.{ltb};
 ghost use lib.ListN.{length, getD, take};
 ghost use Rattle.rolls.specs.Bytes.{numbersAt};
 ghost use Rattle.rolls.specs.Roll.{mostQubits, insertAll};
+ghost use Rattle.rolls.specs.RollTheorems.{Rising};
 ghost use Rattle.rolls.specs.Known.{placeOf, lower, insertedAt, Noted, Gathered};
 use crate::bytes::u32_at;
 use crate::roll::MOST_QUBITS;
@@ -47,11 +48,37 @@ pub fn place_of(known: &[u32], count: usize, q: Qubit) -> Place
     Place(count)
 }
 
+// A place of q, or count: the place that q has if the numbers from the place `from` on follow one another without a gap.
+fn guess_from(known: &[u32], count: usize, from: Place, q: Qubit) -> Place
+    requires { ⌜ count ≤ length (now known) ⌝ }
+    ensures { λ r. ⌜ (r .0 < count → getD (now (known .entry)) (r .0) 0 ≡ q .0) ⌝ }
+{
+    let number = q.0;
+    let start = from.0;
+    if start < count {
+        let base = known[start];
+        if base <= number {
+            let ahead = (number - base) as usize;
+            if ahead < count - start {
+                let guess = start + ahead;
+                if known[guess] == number {
+                    return Place(guess);
+                }
+            }
+        }
+    }
+    Place(count)
+}
+
 // The place at which q is to stand. The numbers before the place `from` are below it, and are not looked at.
 pub fn place_from(known: &[u32], count: usize, from: Place, q: Qubit) -> Place
-    requires { ⌜ (count ≤ length (now known)) × (from .0 ≤ lower (q .0) (take count (now known))) ⌝ }
+    requires { ⌜ (count ≤ length (now known)) × (from .0 ≤ lower (q .0) (take count (now known))) × Rising 0 (take count (now known)) ⌝ }
     ensures { λ r. ⌜ r .0 ≡ lower (q .0) (take count (now (known .entry))) ⌝ }
 {
+    let guess = guess_from(known, count, from, q);
+    if guess.0 < count {
+        return guess;
+    }
     let number = q.0;
     let mut i = from.0;
     while i < count {
@@ -81,7 +108,7 @@ fn insert_at(known: &mut [u32], count: usize, at: Place, q: Qubit)
 
 // Puts q in, if it is not known yet. The numbers before the place `from` are below it.
 fn note(known: &mut [u32], count: usize, from: Place, q: Qubit) -> Known
-    requires { ⌜ (count ≤ mostQubits) × (mostQubits < length (now known)) × (from .0 ≤ lower (q .0) (take count (now known))) ⌝ }
+    requires { ⌜ (count ≤ mostQubits) × (mostQubits < length (now known)) × (from .0 ≤ lower (q .0) (take count (now known))) × Rising 0 (take count (now known)) ⌝ }
     ensures { λ r. ⌜ Noted (q .0) count (now (known .entry)) (now (known .exit)) (r .count) (r .next .0) ⌝ }
 {
     let number = q.0;
@@ -103,7 +130,7 @@ fn note(known: &mut [u32], count: usize, from: Place, q: Qubit) -> Known
 }
 
 // Where the walk to q starts: at the place `from`, past the qubit met last, if q is above that one, else anew.
-fn walk_start(last: Qubit, from: Place, q: Qubit) -> Place
+pub fn walk_start(last: Qubit, from: Place, q: Qubit) -> Place
     ensures { λ r. ⌜ r .0 ≡ cond (ltb (last .0) (q .0)) (from .0) 0 ⌝ }
 {
     if last.0 < q.0 {
@@ -115,7 +142,7 @@ fn walk_start(last: Qubit, from: Place, q: Qubit) -> Place
 // Puts in the `total` numbers from byte `at` on, until more are known than a list may have; tells how many are. A set that
 // rises is put in by one walk.
 pub fn gather(b: &[u8], at: usize, total: usize, known: &mut [u32], count: usize) -> usize
-    requires { ⌜ (at + 4 * total ≤ length (now b)) × (count ≤ suc mostQubits) × (mostQubits < length (now known)) ⌝ }
+    requires { ⌜ (at + 4 * total ≤ length (now b)) × (count ≤ suc mostQubits) × (mostQubits < length (now known)) × Rising 0 (take count (now known)) ⌝ }
     ensures { λ r. ⌜ Gathered (insertAll (numbersAt (now (b .entry)) at total) (take count (now (known .entry)))) (now (known .entry)) (now (known .exit)) r ⌝ }
 {
     let mut n = count;

@@ -1,7 +1,7 @@
 -- Laws of numbers that are all in a support, and of index sets written.
 use mathlib.Core.Path.{_≡_, refl, sym, ap, ap₂, _∙_}
 use mathlib.Core.Bool.{true, false, cond}
-use mathlib.Core.List.{List, [], _∷_, _++_}
+use mathlib.Core.List.{List, [], _∷_, _++_, List·Memᴰ as Mem}
 use Prim.Native.Nat.{ℕ, zero, suc, _+_, _-_, _*_, _^_, _≤_, _<_}
 use native.Mathlib.Omega.{arith}
 use borrow.Author.Tests.{lt-ltb, le-ltb}
@@ -12,8 +12,9 @@ use Rattle.rolls.specs.declared.roll.Entry.{Entry}
 use Rattle.rolls.specs.Answers.{toldEntry}
 use Rattle.rolls.specs.Bytes.{u32At, numbersAt, le16}
 use Rattle.pauli.specs.Condense.{listOf, nothing}
-use Rattle.rolls.specs.Roll.{entryAt, countOf}
-use Rattle.rolls.specs.Known.{placeOf}
+use Rattle.rolls.specs.Roll.{entryAt, countOf, insert}
+use Rattle.rolls.specs.RollTheorems.{Rising}
+use Rattle.rolls.specs.Known.{placeOf, lower}
 use Rattle.pauli.specs.Sets.{members}
 use Rattle.rolls.specs.Told.{answer}
 use Rattle.pauli.specs.Writing.{putBytes}
@@ -22,41 +23,57 @@ use Rattle.rolls.proofs.BytesLaws.{length-le16}
 use Rattle.joining.proofs.JoinLaws.{accepted}
 use Rattle.pauli.proofs.Puts.{chosenFrom, chosen-start, chosen-end, chosen-hit, chosen-miss, Left, left-start, left-done, left-same, left-room, left-step}
 use Rattle.pauli.proofs.Sets.{members-count}
-use Rattle.rolls.proofs.Walk.{numbers-next, numbers-end}
+use Rattle.pauli.proofs.Places.{place-in, qubit-at-place, no-place}
+use Rattle.rolls.proofs.Lists.{in-getD}
+use Rattle.rolls.proofs.Walk.{lower-here, lower-next, insert-there, numbers-next, numbers-end}
 use Rattle.pauli_theory.proofs.IndexSets.{members-upTo}
 use Rattle.pauli_theory.proofs.OverPlaces.{upTo, upTo-length, upTo-at}
 use Rattle.standard_form.specs.Members.{le16s, covered}
 
 -- ---- numbers in a support, one after the other
 
--- the answer for all numbers is that for those from number k on
-pub record CoveredFrom (qs b : List ℕ) (at total k : ℕ) : Type 0 where
+-- the answer for all numbers is that for those from number k on, and the walk for a number above `last` may start at `from`
+pub record CoveredFrom (qs b : List ℕ) (at total from last k : ℕ) : Type 0 where
   pub within : k ≤ total
   pub same : covered qs (numbersAt b at total) ≡ covered qs (numbersAt b (at + 4 * k) (total - k))
+  pub walk : (s : ℕ) → last < s → from ≤ lower s qs
 
 module _ (qs b : List ℕ) (at total : ℕ) where
-  pub covered-start : CoveredFrom qs b at total 0
+  pub covered-start : CoveredFrom qs b at total 0 0 0
   covered-start =
       let here : at + 4 * 0 ≡ at = omega arith in
       let all : total - 0 ≡ total = omega arith in
-      record { within = omega arith; same = rw (here, all) }
+      record { within = omega arith; same = rw (here, all); walk = λ s h. omega arith }
 
-  module _ (k : ℕ) (f : CoveredFrom qs b at total k) where
+  module _ (from last k : ℕ) (f : CoveredFrom qs b at total from last k) where
     pub covered-end : total ≤ k → true ≡ covered qs (numbersAt b at total)
     unfolding covered
     covered-end h = sym (f .same ∙ ap (covered qs) (numbers-end b at total k h))
 
-    module _ (h : k < total) (q : ℕ) (e : q ≡ u32At b (at + 4 * k)) where
+    module _ (h : k < total) (q : ℕ) (e : q ≡ u32At b (at + 4 * k)) (i : ℕ) (p : i ≡ lower q qs) where
       next : covered qs (numbersAt b at total)
           ≡ cond (ltb (placeOf qs q) (length qs)) (covered qs (numbersAt b (at + 4 * (k + 1)) (total - (k + 1)))) false
       unfolding covered
       next = f .same ∙ ap (covered qs) (numbers-next b at total k h) ∙ rw e
 
-      pub covered-none : length qs ≤ placeOf qs q → false ≡ covered qs (numbersAt b at total)
-      covered-none l = sym (next ∙ rw (le-ltb (placeOf qs q) (length qs) l))
+      -- a number that does not stand where it is to stand is not in the support
+      pub covered-none : Rising 0 qs → (i < length qs → getD qs i 0 ≡ q → ⊥) → false ≡ covered qs (numbersAt b at total)
+      covered-none rises none =
+          let out : ¬ Mem q qs = λ m.
+          let stands = qubit-at-place qs q m in
+          let same : placeOf qs q ≡ i = lower-here 0 q qs rises (placeOf qs q) (place-in qs q m) stands ∙ sym p in
+          none (omega (arith, same, place-in qs q m)) (rw same at stands) in
+          sym (next ∙ rw (le-ltb (placeOf qs q) (length qs) (omega (arith, no-place qs q out))))
 
-      pub covered-next : placeOf qs q < length qs → CoveredFrom qs b at total (k + 1)
-      covered-next l = record { within = omega arith; same = next ∙ rw (lt-ltb (placeOf qs q) (length qs) l) }
+      pub covered-next : i < length qs → getD qs i 0 ≡ q → CoveredFrom qs b at total (i + 1) q (k + 1)
+      covered-next l stands =
+          let m : Mem q qs = rw (← stands) (in-getD qs i 0 l) in
+          let there : insert q qs ≡ qs = insert-there q qs (omega arith) (rw (← p) stands) in
+          record {
+            within = omega arith;
+            same = next ∙ rw (lt-ltb (placeOf qs q) (length qs) (place-in qs q m));
+            walk = λ s above. omega (arith, rw there at (lower-next q s qs above));
+          }
 
 -- ---- the numbers of a Pauli of a roll
 

@@ -9,6 +9,7 @@ ghost use Rattle.binar.specs.Solve.{transposeSolve};
 ghost use Rattle.rolls.specs.Bytes.{numbersAt};
 ghost use Rattle.pauli.specs.Condense.{listOf, nothing};
 ghost use Rattle.rolls.specs.Roll.{countOf};
+ghost use Rattle.rolls.specs.RollTheorems.{Rising};
 ghost use Rattle.pauli.specs.Sets.{members, pauliOf};
 ghost use Rattle.pauli.specs.Signed.{setIn, held};
 ghost use Rattle.rolls.specs.Told.{answer};
@@ -34,8 +35,10 @@ use pauli::signed::indexed_product;
 use pauli::write::put_u16;
 use rolls::bytes::u32_at;
 use rolls::roll::entry_at;
+use rolls::support::Place;
 use rolls::support::Qubit;
-use rolls::support::place_of;
+use rolls::support::place_from;
+use rolls::support::walk_start;
 
 // A set of generators whose rows add up to a row, or none.
 pub enum Solved {
@@ -54,17 +57,26 @@ pub enum Factoring {
     NotFound,
 }
 
-// Whether the total numbers from byte at on are all in the support.
+// Whether the total numbers from byte at on are all in the support. A set that rises is looked up by one walk.
 fn covers(b: &[u8], at: usize, total: usize, support: &[u32], count: usize) -> bool
-    requires { ⌜ (at + 4 * total ≤ length (now b)) × (count ≤ length (now support)) ⌝ }
+    requires { ⌜ (at + 4 * total ≤ length (now b)) × (count ≤ length (now support)) × Rising 0 (take count (now support)) ⌝ }
     ensures { λ r. ⌜ r ≡ covered (take count (now (support .entry))) (numbersAt (now (b .entry)) at total) ⌝ }
 {
+    let mut from = Place(0);
+    let mut last = Qubit(0);
     let mut k = 0;
     while k < total {
         let q = Qubit(u32_at(b, at + 4 * k));
-        if place_of(support, count, q).0 >= count {
+        let place = place_from(support, count, walk_start(last, from, q), q);
+        let i = place.0;
+        if i >= count {
             return false;
         }
+        if support[i] != q.0 {
+            return false;
+        }
+        from = Place(i + 1);
+        last = q;
         k += 1;
     }
     true
@@ -72,7 +84,7 @@ fn covers(b: &[u8], at: usize, total: usize, support: &[u32], count: usize) -> b
 
 // Whether the qubits of Pauli i of an accepted roll of n are all in the support.
 fn is_supported(b: &[u8], n: usize, i: usize, support: &[u32], count: usize) -> bool
-    requires { ⌜ (countOf (now b) ≡ answer n) × (i < n) × (count ≤ length (now support)) ⌝ }
+    requires { ⌜ (countOf (now b) ≡ answer n) × (i < n) × (count ≤ length (now support)) × Rising 0 (take count (now support)) ⌝ }
     ensures { λ r. ⌜ r ≡ covered (take count (now (support .entry))) (getD (listOf (now (b .entry))) i nothing .xs ++ getD (listOf (now (b .entry))) i nothing .zs) ⌝ }
 {
     let e = entry_at(b, i);

@@ -15,7 +15,7 @@ numbers-of-requires : tie.Need-numbers-of-requires
 numbers-of-requires c κs = search needs
 
 gather-requires : tie.Need-gather-requires
-gather-requires c κs = (omega (arith, accepted-length (c .before .before .before .before .before .args .left .now) (c .before .before .before .before .before .args .nl) (c .before .before .before .before .before .pre .0), c .before .numbers-of .ensures), omega arith, c .before .before .before .before .before .pre .2)
+gather-requires c κs = (omega (arith, accepted-length (c .before .before .before .before .before .args .left .now) (c .before .before .before .before .before .args .nl) (c .before .before .before .before .before .pre .0), c .before .numbers-of .ensures), omega arith, c .before .before .before .before .before .pre .2, tt)
 
 mul-gather-2 : tie.Need-mul-gather-2
 mul-gather-2 c = omega (arith, accepted-length (c .before .before .before .before .before .before .before .before .args .right .now) (c .before .before .before .before .before .before .before .before .args .nr) (c .before .before .before .before .before .before .before .before .pre .1))
@@ -27,7 +27,7 @@ numbers-of-requires-2 : tie.Need-numbers-of-requires-2
 numbers-of-requires-2 c κs = search needs
 
 gather-requires-2 : tie.Need-gather-requires-2
-gather-requires-2 c κs = (omega (arith, accepted-length (c .before .before .before .before .before .before .before .before .before .before .args .right .now) (c .before .before .before .before .before .before .before .before .before .before .args .nr) (c .before .before .before .before .before .before .before .before .before .before .pre .1), c .before .numbers-of2 .ensures), omega (arith, c .before .before .before .before .gather .ensures .count), omega (arith, c .before .before .before .before .before .before .before .before .before .before .pre .2, c .before .before .before .before .gather .kept .1 .1 .1 .0))
+gather-requires-2 c κs = (omega (arith, accepted-length (c .before .before .before .before .before .before .before .before .before .before .args .right .now) (c .before .before .before .before .before .before .before .before .before .before .args .nr) (c .before .before .before .before .before .before .before .before .before .before .pre .1), c .before .numbers-of2 .ensures), omega (arith, c .before .before .before .before .gather .ensures .count), omega (arith, c .before .before .before .before .before .before .before .before .before .before .pre .2, c .before .before .before .before .gather .kept .1 .1 .1 .0), c .before .before .before .before .gather .ensures .rises)
 
 same-length : tie.Need-same-length
 same-length c = search needs

@@ -34,7 +34,7 @@ u32-at-requires : tie.Need-u32-at-requires Inv-loop μ-loop
 u32-at-requires c κs = omega arith
 
 place-from-requires : tie.Need-place-from-requires Inv-loop μ-loop
-place-from-requires c κs = (c .before .before .before .before .before .before .pre .2, bytes-from (c .before .before .before .before .before .before .args .b .now) (c .before .before .before .before .before .before .args .at) (c .before .before .before .before .before .before .args .total) (take (c .before .before .before .before .before .before .args .count) (c .before .before .before .before .before .before .args .support .now)) (condense (take (c .before .before .before .before .before .before .args .count) (c .before .before .before .before .before .before .args .support .now)) (setOf (numbersAt (c .before .before .before .before .before .before .args .b .now) (c .before .before .before .before .before .before .args .at) (c .before .before .before .before .before .before .args .total)))) (setIn (c .before .before .loop .set)) (c .before .before .loop .from .0) (c .before .before .loop .k) (c .before .before .loop .inv .1) (c .before .loop-test .taken) (c .u32-at .result) (c .u32-at .ensures))
+place-from-requires c κs = (c .before .before .before .before .before .before .pre .2, bytes-from (c .before .before .before .before .before .before .args .b .now) (c .before .before .before .before .before .before .args .at) (c .before .before .before .before .before .before .args .total) (take (c .before .before .before .before .before .before .args .count) (c .before .before .before .before .before .before .args .support .now)) (condense (take (c .before .before .before .before .before .before .args .count) (c .before .before .before .before .before .before .args .support .now)) (setOf (numbersAt (c .before .before .before .before .before .before .args .b .now) (c .before .before .before .before .before .before .args .at) (c .before .before .before .before .before .before .args .total)))) (setIn (c .before .before .loop .set)) (c .before .before .loop .from .0) (c .before .before .loop .k) (c .before .before .loop .inv .1) (c .before .loop-test .taken) (c .u32-at .result) (c .u32-at .ensures), c .before .before .loop .inv .1 .support)
 
 with-place-requires : tie.Need-with-place-requires Inv-loop μ-loop
 with-place-requires c κs = omega (arith, c .place-from .ensures, bytes-in (c .before .before .before .before .before .before .before .args .b .now) (c .before .before .before .before .before .before .before .args .at) (c .before .before .before .before .before .before .before .args .total) (take (c .before .before .before .before .before .before .before .args .count) (c .before .before .before .before .before .before .before .args .support .now)) (condense (take (c .before .before .before .before .before .before .before .args .count) (c .before .before .before .before .before .before .before .args .support .now)) (setOf (numbersAt (c .before .before .before .before .before .before .before .args .b .now) (c .before .before .before .before .before .before .before .args .at) (c .before .before .before .before .before .before .before .args .total)))) (setIn (c .before .before .before .loop .set)) (c .before .before .before .loop .from .0) (c .before .before .before .loop .k) (c .before .before .before .loop .inv .1) (c .before .before .loop-test .taken) (c .before .u32-at .result) (c .before .u32-at .ensures), length-take-le (c .before .before .before .before .before .before .before .args .count) (c .before .before .before .before .before .before .before .args .support .now) (c .before .before .before .before .before .before .before .pre .2), c .before .before .before .before .before .before .before .pre .1)

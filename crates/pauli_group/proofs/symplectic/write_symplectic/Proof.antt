@@ -28,7 +28,7 @@ slice-aggregate-gather c = search needs
 
 gather-requires : tie.Need-gather-requires
 unfolding mostQubits
-gather-requires c κs = (omega (arith, accepted-length (c .before .before .before .before .before .args .b .now) (c .before .before .before .before .before .args .n) (c .before .before .before .before .before .pre .0), c .before .numbers-of .ensures), omega arith, omega arith)
+gather-requires c κs = (omega (arith, accepted-length (c .before .before .before .before .before .args .b .now) (c .before .before .before .before .before .args .n) (c .before .before .before .before .before .pre .0), c .before .numbers-of .ensures), omega arith, omega arith, tt)
 
 slice-aggregate-read-list : tie.Need-slice-aggregate-read-list
 slice-aggregate-read-list c = search needs

@@ -10,7 +10,7 @@ slice-aggregate-gather c = search needs
 
 gather-requires : tie.Need-gather-requires
 unfolding mostQubits
-gather-requires c κs = (c .before .before .pre, omega arith, omega arith)
+gather-requires c κs = (c .before .before .pre, omega arith, omega arith, tt)
 
 returns : tie.Need-returns
 returns c = search needs

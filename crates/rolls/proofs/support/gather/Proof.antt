@@ -14,7 +14,7 @@ abbrev μ-loop : tie.MeasureT-loop
 μ-loop b at total known₀ count n₀ from₀ last₀ i₀ known n from last i = total - i
 
 loop-holds : tie.Need-loop-holds Inv-loop μ-loop
-loop-holds c = walking-start _ _ _ _ _ (c .before .before .pre .1)
+loop-holds c = walking-start _ _ _ _ _ (c .before .before .pre .1) (c .before .before .pre .3)
 
 same-length : tie.Need-same-length Inv-loop μ-loop
 same-length c = c .before .before .loop .inv .size
@@ -37,7 +37,7 @@ walk-start-requires c κs = search needs
 
 note-requires : tie.Need-note-requires Inv-loop μ-loop
 unfolding mostQubits
-note-requires c κs = (omega arith, omega (arith, c .before .before .before .before .before .before .before .before .pre .2, c .before .before .before .before .before .loop .inv .size), rw (c .walk-start .ensures) (walk-from _ _ _ (c .before .before .before .before .before .loop .inv .walk) _))
+note-requires c κs = (omega arith, omega (arith, c .before .before .before .before .before .before .before .before .pre .2, c .before .before .before .before .before .loop .inv .size), rw (c .walk-start .ensures) (walk-from _ _ _ (c .before .before .before .before .before .loop .inv .walk) _), c .before .before .before .before .before .loop .inv .rises)
 
 add-i : tie.Need-add-i Inv-loop μ-loop
 add-i c = omega (arith, c .before .before .before .before .before .before .before .before .loop-test .taken)

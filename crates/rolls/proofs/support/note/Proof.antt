@@ -9,7 +9,7 @@ use Rattle.rolls.proofs.support.note.Tie as tie
 
 place-from-requires : tie.Need-place-from-requires
 unfolding mostQubits
-place-from-requires c κs = (omega (arith, c .before .before .pre), c .before .before .pre .2)
+place-from-requires c κs = (omega (arith, c .before .before .pre), c .before .before .pre .2, c .before .before .pre .3)
 
 mul-if2 : tie.Need-mul-if2
 mul-if2 c = search needs

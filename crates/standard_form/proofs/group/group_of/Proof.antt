@@ -20,7 +20,7 @@ numbers-of-requires : tie.Need-numbers-of-requires
 numbers-of-requires c κs = c .before .before .before .pre .0
 
 gather-requires : tie.Need-gather-requires
-gather-requires c κs = (omega (arith, accepted-length (c .before .before .before .before .before .args .b .now) (c .before .before .before .before .before .args .n) (c .before .before .before .before .before .pre .0), c .before .numbers-of .ensures), omega arith, c .before .before .before .before .before .pre .1)
+gather-requires c κs = (omega (arith, accepted-length (c .before .before .before .before .before .args .b .now) (c .before .before .before .before .before .args .n) (c .before .before .before .before .before .pre .0), c .before .numbers-of .ensures), omega arith, c .before .before .before .before .before .pre .1, tt)
 
 read-list-requires : tie.Need-read-list-requires
 unfolding mostPaulis mostQubits

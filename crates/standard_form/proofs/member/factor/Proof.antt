@@ -16,7 +16,7 @@ use Rattle.standard_form.proofs.member.factor.Tie as tie
 is-supported-requires : tie.Need-is-supported-requires
 is-supported-requires c κs =
     let s = c .before .before .before in
-    (s .pre .0, s .pre .1, places-known (s .pre .5 .grouped))
+    (s .pre .0, s .pre .1, places-known (s .pre .5 .grouped), known-rises (s .pre .5 .grouped))
 
 returns : tie.Need-returns
 returns c = (λ g. factored-off g _ (sym (c .before .is-supported .ensures) ∙ not-true _ (c .if1 .taken)), outside-refl _ _ _)

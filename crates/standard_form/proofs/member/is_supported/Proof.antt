@@ -41,7 +41,7 @@ covers-requires : tie.Need-covers-requires
 covers-requires c κs =
     let s = c .before .before .before .before .before in
     let room = accepted-room _ (s .args .n) (s .pre .0) (s .args .i) (s .pre .1) _ (c .before .before .entry-at .ensures .0) in
-    (omega (arith, room), s .pre .2)
+    (omega (arith, room), s .pre .2, s .pre .3)
 
 returns : tie.Need-returns
 returns c =
