@@ -1,6 +1,6 @@
 -- Laws of the first place of a set from a place on.
 use mathlib.Core.Path.{_≡_, refl, sym, ap, _∙_}
-use Prim.Native.Nat.{ℕ, zero, suc, _+_, _-_, _*_, _/_, _%_, _^_, _≤_, _<_}
+use Prim.Native.Nat.{ℕ, zero, suc, _+_, _-_, _/_, _%_, _^_, _≤_, _<_}
 use native.Mathlib.Nat.{lt-of-le-of-lt, div-le-self}
 use native.Mathlib.Omega.{arith}
 use native.Mathlib.Decide.{decLt, le-ind}
@@ -8,7 +8,7 @@ use native.Mathlib.Numerals.{add-one}
 use lib.Count.{under, trailingZeros, trailing-le}
 use lib.Pow.{shr-shr}
 use Rattle.binar.specs.Row.{bit, ifBit}
-use Rattle.binar.proofs.Bits.{bit-zero, bit-suc, bit-lt, bit-of-zero, bit-past, Blank, blank-one, blank-join, blank-zero}
+use Rattle.binar.proofs.Bits.{bit-zero, bit-suc, bit-lt, bit-of-zero, bit-past, Blank, blank-join, blank-zero}
 use Rattle.pauli.specs.declared.signed.Places.{Places}
 use Rattle.pauli.specs.Signed.{setIn, firstOf, firstFrom}
 use Rattle.pauli.proofs.Halves.{Words, index-low, index-high}
