@@ -10,7 +10,8 @@ use Rattle.pauli.specs.declared.signed.Places.{Places}
 use Rattle.pauli.specs.Sets.{members}
 use Rattle.pauli.specs.Signed.{setIn}
 use Rattle.pauli.proofs.Halves.{Words}
-use Rattle.pauli.proofs.Puts.{chosenFrom, chosen-start, chosen-end, chosen-hit, chosen-miss, Left, left-done, left-same, left-room, left-step}
+use Rattle.pauli.proofs.Firsts.{First}
+use Rattle.pauli.proofs.Puts.{chosenFrom, chosen-start, chosen-end, chosen-hit, chosen-skip, Left, left-done, left-same, left-room, left-step}
 use Rattle.pauli_theory.proofs.OverPlaces.{upTo, upTo-length, upTo-at}
 use Rattle.pauli_theory.proofs.IndexSets.{members-upTo}
 use Rattle.closing_report.specs.Decimal.{ascii, digits}
@@ -31,6 +32,10 @@ module _ (s : ℕ) where
   text-start h = ap indexesText (members-upTo 128 s h ∙ sym (chosen-start s (upTo 128)))
 
   module _ (i : ℕ) where
+    text-skip : {m k : ℕ} → First m s i k → textFrom s i ≡ textFrom s k
+    unfolding textFrom
+    text-skip f = ap indexesText (chosen-skip s (upTo 128) f)
+
     pub text-end : 128 ≤ i → textFrom s i ≡ []
     unfolding textFrom indexesText
     text-end h = ap indexesText (chosen-end s (upTo 128) i (rw upTo-length h))
@@ -38,10 +43,6 @@ module _ (s : ℕ) where
     module _ (l : i < 128) where
       within : i < length (upTo 128)
       within = rw upTo-length l
-
-      pub text-miss : (bit s i ≡ 1 → ⊥) → textFrom s i ≡ textFrom s (i + 1)
-      unfolding textFrom
-      text-miss o = ap indexesText (chosen-miss s (upTo 128) i within o)
 
       pub text-hit : bit s i ≡ 1 → textFrom s i ≡ labelled (ascii " ") i ++ textFrom s (i + 1)
       unfolding textFrom indexesText
@@ -62,10 +63,10 @@ module _ (s : ℕ) where
     pub counted-end : 128 ≤ i → (total ≡ length (indexesText (members s))) × (total ≤ 2688)
     counted-end h = (omega (arith, c .sum, ap length (text-end s i h)), omega (arith, c .few, c .within))
 
-    module _ (l : i < 128) where
-      pub counted-miss : (bit s i ≡ 1 → ⊥) → Counted s (i + 1) total
-      counted-miss o = record { within = omega arith; few = omega (arith, c .few); sum = omega (arith, c .sum, ap length (text-miss s i l o)) }
+    pub counted-skip : {k : ℕ} → First 128 s i k → Counted s k total
+    counted-skip f = record { within = f .within; few = omega (arith, c .few, f .from); sum = omega (arith, c .sum, ap length (text-skip s i f)) }
 
+    module _ (l : i < 128) where
       pub counted-hit : bit s i ≡ 1 → (k : ℕ) → k ≡ length (digits i) → k ≤ 20 → Counted s (i + 1) (total + (1 + k))
       unfolding labelled ascii
       counted-hit o k e f =
@@ -79,16 +80,15 @@ module _ {first : List ℕ} {start : ℕ} {out : List ℕ} {next : ℕ} (s i : �
   pub put-end : 128 ≤ i → Put first start (indexesText (members s)) out next
   put-end h = let e = left-done r (text-end s i h) in record { bytes = e .0; past = e .1 }
 
-  module _ (l : i < 128) where
-    pub put-miss : (bit s i ≡ 1 → ⊥) → Left first start (indexesText (members s)) out next (textFrom s (i + 1))
-    put-miss o = left-same r _ (text-miss s i l o)
+  pub put-skip : {m k : ℕ} → First m s i k → Left first start (indexesText (members s)) out next (textFrom s k)
+  put-skip f = left-same r _ (text-skip s i f)
 
-    module _ (o : bit s i ≡ 1) where
-      pub put-fits : next + length (labelled (ascii " ") i) ≤ length out
-      put-fits = left-room r (labelled (ascii " ") i) (textFrom s (i + 1)) (length (labelled (ascii " ") i)) (text-hit s i l o) refl
+  module _ (l : i < 128) (o : bit s i ≡ 1) where
+    pub put-fits : next + length (labelled (ascii " ") i) ≤ length out
+    put-fits = left-room r (labelled (ascii " ") i) (textFrom s (i + 1)) (length (labelled (ascii " ") i)) (text-hit s i l o) refl
 
-      pub put-hit : (u : List ℕ) (m : ℕ) → Put out next (labelled (ascii " ") i) u m → length u ≡ length out
-          → Left first start (indexesText (members s)) u m (textFrom s (i + 1))
-      put-hit u m p e =
-          rw (p .past)
-          (left-step r (labelled (ascii " ") i) (textFrom s (i + 1)) (length (labelled (ascii " ") i)) (text-hit s i l o) refl u (p .bytes) e)
+    pub put-hit : (u : List ℕ) (m : ℕ) → Put out next (labelled (ascii " ") i) u m → length u ≡ length out
+        → Left first start (indexesText (members s)) u m (textFrom s (i + 1))
+    put-hit u m p e =
+        rw (p .past)
+        (left-step r (labelled (ascii " ") i) (textFrom s (i + 1)) (length (labelled (ascii " ") i)) (text-hit s i l o) refl u (p .bytes) e)

@@ -84,12 +84,10 @@ fn indexes_length(set: Places) -> usize
     ensures { λ r. ⌜ (r ≡ length (indexesText (members (setIn set)))) × (r ≤ 2688) ⌝ }
 {
     let mut total = 0;
-    let mut i = 0;
+    let mut i = set.first_from(0);
     while i < 128 {
-        if set.index(i) == 1 {
-            total += 1 + number_length(i);
-        }
-        i += 1;
+        total += 1 + number_length(i);
+        i = set.first_from(i + 1);
     }
     total
 }
@@ -99,12 +97,10 @@ fn put_indexes(out: &mut [u8], at: usize, set: Places) -> usize
     ensures { λ r. ⌜ Put (now (out .entry)) at (indexesText (members (setIn set))) (now (out .exit)) r ⌝ }
 {
     let mut next = at;
-    let mut i = 0;
+    let mut i = set.first_from(0);
     while i < 128 {
-        if set.index(i) == 1 {
-            next = put_labelled(out, next, b" ", i);
-        }
-        i += 1;
+        next = put_labelled(out, next, b" ", i);
+        i = set.first_from(i + 1);
     }
     next
 }

@@ -8,6 +8,7 @@ pub mod Rows
 pub mod PauliTheorems
 pub mod Condensed
 pub mod Halves
+pub mod Firsts
 pub mod SignedLaws
 pub mod Puts
 pub mod Writers

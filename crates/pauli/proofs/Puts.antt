@@ -5,16 +5,16 @@ use Prim.Native.Nat.{ℕ, zero, suc, _+_, _-_, _*_, _/_, _%_, _^_, _≤_, _<_}
 use native.Mathlib.Nat.{add-zero, add-assoc}
 use native.Mathlib.Numerals.{add-one}
 use native.Mathlib.Omega.{arith}
+use native.Mathlib.Decide.{decLt}
 use lib.ListN.{length, getD, set, take, drop, length-set, length-append, length-drop, drop-of-length-le, take-append-drop}
-use lib.Seq.{length-take-le, take-suc-set, drop-set-lt, take-append-add, drop-append-add, take-at, drop-drop, drop-cons}
+use lib.Seq.{length-take-le, getD-take, take-suc-set, drop-set-lt, take-append-add, drop-append-add, take-at, drop-drop, drop-cons}
 use lib.Pow.{shr-shr}
 use Rattle.binar.specs.Row.{bit}
-use Rattle.binar.proofs.Bits.{bit-lt}
 use Rattle.rolls.specs.Bytes.{le16, le32, le32s}
 use Rattle.pauli.specs.Pauli.{consIf, select}
 use Rattle.pauli.specs.Writing.{putBytes, entryBytes}
 use Rattle.rolls.proofs.BytesLaws.{length-le32, length-le32s}
-use Rattle.pauli.proofs.SignedLaws.{zero-bit}
+use Rattle.pauli.proofs.Firsts.{First, skip}
 
 pub put-nothing : (out : List ℕ) (i : ℕ) → putBytes out i [] ≡ out
 unfolding putBytes
@@ -119,9 +119,16 @@ module _ (s : ℕ) (qs : List ℕ) where
       unfolding consIf
       chosen-hit o = next ∙ ap (λ (d : ℕ). consIf d (getD qs p 0) (chosenFrom s qs (p + 1))) o
 
-      pub chosen-miss : (bit s p ≡ 1 → ⊥) → chosenFrom s qs p ≡ chosenFrom s qs (p + 1)
-      unfolding consIf
-      chosen-miss o = next ∙ ap (λ (d : ℕ). consIf d (getD qs p 0) (chosenFrom s qs (p + 1))) (zero-bit (bit s p) (bit-lt s p) o)
+  pub chosen-miss : (p : ℕ) → bit s p ≡ 0 → chosenFrom s qs p ≡ chosenFrom s qs (p + 1)
+  unfolding consIf
+  chosen-miss p z =
+      elim (decLt p (length qs)) [
+        | yes h ↦ next p h ∙ ap (λ (d : ℕ). consIf d (getD qs p 0) (chosenFrom s qs (p + 1))) z
+        | no n ↦ chosen-end p (omega arith) ∙ sym (chosen-end (p + 1) (omega arith))
+      ]
+
+  pub chosen-skip : {n p k : ℕ} → First n s p k → chosenFrom s qs p ≡ chosenFrom s qs k
+  chosen-skip f = skip (chosenFrom s qs) f chosen-miss
 
 -- ---- writing piece by piece
 
@@ -163,26 +170,30 @@ module _ {first : List ℕ} {start : ℕ} {whole out : List ℕ} {next : ℕ} {r
     }
 
 -- the numbers of a set of places are being written, and those of the places from p on are left
-module _ {first : List ℕ} {start : ℕ} {out : List ℕ} {next : ℕ} (s : ℕ) (qs : List ℕ) (p : ℕ)
-    (r : Left first start (le32s (select s qs)) out next (le32s (chosenFrom s qs p))) where
-  pub set-done : length qs ≤ p → (out ≡ putBytes first start (le32s (select s qs))) × (next ≡ start + 4 * length (select s qs))
+module _ {first : List ℕ} {start : ℕ} {out : List ℕ} {next : ℕ} (s : ℕ) (support : List ℕ) (count : ℕ) (known : count ≤ length support) (p : ℕ)
+    (r : Left first start (le32s (select s (take count support))) out next (le32s (chosenFrom s (take count support) p))) where
+  all : length (take count support) ≡ count
+  all = length-take-le count support known
+
+  pub set-done : count ≤ p → (out ≡ putBytes first start (le32s (select s (take count support)))) × (next ≡ start + 4 * length (select s (take count support)))
   unfolding le32s
   set-done h =
-      let e = left-done r (ap le32s (chosen-end s qs p h)) in
-      (e .0, e .1 ∙ ap (start +_) (length-le32s (select s qs)))
+      let e = left-done r (ap le32s (chosen-end s (take count support) p (rw all h))) in
+      (e .0, e .1 ∙ ap (start +_) (length-le32s (select s (take count support))))
 
-  module _ (h : p < length qs) where
-    pub set-miss : (bit s p ≡ 1 → ⊥) → Left first start (le32s (select s qs)) out next (le32s (chosenFrom s qs (p + 1)))
-    set-miss o = left-same r (le32s (chosenFrom s qs (p + 1))) (ap le32s (chosen-miss s qs p h o))
+  pub set-skip : {n k : ℕ} → First n s p k → Left first start (le32s (select s (take count support))) out next (le32s (chosenFrom s (take count support) k))
+  set-skip f = left-same r _ (ap le32s (chosen-skip s (take count support) f))
 
-    module _ (o : bit s p ≡ 1) where
-      number : le32s (chosenFrom s qs p) ≡ le32 (getD qs p 0) ++ le32s (chosenFrom s qs (p + 1))
-      unfolding le32s
-      number = ap le32s (chosen-hit s qs p h o)
+  module _ (h : p < count) (o : bit s p ≡ 1) where
+    number : le32s (chosenFrom s (take count support) p) ≡ le32 (getD support p 0) ++ le32s (chosenFrom s (take count support) (p + 1))
+    unfolding le32s
+    number =
+        ap le32s (chosen-hit s (take count support) p (rw all h) o)
+        ∙ ap (λ (q : ℕ). le32 q ++ le32s (chosenFrom s (take count support) (p + 1))) (getD-take count support p 0 h)
 
-      pub set-room : next + 4 ≤ length out
-      set-room = left-room r (le32 (getD qs p 0)) (le32s (chosenFrom s qs (p + 1))) 4 number (length-le32 (getD qs p 0))
+    pub set-room : next + 4 ≤ length out
+    set-room = left-room r (le32 (getD support p 0)) _ 4 number (length-le32 (getD support p 0))
 
-      pub set-hit : (u : List ℕ) → u ≡ putBytes out next (le32 (getD qs p 0)) → length u ≡ length out
-          → Left first start (le32s (select s qs)) u (next + 4) (le32s (chosenFrom s qs (p + 1)))
-      set-hit = left-step r (le32 (getD qs p 0)) (le32s (chosenFrom s qs (p + 1))) 4 number (length-le32 (getD qs p 0))
+    pub set-hit : (u : List ℕ) → u ≡ putBytes out next (le32 (getD support p 0)) → length u ≡ length out
+        → Left first start (le32s (select s (take count support))) u (next + 4) (le32s (chosenFrom s (take count support) (p + 1)))
+    set-hit = left-step r (le32 (getD support p 0)) _ 4 number (length-le32 (getD support p 0))

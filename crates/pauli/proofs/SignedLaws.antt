@@ -6,16 +6,17 @@ use Prim.Native.Nat.{ℕ, zero, suc, _+_, _-_, _*_, _/_, _%_, _^_, _≤_, _<_}
 use native.Mathlib.Nat.{add-assoc, add-zero, add-mod}
 use native.Mathlib.Numerals.{add-one}
 use native.Mathlib.Omega.{arith}
+use native.Mathlib.Decide.{decLt}
 use borrow.Author.Tests.{eq-eqb, ne-eqb}
 use lib.Dec.{eqb}
 use lib.ListN.{length, getD, set}
 use lib.Pow.{mod-mod-pow, shr-shr}
 use lib.Seq.{sets}
 use Rattle.binar.specs.Row.{bit, ifBit}
-use Rattle.binar.proofs.Bits.{bit-lt}
 use Rattle.pauli.specs.Pauli.{Pauli, I, normal, times, productFrom, product, consIf, select, indexedProduct}
 use Rattle.pauli.specs.Signed.{pauliIn, listIn}
 use Rattle.pauli.proofs.Algebra.{times-normal-l}
+use Rattle.pauli.proofs.Firsts.{First, skip}
 use Rattle.pauli.proofs.Products.{product-normal}
 
 -- ---- exponents
@@ -91,8 +92,13 @@ module _ (w : List ℕ) (s base n : ℕ) where
       unfolding productLeft consIf productFrom
       left-hit o = next ∙ ap (λ (d : ℕ). normal (productFrom p (consIf d (pauliIn w (base + 5 * i)) (select (s / 2 ^ (i + 1)) (listIn w (base + 5 * (i + 1)) (n - (i + 1))))))) o
 
-      pub left-miss : (bit s i ≡ 1 → ⊥) → productLeft w s base n i p ≡ productLeft w s base n (i + 1) p
-      unfolding productLeft consIf
-      left-miss o =
-          let z : bit s i ≡ 0 = zero-bit (bit s i) (bit-lt s i) o in
-          next ∙ ap (λ (d : ℕ). normal (productFrom p (consIf d (pauliIn w (base + 5 * i)) (select (s / 2 ^ (i + 1)) (listIn w (base + 5 * (i + 1)) (n - (i + 1))))))) z
+  left-miss : (p : Pauli) (i : ℕ) → bit s i ≡ 0 → productLeft w s base n i p ≡ productLeft w s base n (i + 1) p
+  unfolding productLeft consIf
+  left-miss p i z =
+      elim (decLt i n) [
+        | yes h ↦ next i p h ∙ ap (λ (d : ℕ). normal (productFrom p (consIf d (pauliIn w (base + 5 * i)) (select (s / 2 ^ (i + 1)) (listIn w (base + 5 * (i + 1)) (n - (i + 1))))))) z
+        | no k ↦ left-end i p (omega arith) ∙ sym (left-end (i + 1) p (omega arith))
+      ]
+
+  pub left-skip : {m i k : ℕ} (p : Pauli) → First m s i k → productLeft w s base n i p ≡ productLeft w s base n k p
+  left-skip p f = skip (λ j. productLeft w s base n j p) f (left-miss p)

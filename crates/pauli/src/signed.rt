@@ -7,7 +7,7 @@ ghost use lib.ListN.{length};
 ghost use lib.Seq.{sets};
 ghost use Rattle.binar.specs.Row.{_⊕_, bit, dot, weight as weightOf};
 ghost use Rattle.pauli.specs.Pauli.{I, normal, times as timesOf, anticommute, pauliWeight, orderFour, isIdentity, indexedProduct};
-ghost use Rattle.pauli.specs.Signed.{setIn, held, pauliIn, pauliWords, listIn};
+ghost use Rattle.pauli.specs.Signed.{setIn, firstFrom, held, pauliIn, pauliWords, listIn};
 
 // A set of at most 128 places: place p is bit p % 64 of low, or of high from 64 on.
 pub struct Places {
@@ -43,6 +43,27 @@ impl Places {
             return (self.low >> p) % 2;
         }
         (self.high >> (p - 64)) % 2
+    }
+
+    // The first place of the set from p on, or 128.
+    pub fn first_from(self, p: usize) -> usize
+        requires { ⌜ p ≤ 128 ⌝ }
+        ensures { λ r. ⌜ r ≡ firstFrom (setIn self) p ⌝ }
+    {
+        if p < 64 {
+            let rest = self.low >> p;
+            if rest != 0 {
+                return p + (u64::trailing_zeros(rest) as usize);
+            }
+            return 64 + (u64::trailing_zeros(self.high) as usize);
+        }
+        if p < 128 {
+            let rest = self.high >> (p - 64);
+            if rest != 0 {
+                return p + (u64::trailing_zeros(rest) as usize);
+            }
+        }
+        128
     }
 
     // The places in one of the two sets and not in the other.
@@ -197,12 +218,10 @@ pub fn indexed_product(w: &[u64], base: usize, n: usize, set: Places) -> Pauli
     ensures { λ r. ⌜ normal (held r) ≡ indexedProduct (setIn set) (listIn (now (w .entry)) base n) ⌝ }
 {
     let mut product = Pauli::identity();
-    let mut i = 0;
+    let mut i = set.first_from(0);
     while i < n {
-        if set.index(i) == 1 {
-            product = product.times(load(w, base + 5 * i)).pauli;
-        }
-        i += 1;
+        product = product.times(load(w, base + 5 * i)).pauli;
+        i = set.first_from(i + 1);
     }
     product
 }

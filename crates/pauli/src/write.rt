@@ -60,13 +60,11 @@ fn put_set(out: &mut [u8], at: usize, set: Places, support: &[u32], count: usize
     ensures next { λ r. ⌜ r ≡ at + 4 * length (select (setIn set) (take count (now (support .entry)))) ⌝ }
 {
     let mut next = at;
-    let mut p = 0;
+    let mut p = set.first_from(0);
     while p < count {
-        if set.index(p) == 1 {
-            put_u32(out, next, support[p]);
-            next += 4;
-        }
-        p += 1;
+        put_u32(out, next, support[p]);
+        next += 4;
+        p = set.first_from(p + 1);
     }
     next
 }

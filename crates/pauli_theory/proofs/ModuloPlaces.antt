@@ -169,9 +169,6 @@ module _ (own : List ℕ) (rises : Rising 0 own) (qs : List ℕ) where
   moved-with h v i l m e =
       ap (movedSet own qs) (low-more v i e) ∙ moved-or (v % 2 ^ i) (2 ^ i) ∙ ap (bitOr (movedSet own qs (v % 2 ^ i))) (moved-unit h i l m)
 
-  pub moved-whole : (v : ℕ) → v < 2 ^ length own → movedSet own qs (v % 2 ^ length own) ≡ movedSet own qs v
-  moved-whole v l = ap (movedSet own qs) (mod-eq-of-lt l)
-
   pub moved-lt : (v : ℕ) → movedSet own qs v < 2 ^ length qs
   unfolding movedSet
   moved-lt v = condense-lt qs (expand own v)

@@ -21,7 +21,8 @@ use Rattle.pauli.specs.Writing.{putBytes}
 use Rattle.pauli.proofs.BodyLaws.{xs-is, zs-is}
 use Rattle.rolls.proofs.BytesLaws.{length-le16}
 use Rattle.joining.proofs.JoinLaws.{accepted}
-use Rattle.pauli.proofs.Puts.{chosenFrom, chosen-start, chosen-end, chosen-hit, chosen-miss, Left, left-start, left-done, left-same, left-room, left-step}
+use Rattle.pauli.proofs.Firsts.{First}
+use Rattle.pauli.proofs.Puts.{chosenFrom, chosen-start, chosen-end, chosen-hit, chosen-skip, Left, left-start, left-done, left-same, left-room, left-step}
 use Rattle.pauli.proofs.Sets.{members-count}
 use Rattle.pauli.proofs.Places.{place-in, qubit-at-place, no-place}
 use Rattle.rolls.proofs.Lists.{in-getD}
@@ -122,12 +123,12 @@ module _ (s n : ℕ) (h : s < 2 ^ n) where
     unfolding le16s
     indexes-done l = left-done r (ap le16s (chosen-end s (upTo n) i (rw upTo-length l))) .0
 
+    pub indexes-skip : {m k : ℕ} → First m s i k → Left first 0 (le16s (members s)) out next (le16s (chosenFrom s (upTo n) k))
+    indexes-skip f = left-same r _ (ap le16s (chosen-skip s (upTo n) f))
+
     module _ (l : i < n) where
       within : i < length (upTo n)
       within = rw upTo-length l
-
-      pub indexes-miss : (bit s i ≡ 1 → ⊥) → Left first 0 (le16s (members s)) out next (le16s (chosenFrom s (upTo n) (i + 1)))
-      indexes-miss o = left-same r _ (ap le16s (chosen-miss s (upTo n) i within o))
 
       module _ (o : bit s i ≡ 1) where
         index : le16s (chosenFrom s (upTo n) i) ≡ le16 i ++ le16s (chosenFrom s (upTo n) (i + 1))

@@ -156,12 +156,10 @@ pub fn put_indexes(out: &mut [u8], set: Places, n: usize)
     ensures { λ _. ⌜ now (out .exit) ≡ putBytes (now (out .entry)) 0 (le16s (members (setIn set))) ⌝ }
 {
     let mut next = 0;
-    let mut i = 0;
+    let mut i = set.first_from(0);
     while i < n {
-        if set.index(i) == 1 {
-            put_u16(out, next, i);
-            next += 2;
-        }
-        i += 1;
+        put_u16(out, next, i);
+        next += 2;
+        i = set.first_from(i + 1);
     }
 }

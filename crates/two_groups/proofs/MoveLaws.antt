@@ -1,28 +1,50 @@
 -- Laws of Paulis moved from the places of one list of qubits to those of another.
 use mathlib.Core.Path.{_≡_, sym, ap, _∙_}
-use mathlib.Core.List.{List, List·Memᴰ as Mem}
-use Prim.Native.Nat.{ℕ, suc, _+_, _*_, _%_, _^_, _≤_, _<_}
+use mathlib.Core.List.{List, [], _∷_, List·Memᴰ as Mem, List·Memᴰ·head as here, List·Memᴰ·tail as there}
+use Prim.Native.Nat.{ℕ, zero, suc, _+_, _*_, _%_, _^_, _≤_, _<_}
+use native.Mathlib.Nat.{mod-eq-of-lt, lt-of-lt-of-le}
 use native.Mathlib.Numerals.{add-one}
 use native.Mathlib.Omega.{arith}
+use borrow.Author.Tests.{eq-eqb, ne-eqb}
 use lib.Bits.{bitOr}
 use lib.ListN.{length, getD, take}
+use lib.Pow.{pow-mono}
 use lib.Seq.{getD-take, length-take-le}
 use Rattle.binar.specs.Row.{bit}
 use Rattle.binar.proofs.Lists.{all-get}
-use Rattle.rolls.specs.Known.{placeOf}
-use Rattle.rolls.specs.RollTheorems.{All}
+use Rattle.rolls.specs.Known.{placeOf, lower}
+use Rattle.rolls.specs.RollTheorems.{All, Rising}
+use Rattle.rolls.proofs.Lists.{in-getD}
+use Rattle.rolls.proofs.SupportLaws.{rising-least, insert-known}
+use Rattle.rolls.proofs.Walk.{lower-stop, lower-go, lower-next}
 use Rattle.pauli.specs.declared.signed.Pauli.{Pauli as Held}
 use Rattle.pauli.specs.Pauli.{Pauli, I, normal}
 use Rattle.pauli.specs.Signed.{held, pauliIn, listIn}
 use Rattle.pauli.specs.Writing.{OnPlaces}
 use Rattle.pauli.proofs.Algebra.{pauli-path}
-use Rattle.pauli.proofs.Places.{place-in}
+use Rattle.pauli.proofs.CondenseLaws.{lower-at}
+use Rattle.pauli.proofs.Firsts.{First, skip}
 use Rattle.pauli.proofs.Writers.{length-list}
 use Rattle.pauli_theory.specs.ModuloPlaces.{movedSet, movedPauli}
-use Rattle.pauli_theory.proofs.ModuloPlaces.{moved-none, moved-with, moved-without, moved-whole}
+use Rattle.pauli_theory.proofs.ModuloPlaces.{moved-none, moved-with, moved-without}
 use Rattle.standard_form.specs.Area.{Outside}
 use Rattle.standard_form.proofs.ListLaws.{list-at, on-places-at, pauli-kept}
 use Rattle.two_groups.specs.Moved.{Movable, MovablePauli}
+
+-- ---- places in rising lists
+
+rising-at : (least : ℕ) (l : List ℕ) → Rising least l → (i k : ℕ) → i < k → k < length l → getD l i 0 < getD l k 0
+rising-at least [] h i k lt u = absurd (omega arith)
+rising-at least (r ∷ rs) h i zero lt u = absurd (omega arith)
+rising-at least (r ∷ rs) h zero (suc k) lt u = rising-least (suc r) rs (h .1) (in-getD rs k 0 (omega arith))
+rising-at least (r ∷ rs) h (suc i) (suc k) lt u = rising-at (suc r) rs (h .1) i k (omega arith) (omega arith)
+
+lower-place : (least : ℕ) (qs : List ℕ) → Rising least qs → (q : ℕ) → Mem q qs → lower q qs ≡ placeOf qs q
+unfolding placeOf
+lower-place least (r ∷ rs) h q (here e) = lower-stop q r rs (omega arith) ∙ sym (rw (eq-eqb r q (sym e)))
+lower-place least (r ∷ rs) h q (there m) =
+    let past : suc r ≤ q = rising-least (suc r) rs (h .1) m in
+    lower-go q r rs past ∙ rw (ne-eqb r q (λ e. omega arith)) (ap suc (lower-place (suc r) rs (h .1) q m))
 
 -- a set moved, place by place: own has count numbers, qs has size
 module _ (known joined : List ℕ) (count size v : ℕ) (few : size ≤ 128) (own-room : count ≤ length known) (room : size ≤ length joined)
@@ -36,30 +58,37 @@ module _ (known joined : List ℕ) (count size v : ℕ) (few : size ≤ 128) (ow
   own-length : length own ≡ count
   own-length = length-take-le count known own-room
 
+  -- the qubit q at the place i of the set
   module _ (i q : ℕ) (h : i < count) (e : bit v i ≡ 1) (met : q ≡ getD known i 0) where
     met-own : q ≡ getD own i 0
     met-own = met ∙ sym (getD-take count known i 0 h)
 
-    pub move-place : placeOf qs q < 128
-    move-place =
-        let l : placeOf qs q < length qs = rw met-own (place-in qs (getD own i 0) (m .inside i (rw own-length h) e)) in
-        omega (arith, l, length-take-le size joined room)
+    met-inside : Mem q qs
+    met-inside = rw met-own (m .inside i (rw own-length h) e)
 
-    pub move-with : (r set place : ℕ) → set ≡ movedSet own qs (v % 2 ^ i) → place ≡ placeOf qs q → r ≡ bitOr set (2 ^ place)
+    pub move-place : lower q qs < 128
+    move-place = omega (arith, lower-at 0 qs (m .rises) q met-inside .0, length-take-le size joined room)
+
+    -- the next is further on
+    pub move-further : (k : ℕ) → i < k → k < count → lower q qs ≤ lower (getD known k 0) qs
+    move-further k lt u =
+        let above : q < getD known k 0 = rw (met-own, ← getD-take count known k 0 u) (rising-at 0 own (m .own-rises) i k lt (rw own-length u)) in
+        omega (arith, rw (insert-known 0 q qs (m .rises) met-inside) at (lower-next q (getD known k 0) qs above))
+
+    pub move-with : (r set place : ℕ) → set ≡ movedSet own qs (v % 2 ^ i) → place ≡ lower q qs → r ≡ bitOr set (2 ^ place)
         → r ≡ movedSet own qs (v % 2 ^ (i + 1))
     move-with r set place a b c =
-        c ∙ rw (a, b, met-own, add-one i) (sym (moved-with own (m .own-rises) qs (m .rises) v i (rw own-length h) (m .inside i (rw own-length h) e) e))
+        let there : place ≡ placeOf qs (getD own i 0) = b ∙ lower-place 0 qs (m .rises) q met-inside ∙ ap (placeOf qs) met-own in
+        c ∙ rw (a, there, add-one i) (sym (moved-with own (m .own-rises) qs (m .rises) v i (rw own-length h) (m .inside i (rw own-length h) e) e))
 
   pub move-start : (set : ℕ) → set ≡ 0 → set ≡ movedSet own qs (v % 2 ^ 0)
   move-start set e = e ∙ sym (moved-none own (m .own-rises) qs v)
 
-  pub move-without : (i r : ℕ) → bit v i ≡ 0 → r ≡ movedSet own qs (v % 2 ^ i) → r ≡ movedSet own qs (v % 2 ^ (i + 1))
-  move-without i r e a = a ∙ rw (add-one i) (sym (moved-without own (m .own-rises) qs v i e))
+  pub move-skip : {n i k r : ℕ} → First n v i k → r ≡ movedSet own qs (v % 2 ^ i) → r ≡ movedSet own qs (v % 2 ^ k)
+  move-skip f a = a ∙ skip (λ j. movedSet own qs (v % 2 ^ j)) f (λ j z. rw (add-one j) (sym (moved-without own (m .own-rises) qs v j z)))
 
-  pub move-end : (i r : ℕ) → v < 2 ^ count → i ≤ count → count ≤ i → r ≡ movedSet own qs (v % 2 ^ i) → r ≡ movedSet own qs v
-  move-end i r l a b e =
-      let h : i ≡ length own = omega (arith, own-length) in
-      e ∙ rw h (moved-whole own (m .own-rises) qs v (rw own-length l))
+  pub move-end : (i r : ℕ) → v < 2 ^ count → count ≤ i → r ≡ movedSet own qs (v % 2 ^ i) → r ≡ movedSet own qs v
+  move-end i r l b e = e ∙ ap (movedSet own qs) (mod-eq-of-lt (lt-of-lt-of-le l (pow-mono b)))
 
 -- ---- a Pauli loaded and moved
 

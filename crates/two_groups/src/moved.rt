@@ -16,7 +16,7 @@ use pauli::signed::Places;
 use pauli::signed::load;
 use pauli::signed::store;
 use rolls::support::Place;
-use rolls::support::place_of;
+use rolls::support::place_from;
 use rolls::support::qubit_at;
 
 // A set of places of the first support as the places of the same qubits in the second.
@@ -25,13 +25,13 @@ fn move_set(set: Places, own: &[u32], count: usize, joined: &[u32], size: usize)
     ensures { λ r. ⌜ setIn r ≡ movedSet (take count (now (own .entry))) (take size (now (joined .entry))) (setIn set) ⌝ }
 {
     let mut moved = Places::none();
-    let mut i = 0;
+    let mut from = Place(0);
+    let mut i = set.first_from(0);
     while i < count {
-        if set.index(i) == 1 {
-            let place = place_of(joined, size, qubit_at(own, Place(i)));
-            moved = with_place(moved, place);
-        }
-        i += 1;
+        let place = place_from(joined, size, from, qubit_at(own, Place(i)));
+        moved = with_place(moved, place);
+        from = place;
+        i = set.first_from(i + 1);
     }
     moved
 }

@@ -1,24 +1,27 @@
--- Invariant: the indexes below i are counted.
-use mathlib.Core.Logic.{⊎-elim}
-use mathlib.Core.Path.{sym, _∙_}
-use Prim.Native.Nat.{_-_}
+-- Invariant: i is in the set or past all, and the indexes below i are counted.
+use mathlib.Core.Path.{_≡_}
+use Prim.Native.Nat.{_-_, _<_}
 use native.Mathlib.Omega.{arith}
+use Rattle.binar.specs.Row.{bit}
+use Rattle.pauli.proofs.Firsts.{first-told}
 use Rattle.pauli.specs.Signed.{setIn}
-use Rattle.closing_report.proofs.IndexLaws.{two-words, Counted, counted-start, counted-end, counted-miss, counted-hit}
+use Rattle.closing_report.proofs.IndexLaws.{two-words, Counted, counted-start, counted-end, counted-skip, counted-hit}
 use Rattle.closing_report.proofs.lines.indexes_length.Statement.{statement}
 use Rattle.closing_report.proofs.lines.indexes_length.Tie as tie
 
 abbrev Inv-loop : tie.InvT-loop
-Inv-loop set total₀ i₀ total i = Counted (setIn set) i total
+Inv-loop set total₀ i₀ total i = (i < 128 → bit (setIn set) i ≡ 1) × Counted (setIn set) i total
 
 abbrev μ-loop : tie.MeasureT-loop
 μ-loop set total₀ i₀ total i = 128 - i
 
-loop-holds : tie.Need-loop-holds Inv-loop μ-loop
-loop-holds c = counted-start _ (two-words (c .args .set) (record { low = omega arith; high = omega arith }))
+first-from-requires : tie.Need-first-from-requires Inv-loop μ-loop
+first-from-requires c κs = omega arith
 
-index-requires : tie.Need-index-requires Inv-loop μ-loop
-index-requires c κs = omega arith
+loop-holds : tie.Need-loop-holds Inv-loop μ-loop
+loop-holds c =
+    let f = first-told (omega arith) (c .first-from .ensures) in
+    (f .found, counted-skip _ (counted-start _ (two-words (c .before .args .set) (record { low = omega arith; high = omega arith }))) f)
 
 number-length-requires : tie.Need-number-length-requires Inv-loop μ-loop
 number-length-requires c κs = tt
@@ -29,23 +32,25 @@ add-total c = omega arith
 add-total-2 : tie.Need-add-total-2 Inv-loop μ-loop
 add-total-2 c = omega arith
 
-add-i : tie.Need-add-i Inv-loop μ-loop
-add-i c = omega arith
+add-first-from : tie.Need-add-first-from Inv-loop μ-loop
+add-first-from c = omega arith
+
+first-from-requires-2 : tie.Need-first-from-requires-2 Inv-loop μ-loop
+first-from-requires-2 c κs = omega arith
 
 loop-less : tie.Need-loop-less Inv-loop μ-loop
-loop-less c = omega arith
+loop-less c = omega (arith, first-told (omega arith) (c .first-from2 .ensures) .from)
 
 loop-again : tie.Need-loop-again Inv-loop μ-loop
 loop-again c =
+    let counted = c .before .number-length .ensures in
     let t = c .before .before in
     let inv = t .before .loop .inv in
-    let bit = c .before .index .ensures in
-    ⊎-elim
-    (λ h. rw (h .2) (counted-hit _ inv (t .loop-test .taken) (sym bit ∙ h .0 .taken) _ (h .1 .ensures .0) (h .1 .ensures .1)))
-    (λ h. rw (h .1) (counted-miss _ inv (t .loop-test .taken) (λ e. h .0 .left (bit ∙ e)))) (c .if1 .came)
+    let f = first-told (omega arith) (c .first-from2 .ensures) in
+    (f .found, counted-skip _ (counted-hit _ (inv .1) (t .loop-test .taken) (inv .0 (t .loop-test .taken)) _ (counted .0) (counted .1)) f)
 
 returns : tie.Need-returns Inv-loop μ-loop
-returns c = counted-end _ (c .before .loop .inv) (omega arith)
+returns c = counted-end _ (c .before .loop .inv .1) (omega arith)
 
 pub indexes-length-spec : {M : Type 1} → statement M
 indexes-length-spec =
@@ -53,12 +58,13 @@ indexes-length-spec =
     (tie.spec
     Inv-loop
     μ-loop
+    first-from-requires
     loop-holds
-    index-requires
     number-length-requires
     add-total
     add-total-2
-    add-i
+    add-first-from
+    first-from-requires-2
     loop-less
     loop-again
     returns)

@@ -1,46 +1,32 @@
--- Invariant: the numbers of the places from p on are left to write.
-use Prim.Native.Nat.{ℕ, _+_, _-_, _*_, _/_, _%_, _^_, _≤_, _<_}
+-- Invariant: p is in the set or past all, and the numbers of the places from p on are left to write.
+use mathlib.Core.Path.{_≡_, sym, ap, _∙_}
+use Prim.Native.Nat.{_-_, _<_}
+use lib.ListN.{take}
+use native.Mathlib.Omega.{arith}
+use Rattle.binar.specs.Row.{bit}
 use Rattle.rolls.proofs.BytesLaws.{length-le32s}
-use Rattle.pauli.proofs.Puts.{chosenFrom, chosen-start, Left, left-start, set-done, set-miss, set-room, set-hit}
-use Rattle.rolls.specs.Bytes.{le32, le32s}
+use Rattle.rolls.specs.Bytes.{le32s}
+use Rattle.pauli.proofs.Firsts.{first-told}
+use Rattle.pauli.proofs.Puts.{chosenFrom, chosen-start, chosen-skip, Left, left-start, set-done, set-skip, set-room, set-hit}
 use Rattle.pauli.specs.Pauli.{select}
 use Rattle.pauli.specs.Signed.{setIn}
-use Rattle.pauli.specs.Writing.{putBytes}
-use lib.ListN.{length, take, getD}
-use lib.Seq.{length-take-le, getD-take}
-use mathlib.Core.List.{List}
-use mathlib.Core.Logic.{⊎-elim}
-use mathlib.Core.Path.{_≡_, refl, sym, ap, ap₂, _∙_}
-use native.Mathlib.Omega.{arith}
 use Rattle.pauli.proofs.write.put_set.Statement.{statement}
 use Rattle.pauli.proofs.write.put_set.Tie as tie
 
 abbrev Inv-loop : tie.InvT-loop
-Inv-loop out₀ at set support count next₀ p₀ out next p = (p ≤ count) × Left out₀ at (le32s (select (setIn set) (take count support))) out next (le32s (chosenFrom (setIn set) (take count support) p))
+Inv-loop out₀ at set support count next₀ p₀ out next p = (p < 128 → bit (setIn set) p ≡ 1) × Left out₀ at (le32s (select (setIn set) (take count support))) out next (le32s (chosenFrom (setIn set) (take count support) p))
 
 abbrev μ-loop : tie.MeasureT-loop
 μ-loop out₀ at set support count next₀ p₀ out next p = count - p
 
--- one turn of the loop
-turn : (c : tie.Joined1 Inv-loop μ-loop)
-    → let start = c .before .before .before .before .before .before .args in
-    let s = setIn (start .set) in
-    let qs = take (start .count) (start .support .now) in
-    Left (start .out .now) (start .at) (le32s (select s qs)) (c .if1 .out) (c .if1 .next) (le32s (chosenFrom s qs (c .before .before .before .loop .p + 1)))
-turn c =
-    ⊎-elim
-    (λ h. rw (h .7)
-    (set-hit _ _ _ (c .before .before .before .loop .inv .1) (rw (length-take-le (c .before .before .before .before .before .before .args .count) (c .before .before .before .before .before .before .args .support .now) (c .before .before .before .before .before .before .pre .1)) (c .before .before .loop-test .taken)) (sym (c .before .index .ensures) ∙ h .0 .taken) (c .if1 .out)
-    (h .6 ∙ h .3 .ensures ∙ ap (λ (q : ℕ). putBytes (c .before .before .before .loop .out) (c .before .before .before .loop .next) (le32 q)) (sym (getD-take (c .before .before .before .before .before .before .args .count) (c .before .before .before .before .before .before .args .support .now) (c .before .before .before .loop .p) 0 (c .before .before .loop-test .taken))))
-    (ap length (h .6) ∙ h .3 .kept .0)))
-    (λ h. rw (h .1, h .2) (set-miss _ _ _ (c .before .before .before .loop .inv .1) (rw (length-take-le (c .before .before .before .before .before .before .args .count) (c .before .before .before .before .before .before .args .support .now) (c .before .before .before .before .before .before .pre .1)) (c .before .before .loop-test .taken)) (λ e. h .0 .left (c .before .index .ensures ∙ e))))
-    (c .if1 .came)
+first-from-requires : tie.Need-first-from-requires Inv-loop μ-loop
+first-from-requires c κs = omega arith
 
 loop-holds : tie.Need-loop-holds Inv-loop μ-loop
-loop-holds c = (omega arith, left-start _ _ _ _ (ap le32s (sym (chosen-start _ _))) (rw (length-le32s _) (c .before .before .pre .2)))
-
-index-requires : tie.Need-index-requires Inv-loop μ-loop
-index-requires c κs = omega arith
+loop-holds c =
+    let start = c .before .before .before in
+    let f = first-told (omega arith) (c .first-from .ensures) in
+    (f .found, left-start _ _ _ _ (ap le32s (sym (chosen-start _ _) ∙ chosen-skip _ _ f)) (rw (length-le32s _) (start .pre .2)))
 
 mul-put-u32 : tie.Need-mul-put-u32 Inv-loop μ-loop
 mul-put-u32 c = omega arith
@@ -49,25 +35,43 @@ shared-slice-read-put-u32 : tie.Need-shared-slice-read-put-u32 Inv-loop μ-loop
 shared-slice-read-put-u32 c = omega arith
 
 put-u32-requires : tie.Need-put-u32-requires Inv-loop μ-loop
-put-u32-requires c κs = set-room _ _ _ (c .before .before .before .before .before .loop .inv .1) (rw (length-take-le (c .before .before .before .before .before .before .before .before .args .count) (c .before .before .before .before .before .before .before .before .args .support .now) (c .before .before .before .before .before .before .before .before .pre .1)) (c .before .before .before .before .loop-test .taken)) (sym (c .before .before .before .index .ensures) ∙ c .before .before .if1 .taken)
+put-u32-requires c κs =
+    let l = c .before .before .before in
+    let k = l .before .before .before .before .pre .1 in
+    set-room _ _ _ k _ (l .loop .inv .1) (c .before .before .loop-test .taken) (l .loop .inv .0 (omega arith))
 
 add-next : tie.Need-add-next Inv-loop μ-loop
-add-next c = omega (arith, set-room _ _ _ (c .before .before .before .before .before .before .before .before .loop .inv .1) (rw (length-take-le (c .before .before .before .before .before .before .before .before .before .before .before .args .count) (c .before .before .before .before .before .before .before .before .before .before .before .args .support .now) (c .before .before .before .before .before .before .before .before .before .before .before .pre .1)) (c .before .before .before .before .before .before .before .loop-test .taken)) (sym (c .before .before .before .before .before .before .index .ensures) ∙ c .before .before .before .before .before .if1 .taken))
+add-next c =
+    let l = c .before .before .before .before .before .before in
+    let k = l .before .before .before .before .pre .1 in
+    omega (arith, set-room _ _ _ k _ (l .loop .inv .1) (c .before .before .before .before .before .loop-test .taken) (l .loop .inv .0 (omega arith)))
 
-add-p : tie.Need-add-p Inv-loop μ-loop
-add-p c = omega arith
+add-first-from : tie.Need-add-first-from Inv-loop μ-loop
+add-first-from c = omega arith
+
+first-from-requires-2 : tie.Need-first-from-requires-2 Inv-loop μ-loop
+first-from-requires-2 c κs = omega arith
 
 loop-less : tie.Need-loop-less Inv-loop μ-loop
-loop-less c = omega arith
+loop-less c = omega (arith, first-told (omega arith) (c .first-from2 .ensures) .from)
 
 loop-again : tie.Need-loop-again Inv-loop μ-loop
-loop-again c = (omega arith, turn c)
+loop-again c =
+    let l = c .before .before .before .before .before .before .before in
+    let k = l .before .before .before .before .pre .1 in
+    let put = c .before .before .before .put-u32 in
+    let f = first-told (omega arith) (c .first-from2 .ensures) in (
+      f .found,
+      set-skip _ _ _ k _ (set-hit _ _ _ k _ (l .loop .inv .1) (c .before .before .before .before .before .before .loop-test .taken) (l .loop .inv .0 (omega arith)) _ (put .ensures) (put .kept .0)) f,
+    )
 
 same-length : tie.Need-same-length Inv-loop μ-loop
 same-length c = c .before .loop .inv .1 .size
 
 returns : tie.Need-returns Inv-loop μ-loop
-returns c = set-done _ _ _ (c .before .loop .inv .1) (rw (length-take-le (c .before .before .before .before .args .count) (c .before .before .before .before .args .support .now) (c .before .before .before .before .pre .1)) (omega arith))
+returns c =
+    let l = c .before in
+    set-done _ _ _ (l .before .before .before .before .pre .1) _ (l .loop .inv .1) (c .loop-test .left)
 
 pub put-set-spec : {M : Type 1} → statement M
 put-set-spec =
@@ -75,13 +79,14 @@ put-set-spec =
     (tie.spec
     Inv-loop
     μ-loop
+    first-from-requires
     loop-holds
-    index-requires
     mul-put-u32
     shared-slice-read-put-u32
     put-u32-requires
     add-next
-    add-p
+    add-first-from
+    first-from-requires-2
     loop-less
     loop-again
     same-length

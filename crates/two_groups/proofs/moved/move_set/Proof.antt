@@ -1,62 +1,82 @@
--- Invariant: the qubits at the first i places are moved.
+-- Invariant: i is in the set or past all, the qubits at the places below i are moved, and the next is at `from` or after it.
 use native.Mathlib.Omega.{arith}
 use borrow.Author.Needs.{needs}
-use mathlib.Core.Logic.{⊎-elim}
-use mathlib.Core.Path.{_≡_, sym, ap, _∙_}
-use Prim.Native.Nat.{_-_, _+_, _%_, _^_, _≤_}
-use lib.ListN.{take}
-use Rattle.binar.proofs.Bits.{bit-lt}
+use mathlib.Core.Path.{_≡_}
+use Prim.Native.Nat.{_-_, _%_, _^_, _≤_, _<_}
+use lib.ListN.{take, getD}
+use Rattle.binar.specs.Row.{bit}
+use Rattle.rolls.specs.Known.{lower}
 use Rattle.pauli.specs.Signed.{setIn}
+use Rattle.pauli.proofs.Firsts.{first-told}
 use Rattle.pauli_theory.specs.ModuloPlaces.{movedSet}
-use Rattle.two_groups.proofs.MoveLaws.{move-place, move-with, move-start, move-without, move-end}
+use Rattle.two_groups.proofs.MoveLaws.{move-place, move-further, move-with, move-start, move-skip, move-end}
 use Rattle.two_groups.proofs.moved.move_set.Statement.{statement}
 use Rattle.two_groups.proofs.moved.move_set.Tie as tie
 
 abbrev Inv-loop : tie.InvT-loop
-Inv-loop set own count joined size moved₀ i₀ moved i = (i ≤ count) × (setIn moved ≡ movedSet (take count own) (take size joined) (setIn set % 2 ^ i))
+Inv-loop set own count joined size moved₀ from₀ i₀ moved from i =
+    (i < 128 → bit (setIn set) i ≡ 1) × (i < count → from .0 ≤ lower (getD own i 0) (take size joined))
+    × (setIn moved ≡ movedSet (take count own) (take size joined) (setIn set % 2 ^ i))
 
 abbrev μ-loop : tie.MeasureT-loop
-μ-loop set own count joined size moved₀ i₀ moved i = count - i
+μ-loop set own count joined size moved₀ from₀ i₀ moved from i = count - i
 
 none-requires : tie.Need-none-requires Inv-loop μ-loop
 none-requires c κs = search needs
 
-loop-holds : tie.Need-loop-holds Inv-loop μ-loop
-loop-holds c = let s = c .before .before .before in (omega arith, move-start _ _ _ _ _ (s .pre .2) (s .pre .1) (s .pre .3) (s .pre .5) _ (c .none .ensures))
+first-from-requires : tie.Need-first-from-requires Inv-loop μ-loop
+first-from-requires c κs = omega arith
 
-index-requires : tie.Need-index-requires Inv-loop μ-loop
-index-requires c κs = omega (arith, c .before .before .before .before .before .pre .0)
+loop-holds : tie.Need-loop-holds Inv-loop μ-loop
+loop-holds c =
+    let p = c .before .before .before .before .pre in
+    let f = first-told (omega arith) (c .first-from .ensures) in
+    (f .found, λ _. omega arith, move-skip _ _ _ _ _ (p .2) (p .1) (p .3) (p .5) f (move-start _ _ _ _ _ (p .2) (p .1) (p .3) (p .5) _ (c .before .none .ensures)))
 
 qubit-at-requires : tie.Need-qubit-at-requires Inv-loop μ-loop
-qubit-at-requires c κs = omega (arith, c .before .before .before .before .before .before .before .pre .1)
+qubit-at-requires c κs = omega (arith, c .before .before .before .before .before .before .pre .1)
 
-place-of-requires : tie.Need-place-of-requires Inv-loop μ-loop
-place-of-requires c κs = search needs
+place-from-requires : tie.Need-place-from-requires Inv-loop μ-loop
+place-from-requires c κs =
+    let t = c .before in
+    let l = t .before .loop in
+    let p = t .before .before .before .before .before .before .pre in
+    (p .3, rw (c .qubit-at .ensures) (l .inv .1 (t .loop-test .taken)))
 
 with-place-requires : tie.Need-with-place-requires Inv-loop μ-loop
 with-place-requires c κs =
-    let s = c .before .before .before .before .before .before .before .before .before in
-    rw (c .place-of .ensures) (move-place _ _ _ _ _ (s .pre .2) (s .pre .1) (s .pre .3) (s .pre .5) _ _ (c .before .before .before .before .loop-test .taken) (sym (c .before .before .before .index .ensures) ∙ c .before .before .if1 .taken) (c .before .qubit-at .ensures))
+    let t = c .before .before in
+    let l = t .before .loop in
+    let p = t .before .before .before .before .before .before .pre in
+    rw (c .place-from .ensures) (move-place _ _ _ _ _ (p .2) (p .1) (p .3) (p .5) _ _ (t .loop-test .taken) (l .inv .0 (omega (arith, p .0))) (c .before .qubit-at .ensures))
 
-add-i : tie.Need-add-i Inv-loop μ-loop
-add-i c = omega arith
+add-first-from : tie.Need-add-first-from Inv-loop μ-loop
+add-first-from c = omega arith
+
+first-from-requires-2 : tie.Need-first-from-requires-2 Inv-loop μ-loop
+first-from-requires-2 c κs = omega (arith, c .before .before .before .before .before .before .before .before .before .pre .0)
 
 loop-less : tie.Need-loop-less Inv-loop μ-loop
-loop-less c = omega arith
+loop-less c = omega (arith, first-told (omega (arith, c .before .before .before .before .before .before .before .before .before .before .pre .0)) (c .first-from2 .ensures) .from)
 
 loop-again : tie.Need-loop-again Inv-loop μ-loop
 loop-again c =
-    let s = c .before .before .before .before .before .before .before in
-    let l = c .before .before .before .loop in (
-      omega arith,
-      ⊎-elim
-          (λ h. ap setIn (h .4) ∙ move-with _ _ _ _ _ (s .pre .2) (s .pre .1) (s .pre .3) (s .pre .5) _ _ (c .before .before .loop-test .taken) (sym (c .before .index .ensures) ∙ h .0 .taken) (h .1 .ensures) _ _ _ (l .inv .1) (h .2 .ensures) (h .3 .ensures))
-          (λ h. ap setIn (h .1) ∙ move-without _ _ _ _ _ (s .pre .2) (s .pre .1) (s .pre .3) (s .pre .5) _ _ (omega (arith, bit-lt (setIn (s .args .set)) (l .i), c .before .index .ensures, h .0 .left)) (l .inv .1))
-          (c .if1 .came),
+    let t = c .before .before .before .before in
+    let l = t .before .loop in
+    let p = t .before .before .before .before .before .before .pre in
+    let here = l .inv .0 (omega (arith, p .0)) in
+    let met = c .before .before .before .qubit-at .ensures in
+    let place = c .before .before .place-from .ensures in
+    let f = first-told (omega (arith, p .0)) (c .first-from2 .ensures) in (
+      f .found,
+      λ u. rw place (move-further _ _ _ _ _ (p .2) (p .1) (p .3) (p .5) _ _ (t .loop-test .taken) here met _ (omega (arith, f .from)) u),
+      move-skip _ _ _ _ _ (p .2) (p .1) (p .3) (p .5) f (move-with _ _ _ _ _ (p .2) (p .1) (p .3) (p .5) _ _ (t .loop-test .taken) here met _ _ _ (l .inv .2) place (c .before .with-place .ensures)),
     )
 
 returns : tie.Need-returns Inv-loop μ-loop
-returns c = let s = c .before .before .before .before .before in move-end _ _ _ _ _ (s .pre .2) (s .pre .1) (s .pre .3) (s .pre .5) _ _ (s .pre .4) (c .before .loop .inv .0) (c .loop-test .left) (c .before .loop .inv .1)
+returns c =
+    let p = c .before .before .before .before .before .before .pre in
+    move-end _ _ _ _ _ (p .2) (p .1) (p .3) (p .5) _ _ (p .4) (c .loop-test .left) (c .before .loop .inv .2)
 
 pub move-set-spec : {M : Type 1} → statement M
 move-set-spec =
@@ -65,12 +85,13 @@ move-set-spec =
     Inv-loop
     μ-loop
     none-requires
+    first-from-requires
     loop-holds
-    index-requires
     qubit-at-requires
-    place-of-requires
+    place-from-requires
     with-place-requires
-    add-i
+    add-first-from
+    first-from-requires-2
     loop-less
     loop-again
     returns)
