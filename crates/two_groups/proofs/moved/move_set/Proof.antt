@@ -41,7 +41,7 @@ place-from-requires c κs =
     let t = c .before in
     let l = t .before .loop in
     let p = t .before .before .before .before .before .before .pre in
-    (p .3, rw (c .qubit-at .ensures) (l .inv .1 (t .loop-test .taken)))
+    (p .3, rw (c .qubit-at .ensures) (l .inv .1 (t .loop-test .taken)), p .5 .rises)
 
 with-place-requires : tie.Need-with-place-requires Inv-loop μ-loop
 with-place-requires c κs =
