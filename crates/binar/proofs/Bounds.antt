@@ -7,9 +7,9 @@ use lib.ListN.{length, length-append, length-drop}
 use Rattle.binar.specs.Echelon.{pivotOf, echelonize, echelon, rank, besideIdentity}
 use Rattle.binar.specs.declared.echelon.Cell.{Cell}
 use Rattle.binar.specs.declared.echelon.Found.the-variants.{At}
-use Rattle.binar.specs.Row.{_⊕_}
+use Rattle.bit_rows.specs.Row.{_⊕_}
 use Rattle.binar.specs.Solve.{sweep}
-use Rattle.binar.proofs.Bits.{xor-lt, xors}
+use Rattle.bit_rows.proofs.Bits.{xor-lt, xors}
 use Rattle.binar.proofs.Lists.{All}
 use Rattle.binar.proofs.Span.{below-subspace}
 use Rattle.binar.proofs.Steps.{Search, found, pivot-is}

@@ -7,9 +7,9 @@ use native.Mathlib.Decide.{decLt}
 use native.Mathlib.Omega.{arith}
 use lib.ListN.{length}
 use lib.Pow.{pow-pos, pow-lt}
-use Rattle.binar.specs.Row.{_⊕_, rowSum}
+use Rattle.bit_rows.specs.Row.{_⊕_, rowSum}
 use Rattle.binar.specs.Space.{RowSpace, Independent, Dimension}
-use Rattle.binar.proofs.Bits.{xor-self, xor-eq-zero, xor-lt}
+use Rattle.bit_rows.proofs.Bits.{xor-self, xor-eq-zero, xor-lt}
 use Rattle.binar.proofs.Lists.{All, all-map}
 use Rattle.binar.proofs.Span.{sum-in, rowSum-xor, rowSum-mod, space-subspace, space-rows}
 

@@ -5,9 +5,9 @@ use Prim.Native.Nat.{ℕ, zero, suc, _^_, _≤_, _<_}
 use native.Mathlib.Omega.{arith}
 use lib.ListN.{length, getD}
 use lib.Pow.{pow-pos}
-use Rattle.binar.specs.Row.{bit}
+use Rattle.bit_rows.specs.Row.{bit}
 use Rattle.binar.specs.Space.{ReducedForm}
-use Rattle.binar.proofs.Bits.{bit-of-zero, Blank, blank-zero}
+use Rattle.bit_rows.proofs.Bits.{bit-of-zero, Blank, blank-zero}
 use Rattle.binar.proofs.Lists.{All, all-map, all-get, all-getD, all-by}
 use Rattle.binar.proofs.Span.{blank-subspace}
 use Rattle.binar.proofs.Reduced.{Reduced, last, next, pivots-in, reduced-room, reduced-from, reduced-blank}

@@ -13,10 +13,10 @@ use lib.Pow.{pow-pos, pow-add, pow-lt}
 use lib.Seq.{drop-drop}
 use Rattle.binar.specs.declared.echelon.Formation.{Formation}
 use Rattle.binar.specs.declared.echelon.Formation.the-variants.{Rank, Misfit}
-use Rattle.binar.specs.Words.{matrix, image}
+use Rattle.bit_rows.specs.Words.{matrix, image}
 use Rattle.binar.specs.Echelon.{Reduction, echelonize, besideIdentity}
 use Rattle.binar.specs.Layout.{laidOut, formStride, both, fits, formed, FormIs}
-use Rattle.binar.proofs.Slice.{AreWords}
+use Rattle.bit_rows.proofs.Slice.{AreWords}
 use Rattle.binar.proofs.Matrix.{Below, length-matrix, matrix-image, drop-image}
 use Rattle.binar.proofs.Lists.{all-getD, all-by}
 use Rattle.binar.proofs.Kept.{echelonize-length}

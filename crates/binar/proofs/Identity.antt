@@ -9,10 +9,10 @@ use native.Mathlib.Omega.{arith}
 use lib.ListN.{length, getD, set, take, drop, length-set, length-drop, take-append-drop}
 use lib.Pow.{high, low, pow-pos, pow-add, pow-lt, shr-lt, mod-pow-add}
 use lib.Seq.{length-take-le, drop-drop, set-set, take-take}
-use Rattle.binar.specs.Words.{value, words, rowAt, putRow, matrix}
+use Rattle.bit_rows.specs.Words.{value, words, rowAt, putRow, matrix}
 use Rattle.binar.specs.Echelon.{besideIdentity}
-use Rattle.binar.proofs.Slice.{AreWords, Outside, put-none, put-first, put-next, put-kept}
-use Rattle.binar.proofs.Scan.{one-shifted}
+use Rattle.bit_rows.proofs.Slice.{AreWords, Outside, put-none, put-first, put-next, put-kept}
+use Rattle.bit_rows.proofs.Scan.{one-shifted}
 use Rattle.binar.proofs.Matrix.{words-value, words-take, words-drop, row-lt, length-matrix}
 
 -- the lowest n words of a row

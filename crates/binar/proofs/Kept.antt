@@ -4,9 +4,9 @@ use mathlib.Core.List.{List, [], _∷_, map}
 use Prim.Native.Nat.{ℕ, _+_}
 use native.Mathlib.Omega.{arith}
 use lib.ListN.{length, length-append, length-map}
-use Rattle.binar.specs.Row.{_⊕_, bit}
+use Rattle.bit_rows.specs.Row.{_⊕_, bit}
 use Rattle.binar.specs.Echelon.{clear, Reduction, withPivot, echelonize}
-use Rattle.binar.proofs.Bits.{bit-lt, bit-xor, xors}
+use Rattle.bit_rows.proofs.Bits.{bit-lt, bit-xor, xors}
 use Rattle.binar.proofs.Lists.{All, all-map, all-join, all-left, all-right, all-over, all-under}
 use Rattle.binar.proofs.Span.{ifBit-case, Subspace}
 use Rattle.binar.proofs.Steps.{others, length-others, others-in, others-out, Run, stop, step, run-is}

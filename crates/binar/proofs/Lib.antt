@@ -1,4 +1,3 @@
-pub mod Bits
 pub mod Lists
 pub mod Span
 pub mod Steps
@@ -12,8 +11,6 @@ pub mod Space
 pub mod Solve
 pub mod Bounds
 pub mod Linear
-pub mod Slice
-pub mod Scan
 pub mod Matrix
 pub mod Search
 pub mod RowByRow

@@ -9,28 +9,12 @@ use native.Mathlib.Omega.{arith}
 use lib.Dec.{eqb}
 use lib.ListN.{length, getD, set, drop, length-map, List·getD-map}
 use lib.Pow.{pow-pos, pow-mono, mod-mod-pow}
-use Rattle.binar.specs.Row.{_⊕_, bit, ifBit}
-use Rattle.binar.specs.Echelon.{
-  inColumn,
-  byColumns,
-  pivotOf,
-  swapRows,
-  clear,
-  unless,
-  addToOthers,
-  placePivot,
-  Reduction,
-  withPivot,
-  onFound,
-  echelonizeFrom,
-  echelonize,
-  besideIdentity,
-  echelon,
-}
+use Rattle.bit_rows.specs.Row.{_⊕_, bit, ifBit}
+use Rattle.binar.specs.Echelon.{inColumn, byColumns, pivotOf, swapRows, clear, unless, addToOthers, placePivot, Reduction, withPivot, onFound, echelonizeFrom, echelonize, besideIdentity, echelon}
 use Rattle.binar.specs.Solve.{sweep, solved, transposeSolve}
 use Rattle.binar.specs.declared.echelon.Found.{Found}
 use Rattle.binar.specs.declared.echelon.Found.the-variants.{At}
-use Rattle.binar.proofs.Bits.{bit-mod, bit-beside, beside-mod, beside-shr, xor-mod, xor-shr, xor-beside}
+use Rattle.bit_rows.proofs.Bits.{bit-mod, bit-beside, beside-mod, beside-shr, xor-mod, xor-shr, xor-beside}
 use Rattle.binar.proofs.Lists.{All, all-of, map-same, map-drop, map-set}
 use Rattle.binar.proofs.Span.{ifBit-map, Additive, additive-zero}
 use Rattle.binar.proofs.Steps.{Search, nowhere, found, pivot-is}

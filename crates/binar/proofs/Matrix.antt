@@ -10,10 +10,10 @@ use lib.Arith.{digits-lt}
 use lib.ListN.{length, getD, set, take, drop, length-append, length-drop, take-append-drop, List·getD-eq-default}
 use lib.Pow.{high, low, split, shr-lt, pow-pos, pow-add}
 use lib.Seq.{take-at, drop-at, drop-append-add, take-append-le, length-take-le, take-append-add, drop-drop, getD-drop}
-use Rattle.binar.specs.Row.{bit}
-use Rattle.binar.specs.Words.{value, words, rowAt, putRow, matrix, image, TwoRows}
-use Rattle.binar.proofs.Slice.{AreWords, length-words}
-use Rattle.binar.proofs.Scan.{bit-low, bit-high}
+use Rattle.bit_rows.specs.Row.{bit}
+use Rattle.bit_rows.specs.Words.{value, words, rowAt, putRow, matrix, image, TwoRows}
+use Rattle.bit_rows.proofs.Slice.{AreWords, length-words}
+use Rattle.bit_rows.proofs.Scan.{bit-low, bit-high}
 
 -- ---- words and the number that they write
 

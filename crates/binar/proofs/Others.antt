@@ -9,11 +9,11 @@ use borrow.Author.Tests.{eq-eqb, ne-eqb}
 use lib.Dec.{eqb}
 use lib.ListN.{length, getD}
 use lib.Pow.{pow-pos}
-use Rattle.binar.specs.Row.{_⊕_, bit, ifBit}
-use Rattle.binar.specs.Words.{rowAt, putRow, matrix}
+use Rattle.bit_rows.specs.Row.{_⊕_, bit, ifBit}
+use Rattle.bit_rows.specs.Words.{rowAt, putRow, matrix}
 use Rattle.binar.specs.Echelon.{clear, unless, addToOthers}
-use Rattle.binar.proofs.Bits.{bit-lt, xor-lt, xor-zero-r}
-use Rattle.binar.proofs.Slice.{AreWords}
+use Rattle.bit_rows.proofs.Bits.{bit-lt, xor-lt, xor-zero-r}
+use Rattle.bit_rows.proofs.Slice.{AreWords}
 use Rattle.binar.proofs.Matrix.{Below, length-matrix, matrix-row}
 use Rattle.binar.proofs.RowByRow.{rewritten, row-here, row-same, rewritten-row, rewritten-same}
 

@@ -10,10 +10,10 @@ use lib.Seq.{take-suc-set, drop-set-lt, drop-drop, append-snoc, getD-set-same}
 use Rattle.binar.specs.declared.echelon.Cell.{Cell}
 use Rattle.binar.specs.declared.echelon.Found.{Found}
 use Rattle.binar.specs.declared.echelon.Found.the-variants.{At, Nothing}
-use Rattle.binar.specs.Words.{rowAt, putRow, matrix, image, words}
+use Rattle.bit_rows.specs.Words.{rowAt, putRow, matrix, image, words}
 use Rattle.binar.specs.Echelon.{pivotOf, swapRows, addToOthers, placePivot, Reduction, withPivot, onFound, echelonizeFrom, echelonize}
 use Rattle.binar.specs.Layout.{laidOut}
-use Rattle.binar.proofs.Slice.{AreWords, exchanged, length-words}
+use Rattle.bit_rows.proofs.Slice.{AreWords, exchanged, length-words}
 use Rattle.binar.proofs.Matrix.{Below, below-set, length-matrix, matrix-lt, image-matrix, drop-image, matrix-image, row-image, put-image}
 use Rattle.binar.proofs.Kept.{echelonize-length}
 use Rattle.binar.proofs.Others.{added-below, length-added}

@@ -9,8 +9,8 @@ use lib.ListN.{length, getD, take, drop, length-drop}
 use lib.Seq.{take-at, length-take-le, getD-take, getD-drop}
 use Rattle.binar.specs.declared.echelon.Formation.{Formation}
 use Rattle.binar.specs.declared.echelon.Formation.the-variants.{Rank, Misfit}
-use Rattle.binar.specs.Row.{bit}
-use Rattle.binar.specs.Words.{rowAt, matrix, image}
+use Rattle.bit_rows.specs.Row.{bit}
+use Rattle.bit_rows.specs.Words.{rowAt, matrix, image}
 use Rattle.binar.specs.Echelon.{Reduction, echelonize, besideIdentity, Row, EchelonForm, echelon, rank}
 use Rattle.binar.specs.Solve.{sweep, solved, transposeSolve}
 use Rattle.binar.specs.Layout.{laidOut, formStride, fits, formed, FormIs, formIn, Solvable, swept}

@@ -5,9 +5,9 @@ use Prim.Native.Nat.{ℕ, suc, _+_, _%_, _^_, _≤_, _<_}
 use native.Mathlib.Omega.{arith}
 use lib.ListN.{length, take, drop, length-append, length-map}
 use lib.Seq.{append-snoc, drop-at}
-use Rattle.binar.specs.Row.{bit, columns}
+use Rattle.bit_rows.specs.Row.{bit, columns}
 use Rattle.binar.specs.Echelon.{clear, Reduction, withPivot, echelonize}
-use Rattle.binar.proofs.Bits.{bit-mod, Blank, blank-one, blank-join}
+use Rattle.bit_rows.proofs.Bits.{bit-mod, Blank, blank-one, blank-join}
 use Rattle.binar.proofs.Lists.{All, all-of, all-map, all-zip, all-join, all-right, all-over}
 use Rattle.binar.proofs.Span.{blank-subspace}
 use Rattle.binar.proofs.Steps.{others, others-in, Run, stop, step, run-is}

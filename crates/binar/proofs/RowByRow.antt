@@ -7,9 +7,9 @@ use native.Mathlib.Omega.{arith}
 use native.Mathlib.Decide.{decLt}
 use lib.ListN.{length, getD, set, take, drop, length-append, length-drop, drop-of-length-le, List·getD-append}
 use lib.Seq.{drop-cons, take-suc, append-snoc, set-at, set-getD, getD-at, length-take-le, take-all, getD-take, getD-append-add, getD-drop}
-use Rattle.binar.specs.Row.{bit}
-use Rattle.binar.specs.Words.{value, rowAt, putRow, matrix, image}
-use Rattle.binar.proofs.Slice.{AreWords}
+use Rattle.bit_rows.specs.Row.{bit}
+use Rattle.bit_rows.specs.Words.{value, rowAt, putRow, matrix, image}
+use Rattle.bit_rows.proofs.Slice.{AreWords}
 use Rattle.binar.proofs.Matrix.{length-matrix, matrix-row, matrix-lt, image-matrix, row-image, put-image, row-in, bit-row, words-image, words-drop}
 
 -- ---- lists

@@ -8,9 +8,9 @@ use lib.ListN.{length, getD, drop, drop-of-length-le}
 use lib.Seq.{drop-cons}
 use Rattle.binar.specs.declared.echelon.Found.{Found}
 use Rattle.binar.specs.declared.echelon.Found.the-variants.{At, Nothing}
-use Rattle.binar.specs.Row.{bit, ifBit}
+use Rattle.bit_rows.specs.Row.{bit, ifBit}
 use Rattle.binar.specs.Echelon.{inColumn, byColumns}
-use Rattle.binar.proofs.Bits.{bit-lt}
+use Rattle.bit_rows.proofs.Bits.{bit-lt}
 
 pub if-one {ℓ} : {X : Type ℓ} (b : ℕ) (x y : X) → b ≡ 1 → ifBit b x y ≡ x
 unfolding ifBit

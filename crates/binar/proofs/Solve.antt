@@ -7,11 +7,11 @@ use native.Mathlib.Nat.{mod-lt, mod-mod, div-eq-of-lt}
 use native.Mathlib.Omega.{arith}
 use lib.ListN.{length}
 use lib.Pow.{pow-pos}
-use Rattle.binar.specs.Row.{_⊕_, bit, columns, rowSum}
+use Rattle.bit_rows.specs.Row.{_⊕_, bit, columns, rowSum}
 use Rattle.binar.specs.Echelon.{clear, echelon}
 use Rattle.binar.specs.Solve.{sweep, solved, transposeSolve}
 use Rattle.binar.specs.Space.{RowSpace}
-use Rattle.binar.proofs.Bits.{bit-lt, bit-mod, bit-xor, xors, xor-self, xor-zero-l, xor-zero-r, xor-mod, xor-shr, beside-parts, blank-zero}
+use Rattle.bit_rows.proofs.Bits.{bit-lt, bit-mod, bit-xor, xors, xor-self, xor-zero-l, xor-zero-r, xor-mod, xor-shr, beside-parts, blank-zero}
 use Rattle.binar.proofs.Lists.{All, all-zip, map-same, all-of}
 use Rattle.binar.proofs.Span.{ifBit-case, Subspace, blank-subspace, space-subspace}
 use Rattle.binar.proofs.Kept.{clear-column}

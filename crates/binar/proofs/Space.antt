@@ -5,10 +5,10 @@ use Prim.Native.Nat.{ℕ, _/_, _%_, _^_, _<_}
 use native.Mathlib.Omega.{arith}
 use lib.ListN.{length, take, drop, take-append-drop}
 use lib.Seq.{length-take-le}
-use Rattle.binar.specs.Row.{columns, rowSum, units}
+use Rattle.bit_rows.specs.Row.{columns, rowSum, units}
 use Rattle.binar.specs.Echelon.{echelon, besideIdentity, R, T, rank}
 use Rattle.binar.specs.Space.{RowSpace, SameSpace, Independent, Dimension}
-use Rattle.binar.proofs.Bits.{xor-mod, xor-shr, blank-zero}
+use Rattle.bit_rows.proofs.Bits.{xor-mod, xor-shr, blank-zero}
 use Rattle.binar.proofs.Lists.{All, all-map, all-zip, all-join, all-left, all-right}
 use Rattle.binar.proofs.Span.{space-subspace, space-rows, same-space, same-flip, same-join, columns-lt}
 use Rattle.binar.proofs.Reduced.{Reduced, echelonize-reduced, reduced-room, reduced-take, reduced-drop, reduced-columns}

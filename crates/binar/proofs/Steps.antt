@@ -8,25 +8,11 @@ use native.Mathlib.Omega.{arith}
 use lib.Dec.{T, eqb, eqb→eq, eqb-refl}
 use lib.ListN.{length, getD, set, drop, length-append, length-map}
 use lib.Seq.{drop-at, getD-at, set-at, append-snoc}
-use Rattle.binar.specs.Row.{bit}
-use Rattle.binar.specs.Echelon.{
-  inColumn,
-  byColumns,
-  pivotOf,
-  swapRows,
-  clear,
-  unless,
-  addToOthers,
-  placePivot,
-  Reduction,
-  withPivot,
-  onFound,
-  echelonizeFrom,
-  echelonize,
-}
+use Rattle.bit_rows.specs.Row.{bit}
+use Rattle.binar.specs.Echelon.{inColumn, byColumns, pivotOf, swapRows, clear, unless, addToOthers, placePivot, Reduction, withPivot, onFound, echelonizeFrom, echelonize}
 use Rattle.binar.specs.declared.echelon.Found.{Found}
 use Rattle.binar.specs.declared.echelon.Found.the-variants.{At, Nothing}
-use Rattle.binar.proofs.Bits.{bit-lt, Blank, blank-one, blank-join}
+use Rattle.bit_rows.proofs.Bits.{bit-lt, Blank, blank-one, blank-join}
 use Rattle.binar.proofs.Lists.{All, all-of, all-zip, all-join, all-left, all-right}
 use Rattle.binar.proofs.Span.{ifBit-case}
 

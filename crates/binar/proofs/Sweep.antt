@@ -10,13 +10,13 @@ use lib.ListN.{length, getD, set, take, drop, length-set, length-drop, drop-of-l
 use lib.Dec.{eqb}
 use lib.Pow.{mod-mod-pow}
 use lib.Seq.{drop-cons, take-at, drop-at, drop-append-add, length-take-le, getD-take, getD-drop}
-use Rattle.binar.specs.Row.{_⊕_, bit}
-use Rattle.binar.specs.Words.{value, words, rowAt, putRow, matrix, TwoRows}
+use Rattle.bit_rows.specs.Row.{_⊕_, bit}
+use Rattle.bit_rows.specs.Words.{value, words, rowAt, putRow, matrix, TwoRows}
 use Rattle.binar.specs.Echelon.{clear}
 use Rattle.binar.specs.Solve.{sweep}
 use Rattle.binar.specs.Layout.{Solvable, swept, solution}
-use Rattle.binar.proofs.Bits.{bit-lt, xor-lt}
-use Rattle.binar.proofs.Slice.{AreWords, Outside, length-words, row-kept, put-none, put-first}
+use Rattle.bit_rows.proofs.Bits.{bit-lt, xor-lt}
+use Rattle.bit_rows.proofs.Slice.{AreWords, Outside, length-words, row-kept, put-none, put-first}
 use Rattle.binar.proofs.Matrix.{value-words, words-words, words-append, words-take, words-drop, row-lt, bit-row, length-matrix, matrix-row, matrix-lt, row-in}
 use Rattle.binar.proofs.Identity.{value-mod, put-same}
 use Rattle.binar.proofs.Search.{if-one, if-zero}

@@ -6,24 +6,12 @@ use native.Mathlib.Nat.{mod-lt, zero-add}
 use native.Mathlib.Omega.{arith}
 use lib.ListN.{length, getD, length-map}
 use lib.Pow.{pow-pos, pow-lt}
-use Rattle.binar.specs.Row.{columns, rowSum, units}
+use Rattle.bit_rows.specs.Row.{columns, rowSum, units}
 use Rattle.binar.specs.Echelon.{echelonize, besideIdentity, Row, echelon, R, T}
 use Rattle.binar.specs.Space.{RowSpace, SameSpace}
-use Rattle.binar.proofs.Bits.{xor-mod, xor-shr, beside-mod, beside-shr}
+use Rattle.bit_rows.proofs.Bits.{xor-mod, xor-shr, beside-mod, beside-shr}
 use Rattle.binar.proofs.Lists.{All, all-getD, all-over, all-under, map-same, same-map}
-use Rattle.binar.proofs.Span.{
-  Additive,
-  Subspace,
-  below-subspace,
-  equal-subspace,
-  under-subspace,
-  rowSum-xor,
-  rowSum-head,
-  rowSum-unit,
-  space-subspace,
-  space-rows,
-  same-space,
-}
+use Rattle.binar.proofs.Span.{Additive, Subspace, below-subspace, equal-subspace, under-subspace, rowSum-xor, rowSum-head, rowSum-unit, space-subspace, space-rows, same-space}
 use Rattle.binar.proofs.Kept.{echelonize-length, echelonize-in, echelonize-out}
 
 -- the row space is kept, also of what an additive map makes of the rows

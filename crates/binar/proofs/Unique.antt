@@ -6,9 +6,9 @@ use native.Mathlib.Nat.{le-refl}
 use native.Mathlib.Decide.{decLt}
 use native.Mathlib.Omega.{arith}
 use lib.ListN.{length, take}
-use Rattle.binar.specs.Row.{_⊕_, bit, ifBit, rowSum}
+use Rattle.bit_rows.specs.Row.{_⊕_, bit, ifBit, rowSum}
 use Rattle.binar.specs.Space.{RowSpace, SameSpace, Independent}
-use Rattle.binar.proofs.Bits.{bit-of-zero, bit-xor, xor-zero-l, xor-eq-zero, xor-lt, Blank, blank-zero}
+use Rattle.bit_rows.proofs.Bits.{bit-of-zero, bit-xor, xor-zero-l, xor-eq-zero, xor-lt, Blank, blank-zero}
 use Rattle.binar.proofs.Lists.{All, all-map, all-zip}
 use Rattle.binar.proofs.Span.{sum-in, blank-subspace, space-subspace, space-head, space-tail, space-in}
 use Rattle.binar.proofs.Reduced.{Reduced, last, next, reduced-blank}

@@ -7,7 +7,7 @@ use mathlib.Core.List.{List, [], _∷_, map}
 use Prim.Native.Nat.{ℕ, zero, suc, _+_, _-_, _*_, _/_, _%_, _^_}
 use lib.Dec.{eqb}
 use lib.ListN.{length, getD, set, drop}
-use Rattle.binar.specs.Row.{_⊕_, bit, ifBit}
+use Rattle.bit_rows.specs.Row.{_⊕_, bit, ifBit}
 use Rattle.binar.specs.declared.echelon.Cell.{Cell}
 use Rattle.binar.specs.declared.echelon.Found.{Found}
 use Rattle.binar.specs.declared.echelon.Found.the-variants.{At, Nothing}

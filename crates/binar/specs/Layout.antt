@@ -9,7 +9,7 @@ use Rattle.binar.specs.declared.echelon.Formation.{Formation}
 use Rattle.binar.specs.declared.echelon.Formation.the-variants.{Rank, Misfit}
 use Rattle.binar.specs.declared.echelon.Solution.{Solution}
 use Rattle.binar.specs.declared.echelon.Solution.the-variants.{Set, NoSet}
-use Rattle.binar.specs.Words.{rowAt, matrix, image}
+use Rattle.bit_rows.specs.Words.{rowAt, matrix, image}
 use Rattle.binar.specs.Echelon.{Reduction, echelonize, besideIdentity, Row, EchelonForm}
 use Rattle.binar.specs.Solve.{sweep}
 

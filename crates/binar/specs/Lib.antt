@@ -1,5 +1,3 @@
-pub mod Row
-pub mod Words
 pub mod Echelon
 pub mod Solve
 pub mod Layout

@@ -3,7 +3,7 @@ use mathlib.Core.Path.{_≡_}
 use mathlib.Core.List.{List}
 use Prim.Native.Nat.{ℕ, _^_, _≤_, _<_}
 use lib.ListN.{length, getD}
-use Rattle.binar.specs.Row.{bit, rowSum}
+use Rattle.bit_rows.specs.Row.{bit, rowSum}
 
 -- v is in the row space of A: it is the sum of a subset of A's rows
 pub record RowSpace (A : List ℕ) (v : ℕ) : Type 0 where

@@ -6,10 +6,10 @@ use mathlib.Core.List.{List, map}
 use mathlib.Core.Option.{Option, some, none}
 use Prim.Native.Nat.{ℕ, _*_, _/_, _%_, _^_, _≤_, _<_}
 use lib.ListN.{length, getD, take}
-use Rattle.binar.specs.Row.{columns, rowSum, units}
+use Rattle.bit_rows.specs.Row.{columns, rowSum, units}
 use Rattle.binar.specs.Echelon.{EchelonForm, echelon, R, T, rank}
 use Rattle.binar.specs.Solve.{solved, transposeSolve}
-use Rattle.binar.specs.Words.{rowAt, matrix}
+use Rattle.bit_rows.specs.Words.{rowAt, matrix}
 use Rattle.binar.specs.Layout.{formStride, fits, formIn, Solvable, swept}
 use Rattle.binar.specs.declared.echelon.Formation.{Formation}
 use Rattle.binar.specs.declared.echelon.Formation.the-variants.{Rank, Misfit}

@@ -6,15 +6,15 @@ ghost use mathlib.Core.Path.{_≡_};
 ghost use Prim.Native.Nat.{_+_, _*_, _/_, _%_, _^_, _≤_, _<_};
 ghost use lib.Dec.{eqb};
 ghost use lib.ListN.{length, getD, drop};
-ghost use Rattle.binar.specs.Words.{rowAt, putRow, matrix, image};
+ghost use Rattle.bit_rows.specs.Words.{rowAt, putRow, matrix, image};
 ghost use Rattle.binar.specs.Echelon.{pivotOf, addToOthers, echelonize as echelonized, besideIdentity};
 ghost use Rattle.binar.specs.Layout.{laidOut, Shape, fits, FormIs, Solvable, swept, solution};
-use crate::row::add_if;
-use crate::row::bitxor_assign;
-use crate::row::clear_bits;
-use crate::row::index;
-use crate::row::is_zero;
-use crate::row::swap_rows;
+use bit_rows::row::add_if;
+use bit_rows::row::bitxor_assign;
+use bit_rows::row::clear_bits;
+use bit_rows::row::index;
+use bit_rows::row::is_zero;
+use bit_rows::row::swap_rows;
 
 // The cell of a matrix in row row and column col.
 pub struct Cell {

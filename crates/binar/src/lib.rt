@@ -1,9 +1,4 @@
-// Bit rows and their echelon form over GF(2), after the crate binar of microsoft/qdk-ec.
-//
-// Rows are stretches of one lent slice of 64-bit words, the lowest word first; the bit of column k is bit k % 64 of word
-// k / 64. A matrix is rows of stride words, row i at i * stride.
+// The echelon form of a matrix of bit rows over GF(2), after the crate binar of microsoft/qdk-ec.
 
-// One row, or two, in a slice.
-pub mod row;
 // The pivot search, the reduction and the transform.
 pub mod echelon;

@@ -6,15 +6,15 @@ use native.Mathlib.Omega.{arith}
 use borrow.Author.Tests.{lt-ltb, le-ltb}
 use Rattle.rolls.specs.declared.roll.Entry.{Entry as CodeEntry}
 use Rattle.rolls.specs.Answers.{toldEntry}
-use Rattle.rolls.specs.Bytes.{u16At}
+use Rattle.supports.specs.Bytes.{u16At}
 use Rattle.rolls.specs.Roll.{entryAt, countOf}
-use Rattle.rolls.specs.Told.{answer, refused, mapTold}
-use Rattle.joining.specs.Calls.{countsOf, bodyIn}
-use Rattle.joining.proofs.JoinLaws.{Joining, accepted-count, entry-refused, entry-past, entry-left, entry-right, body-refused, body-past, body-left, body-right}
-use Rattle.capi.specs.declared.answer.Answer.{Answer}
-use Rattle.capi.specs.Code.{codeRefusal, codeBody}
+use Rattle.supports.specs.Told.{answer, refused, mapTold}
+use Rattle.joined_lists.specs.Calls.{countsOf, bodyIn}
+use Rattle.joined_lists.proofs.JoinLaws.{Joining, accepted-count, entry-refused, entry-past, entry-left, entry-right, body-refused, body-past, body-left, body-right}
+use Rattle.answer_codes.specs.declared.answer.Answer.{Answer}
+use Rattle.answer_codes.specs.Code.{codeRefusal, codeBody}
 use Rattle.capi.specs.Contracts.{Locating}
-use Rattle.capi.specs.Stretch.{Stretch, stretchIn, stretchOf}
+use Rattle.answer_codes.specs.Stretch.{Stretch, stretchIn, stretchOf}
 
 -- the stretch, by the entry that the code read
 pub stretch-is : (roll : ℕ) (b : List ℕ) (n : ℕ) → countOf b ≡ answer n → (i : ℕ) (a : CodeEntry) → toldEntry a ≡ entryAt b (2 + 10 * i)

@@ -6,15 +6,15 @@ use Prim.Native.Nat.{ℕ}
 use lib.ListN.{length, take, drop}
 use Rattle.binar.specs.declared.echelon.Formation.the-variants.{Rank, Misfit}
 use Rattle.binar.specs.Layout.{laidOut, formStride, fits, formed, pick}
-use Rattle.rolls.specs.Told.{Told}
-use Rattle.pauli.specs.Writing.{toldBytes, leftIn}
-use Rattle.joining.specs.Calls.{bodyOf}
+use Rattle.supports.specs.Told.{Told}
+use Rattle.roll_paulis.specs.Writing.{toldBytes, leftIn}
+use Rattle.joined_lists.specs.Calls.{bodyOf}
 use Rattle.pauli_theory.specs.Membership.{Factorization}
-use Rattle.standard_form.specs.Area.{areaAfter}
+use Rattle.work_area.specs.Area.{areaAfter}
 use Rattle.pauli_group.specs.Calls.{toldMember, memberLeft}
-use Rattle.capi.specs.declared.answer.Answer.{Answer}
-use Rattle.capi.specs.Code.{codeNumber, codeBody, codeMember, codeForm}
-use Rattle.capi.specs.Stretch.{stretchOf, rollNumbered}
+use Rattle.answer_codes.specs.declared.answer.Answer.{Answer}
+use Rattle.answer_codes.specs.Code.{codeNumber, codeBody, codeMember, codeForm}
+use Rattle.answer_codes.specs.Stretch.{stretchOf, rollNumbered}
 
 -- a call that writes a roll, and uses no work area
 pub record Writing (result : Told (List ℕ)) (out : List ℕ) (r : Answer) (out′ : List ℕ) : Type 0 where

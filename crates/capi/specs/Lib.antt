@@ -1,3 +1,1 @@
-pub mod Stretch
-pub mod Code
 pub mod Contracts

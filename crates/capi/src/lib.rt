@@ -1,9 +1,5 @@
 // Every call for programs in C and Rust: slices pass as a pointer and a length, and the answer is a struct of numbers.
 
-// The answer of a call, and what codes each kind of answer.
-pub mod answer;
-// Promises by number.
-pub mod promise;
 // The calls on rolls alone.
 pub mod roll_calls;
 // The calls on one list.

@@ -1,17 +1,17 @@
 // The calls on two lists. Each lends a work area.
 ghost use lib.ListN.{length};
 ghost use Rattle.common_part.specs.Calls.{commonCall};
-ghost use Rattle.two_groups.specs.Calls.{twoLists, orderCall, moduloCall, quotientCall};
-ghost use Rattle.capi.specs.Code.{codeOrder, promiseNumbered};
+ghost use Rattle.comparison.specs.Calls.{twoLists, orderCall, moduloCall, quotientCall};
+ghost use Rattle.answer_codes.specs.Code.{codeOrder, promiseNumbered};
 ghost use Rattle.capi.specs.Contracts.{Telling, Listing};
-use crate::answer::Answer;
-use crate::answer::code_order;
-use crate::answer::code_wrote;
-use crate::promise::promise_numbered;
+use answer_codes::answer::Answer;
+use answer_codes::answer::code_order;
+use answer_codes::answer::code_wrote;
+use answer_codes::promise::promise_numbered;
 use common_part::common::bitand;
-use two_groups::modulo::modulo;
-use two_groups::order::partial_cmp;
-use two_groups::quotient::try_quotient;
+use comparison::order::partial_cmp;
+use group_modulo::modulo::modulo;
+use group_quotient::quotient::try_quotient;
 
 // Compares the groups of two lists.
 #[no_mangle]

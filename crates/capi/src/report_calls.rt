@@ -2,8 +2,8 @@
 ghost use lib.ListN.{length};
 ghost use Rattle.closing_report.specs.Listing.{listing, asked};
 ghost use Rattle.capi.specs.Contracts.{Listing};
-use crate::answer::Answer;
-use crate::answer::code_wrote;
+use answer_codes::answer::Answer;
+use answer_codes::answer::code_wrote;
 use closing_report::report::closing_report;
 
 // Writes the closing listing of an input.

@@ -2,26 +2,26 @@
 ghost use mathlib.Core.Path.{_≡_};
 ghost use Prim.Native.Nat.{_<_};
 ghost use Rattle.rolls.specs.Roll.{countOf};
-ghost use Rattle.rolls.specs.Told.{answer};
-ghost use Rattle.joining.specs.Calls.{productOf, joinOf, entryOf};
-ghost use Rattle.capi.specs.Code.{codeNumber, codeLooked, codeBody};
+ghost use Rattle.supports.specs.Told.{answer};
+ghost use Rattle.joined_lists.specs.Calls.{productOf, joinOf, entryOf};
+ghost use Rattle.answer_codes.specs.Code.{codeNumber, codeLooked, codeBody};
 ghost use Rattle.capi.specs.Contracts.{Writing, Locating};
-ghost use Rattle.capi.specs.Stretch.{stretchIn};
-use crate::answer::Answer;
-use crate::answer::code_count;
-use crate::answer::code_looked;
-use crate::answer::code_refusal;
-use crate::answer::code_values;
-use crate::answer::code_wrote;
-use joining::joined::CountsFound;
-use joining::joined::join;
-use joining::joined::joined_counts;
-use joining::joined::joined_entry;
+ghost use Rattle.answer_codes.specs.Stretch.{stretchIn};
+use answer_codes::answer::Answer;
+use answer_codes::answer::code_count;
+use answer_codes::answer::code_looked;
+use answer_codes::answer::code_refusal;
+use answer_codes::answer::code_values;
+use answer_codes::answer::code_wrote;
+use joined_lists::joined::CountsFound;
+use joined_lists::joined::joined_counts;
+use joined_lists::lookup::joined_entry;
+use joining::join::join;
 use joining::product::product;
-use rolls::refusal::Reason;
-use rolls::refusal::Refusal;
 use rolls::roll::check_roll;
 use rolls::roll::entry_at;
+use supports::refusal::Reason;
+use supports::refusal::Refusal;
 
 // How many Paulis a roll has.
 #[no_mangle]

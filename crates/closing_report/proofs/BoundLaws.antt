@@ -12,11 +12,11 @@ use lib.Pow.{pow-mono}
 use lib.Seq.{take-at}
 use Rattle.pauli.specs.Pauli.{Pauli, consIf, select, indexedProduct}
 use Rattle.rolls.specs.Roll.{mostPaulis, Sparse, read, countOf}
-use Rattle.rolls.specs.RollTheorems.{All}
-use Rattle.pauli.specs.Sets.{members, pauliOf}
-use Rattle.rolls.specs.Told.{Told, answer, refused, mapTold}
-use Rattle.pauli.specs.Writing.{putBytes}
-use Rattle.joining.proofs.JoinLaws.{accepted-few}
+use Rattle.supports.specs.Support.{All}
+use Rattle.roll_paulis.specs.Sets.{members, pauliOf}
+use Rattle.supports.specs.Told.{Told, answer, refused, mapTold}
+use Rattle.roll_paulis.specs.Writing.{putBytes}
+use Rattle.joined_lists.proofs.JoinLaws.{accepted-few}
 use Rattle.rolls.proofs.Told.{test-pass}
 use Rattle.pauli_theory.specs.Group.{Promise, none as noPromise}
 use Rattle.pauli_theory.specs.Membership.{Factorization, outside, exponentLeft, withPhase, factorizationOf}
@@ -25,15 +25,15 @@ use Rattle.pauli_theory.proofs.Agree.{left-lt}
 use Rattle.pauli_theory.proofs.ByProducts.{rank-le}
 use Rattle.pauli_theory.proofs.IfZero.{ifZero-some}
 use Rattle.pauli_theory.proofs.OverPlaces.{countFrom, upTo}
-use Rattle.standard_form.specs.Area.{workWords, enough}
-use Rattle.standard_form.specs.Groups.{paulis}
-use Rattle.pauli_group.proofs.QuestionLaws.{indexes-below}
+use Rattle.work_area.specs.Area.{workWords, enough}
+use Rattle.group_form.specs.Groups.{paulis}
+use Rattle.indexed_factorization.proofs.QuestionLaws.{indexes-below}
 use Rattle.closing_report.specs.Bound.{mostText, AlwaysFits, NeverRefused}
-use Rattle.closing_report.specs.Decimal.{ascii, digits, digitsUpTo}
-use Rattle.closing_report.specs.Lines.{labelled, lineFeed, phasesText, abelianText, indexesText, firstLine, memberLine, memberLines, refusedLine}
+use Rattle.report_lines.specs.Decimal.{ascii, digits, digitsUpTo}
+use Rattle.report_lines.specs.Lines.{labelled, lineFeed, phasesText, abelianText, indexesText, firstLine, memberLine, memberLines, refusedLine}
 use Rattle.closing_report.specs.Listing.{rollsIn, report, orRefusedIn, listing}
 use Rattle.closing_report.specs.Stored.{Storable}
-use Rattle.closing_report.proofs.DecimalLaws.{few-digits}
+use Rattle.report_lines.proofs.DecimalLaws.{few-digits}
 use Rattle.pauli_theory.proofs.IndexSets.{members-upTo}
 use Rattle.closing_report.proofs.CallLaws.{call-told, call-put}
 use Rattle.closing_report.proofs.RefusalLaws.{OfRoll, of-test, of-read}

@@ -5,28 +5,28 @@ use mathlib.Core.Option.{Option}
 use Prim.Native.Nat.{ℕ, _≤_, _<_}
 use borrow.Author.Tests.{lt-ltb, le-ltb}
 use lib.ListN.{length, take, drop}
-use Rattle.rolls.specs.declared.refusal.Refusal.{Refusal}
-use Rattle.pauli.specs.declared.write.Wrote.{Wrote}
-use Rattle.pauli.specs.declared.write.Wrote.the-variants.{Refused}
-use Rattle.rolls.specs.Answers.{toldRefusal}
-use Rattle.pauli.specs.Answers.{toldWrote}
-use Rattle.joining.specs.Calls.{Lists, readBoth}
-use Rattle.pauli.specs.Condense.{listOf}
+use Rattle.supports.specs.declared.refusal.Refusal.{Refusal}
+use Rattle.roll_paulis.specs.declared.write.Wrote.{Wrote}
+use Rattle.roll_paulis.specs.declared.write.Wrote.the-variants.{Refused}
+use Rattle.supports.specs.Refusals.{toldRefusal}
+use Rattle.roll_paulis.specs.Answers.{toldWrote}
+use Rattle.joined_lists.specs.Calls.{Lists, readBoth}
+use Rattle.roll_paulis.specs.Condense.{listOf}
 use Rattle.pauli.specs.Pauli.{Pauli}
 use Rattle.rolls.specs.Roll.{countOf}
-use Rattle.rolls.specs.Told.{Told, answer, refused, refuseIf, andThen}
-use Rattle.pauli.specs.Writing.{putBytes, toldBytes, leftIn}
-use Rattle.joining.proofs.JoinLaws.{accepted, count-refused}
+use Rattle.supports.specs.Told.{Told, answer, refused, refuseIf, andThen}
+use Rattle.roll_paulis.specs.Writing.{putBytes, toldBytes, leftIn}
+use Rattle.joined_lists.proofs.JoinLaws.{accepted, count-refused}
 use Rattle.pauli_theory.specs.Group.{none}
 use Rattle.pauli_theory.specs.Membership.{Factorization, factorizationOf}
 use Rattle.pauli_theory.specs.Standard.{rank, nonabelian, phaseStep}
-use Rattle.standard_form.specs.Area.{workWords, enough, cleared, areaAfter}
-use Rattle.standard_form.specs.Groups.{paulis}
-use Rattle.standard_form.proofs.GroupedLaws.{cleared-part}
+use Rattle.work_area.specs.Area.{workWords, enough, cleared, areaAfter}
+use Rattle.group_form.specs.Groups.{paulis}
+use Rattle.group_form.proofs.GroupedLaws.{cleared-part}
 use Rattle.closing_report.specs.Contract.{ReportCall}
-use Rattle.closing_report.specs.Lines.{firstLine, memberLines, refusedLine}
+use Rattle.report_lines.specs.Lines.{firstLine, memberLines, refusedLine}
 use Rattle.closing_report.specs.Listing.{Rolls, rollsIn, report, orRefusedIn, listing, asked}
-use Rattle.closing_report.proofs.PutLaws.{text-told, text-left}
+use Rattle.report_lines.proofs.PutLaws.{text-told, text-left}
 
 module _ (input : List ℕ) (words : ℕ) where
   -- a roll is refused: the line that is printed, and no use of the work area

@@ -1,80 +1,22 @@
 -- The example holds by computation.
 use mathlib.Core.Path.{refl, sym, ap, _∙_}
 use lib.Count.{ones}
-use Rattle.binar.specs.Row.{_⊕_, bit, dot, ifBit}
-use Rattle.binar.specs.Echelon.{
-  inColumn,
-  byColumns,
-  pivotOf,
-  swapRows,
-  clear,
-  unless,
-  addToOthers,
-  placePivot,
-  withPivot,
-  onFound,
-  echelonizeFrom,
-  echelonize,
-  besideIdentity,
-  echelon,
-  rank as echelonRank,
-}
+use Rattle.bit_rows.specs.Row.{_⊕_, bit, dot, ifBit}
+use Rattle.binar.specs.Echelon.{inColumn, byColumns, pivotOf, swapRows, clear, unless, addToOthers, placePivot, withPivot, onFound, echelonizeFrom, echelonize, besideIdentity, echelon, rank as echelonRank}
 use Rattle.binar.specs.Solve.{sweep, solved, transposeSolve}
-use Rattle.rolls.specs.Bytes.{u16At, u32At, le16, le32, numbersAt, le32s}
+use Rattle.supports.specs.Bytes.{u16At, u32At, le16, le32, numbersAt, le32s}
 use Rattle.pauli.specs.Pauli.{I, times, anticommute, orderFour, productFrom, product, consIf, select, indexedProduct}
-use Rattle.rolls.specs.Roll.{
-  mostPaulis,
-  mostQubits,
-  highestQubit,
-  entryAt,
-  entriesAt,
-  paulisAt,
-  checkEntries,
-  checkSet,
-  checkSets,
-  insert,
-  insertAll,
-  numbers,
-  support,
-  read,
-  entry,
-  table,
-  bodies,
-  encode,
-}
-use Rattle.pauli.specs.Sets.{setOf, membersFrom, members, pauliOf, condense, expand, rowOf, pauliOfRow}
-use Rattle.rolls.specs.Told.{Told, refuseIf, andThen}
-use Rattle.joining.specs.Calls.{Lists, readBoth}
-use Rattle.pauli_theory.specs.Standard.{
-  usedBy,
-  supportOf,
-  formOf,
-  rank,
-  phaseOf,
-  ifZero,
-  zeroRows,
-  nonzeroRows,
-  modulusOf,
-  modulus,
-  rowGenerators,
-  someOrderFour,
-  anticommutesWithSome,
-  someAnticommute,
-  phase,
-  appended,
-  exponentMod,
-  standard,
-  nonabelian,
-  bare,
-  someImaginary,
-  someMinus,
-  phaseStep,
-}
+use Rattle.rolls.specs.Roll.{mostPaulis, highestQubit, entryAt, entriesAt, paulisAt, checkEntries, checkSet, checkSets, numbers, support, read, entry, table, bodies, encode}
+use Rattle.supports.specs.Support.{mostQubits, insert, insertAll}
+use Rattle.roll_paulis.specs.Sets.{setOf, membersFrom, members, pauliOf, condense, expand, rowOf, pauliOfRow}
+use Rattle.supports.specs.Told.{Told, refuseIf, andThen}
+use Rattle.joined_lists.specs.Calls.{Lists, readBoth}
+use Rattle.pauli_theory.specs.Standard.{usedBy, supportOf, formOf, rank, phaseOf, ifZero, zeroRows, nonzeroRows, modulusOf, modulus, rowGenerators, someOrderFour, anticommutesWithSome, someAnticommute, phase, appended, exponentMod, standard, nonabelian, bare, someImaginary, someMinus, phaseStep}
 use Rattle.pauli_theory.specs.Membership.{outside, exponentLeft, withPhase, factorizationOf}
-use Rattle.standard_form.specs.Area.{enough, areaAfter}
-use Rattle.standard_form.specs.Groups.{paulis}
-use Rattle.closing_report.specs.Decimal.{ascii, digitsUpTo, digits}
-use Rattle.closing_report.specs.Lines.{lineFeed, labelled, phasesText, abelianText, firstLine, indexesText, memberLine, memberLines, refusedLine}
+use Rattle.work_area.specs.Area.{enough, areaAfter}
+use Rattle.group_form.specs.Groups.{paulis}
+use Rattle.report_lines.specs.Decimal.{ascii, digitsUpTo, digits}
+use Rattle.report_lines.specs.Lines.{lineFeed, labelled, phasesText, abelianText, firstLine, indexesText, memberLine, memberLines, refusedLine}
 use Rattle.closing_report.specs.Listing.{rollsIn, report, orRefusedIn, listing, asked}
 use Rattle.closing_report.specs.Example.{inputOf, generators, elements, text, Example}
 use Rattle.closing_report.proofs.CallLaws.{call-told, call-put}

@@ -6,8 +6,8 @@ use native.Mathlib.Omega.{arith}
 use borrow.Author.Tests.{lt-ltb, le-ltb}
 use lib.ListN.{length, take, drop, length-drop}
 use lib.Seq.{take-all}
-use Rattle.rolls.specs.Bytes.{u32At}
-use Rattle.rolls.specs.Told.{answer, refused}
+use Rattle.supports.specs.Bytes.{u32At}
+use Rattle.supports.specs.Told.{answer, refused}
 use Rattle.rolls.proofs.Told.{test-pass, test-refuses}
 use Rattle.closing_report.specs.declared.input.Split.{Split}
 use Rattle.closing_report.specs.declared.input.Split.the-variants.{At}

@@ -1,7 +1,3 @@
-pub mod DecimalLaws
-pub mod PutLaws
-pub mod IndexLaws
-pub mod LineLaws
 pub mod StoredLaws
 pub mod RefusalLaws
 pub mod InputLaws

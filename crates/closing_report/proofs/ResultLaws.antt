@@ -7,14 +7,14 @@ use native.Mathlib.Omega.{arith}
 use lib.ListN.{length, getD, take}
 use lib.Seq.{take-all}
 use Rattle.rolls.specs.Roll.{Sparse}
-use Rattle.pauli.specs.Condense.{nothing}
-use Rattle.pauli.specs.Sets.{pauliOf}
+use Rattle.roll_paulis.specs.Condense.{nothing}
+use Rattle.roll_paulis.specs.Sets.{pauliOf}
 use Rattle.pauli_theory.specs.Membership.{Factorization, factorizationOf}
-use Rattle.standard_form.specs.Area.{targetAt, spareAt, strideOf, Outside}
-use Rattle.standard_form.specs.Groups.{paulis, Grouped}
-use Rattle.standard_form.specs.Members.{Asked}
-use Rattle.standard_form.proofs.AreaLaws.{form-room}
-use Rattle.standard_form.proofs.KeptLaws.{grouped-target, grouped-spare}
+use Rattle.work_area.specs.Area.{targetAt, spareAt, strideOf, Outside}
+use Rattle.group_form.specs.Groups.{paulis, Grouped}
+use Rattle.membership.specs.Members.{Asked}
+use Rattle.work_area.proofs.AreaLaws.{form-room}
+use Rattle.group_form.proofs.KeptLaws.{grouped-target, grouped-spare}
 use Rattle.closing_report.specs.Stored.{storedIn, Stored}
 use Rattle.closing_report.proofs.StoredLaws.{stored-kept, results-next}
 

@@ -8,11 +8,11 @@ use native.Mathlib.Omega.{arith}
 use borrow.Author.Tests.{lt-ltb, le-ltb}
 use lib.ListN.{length, getD, set, take, length-set, length-append}
 use lib.Seq.{getD-set-same, getD-set-other, take-suc}
-use Rattle.pauli.proofs.Puts.{Left, left-done, left-room, left-step}
+use Rattle.roll_paulis.proofs.Puts.{Left, left-done, left-room, left-step}
 use Rattle.pauli_theory.specs.Membership.{Factorization}
-use Rattle.standard_form.specs.Area.{Outside}
-use Rattle.closing_report.specs.Lines.{memberLine, memberLines}
-use Rattle.closing_report.specs.Put.{Put}
+use Rattle.work_area.specs.Area.{Outside}
+use Rattle.report_lines.specs.Lines.{memberLine, memberLines}
+use Rattle.report_lines.specs.Put.{Put}
 use Rattle.closing_report.specs.Stored.{resultIn, storedIn, Stored}
 
 -- ---- one result

@@ -3,10 +3,10 @@ use mathlib.Core.Path.{_≡_}
 use mathlib.Core.List.{List}
 use Prim.Native.Nat.{ℕ, _≤_}
 use lib.ListN.{length, take}
-use Rattle.pauli.specs.Answers.{toldWrote}
-use Rattle.rolls.specs.Told.{answer}
-use Rattle.pauli.specs.declared.write.Wrote.{Wrote}
-use Rattle.standard_form.specs.Area.{workWords}
+use Rattle.roll_paulis.specs.Answers.{toldWrote}
+use Rattle.supports.specs.Told.{answer}
+use Rattle.roll_paulis.specs.declared.write.Wrote.{Wrote}
+use Rattle.work_area.specs.Area.{workWords}
 use Rattle.closing_report.specs.Contract.{ReportCall}
 use Rattle.closing_report.specs.Listing.{listing}
 

@@ -3,10 +3,10 @@ use mathlib.Core.Path.{_≡_}
 use mathlib.Core.List.{List}
 use Prim.Native.Nat.{ℕ}
 use lib.ListN.{length}
-use Rattle.pauli.specs.Answers.{toldWrote}
-use Rattle.pauli.specs.Writing.{toldBytes, leftIn}
-use Rattle.pauli.specs.declared.write.Wrote.{Wrote}
-use Rattle.standard_form.specs.Area.{areaAfter}
+use Rattle.roll_paulis.specs.Answers.{toldWrote}
+use Rattle.roll_paulis.specs.Writing.{toldBytes, leftIn}
+use Rattle.roll_paulis.specs.declared.write.Wrote.{Wrote}
+use Rattle.work_area.specs.Area.{areaAfter}
 use Rattle.closing_report.specs.Listing.{listing, asked}
 
 pub record ReportCall (input work out : List ℕ) (r : Wrote) (work′ out′ : List ℕ) : Type 0 where

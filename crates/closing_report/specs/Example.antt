@@ -3,15 +3,15 @@ use mathlib.Core.Path.{_≡_}
 use mathlib.Core.List.{List, [], _∷_, _++_}
 use Prim.Native.Nat.{ℕ, _≤_}
 use lib.ListN.{length}
-use Rattle.rolls.specs.Bytes.{le32}
+use Rattle.supports.specs.Bytes.{le32}
 use Rattle.rolls.specs.Roll.{Sparse, encode}
-use Rattle.rolls.specs.Told.{answer}
-use Rattle.pauli.specs.Answers.{toldWrote}
-use Rattle.pauli.specs.Writing.{putBytes}
-use Rattle.pauli.specs.declared.write.Wrote.{Wrote}
-use Rattle.standard_form.specs.Area.{workWords, cleared}
+use Rattle.supports.specs.Told.{answer}
+use Rattle.roll_paulis.specs.Answers.{toldWrote}
+use Rattle.roll_paulis.specs.Writing.{putBytes}
+use Rattle.roll_paulis.specs.declared.write.Wrote.{Wrote}
+use Rattle.work_area.specs.Area.{workWords, cleared}
 use Rattle.closing_report.specs.Contract.{ReportCall}
-use Rattle.closing_report.specs.Decimal.{ascii}
+use Rattle.report_lines.specs.Decimal.{ascii}
 use Rattle.closing_report.specs.Listing.{listing}
 
 -- a length, a generator roll of that length, and an element roll

@@ -1,6 +1,3 @@
-pub mod Decimal
-pub mod Put
-pub mod Lines
 pub mod Listing
 pub mod Split
 pub mod Contract

@@ -3,17 +3,17 @@ use mathlib.Core.List.{List, _++_, map}
 use Prim.Native.Nat.{ℕ, _+_}
 use lib.Dec.{ltb}
 use lib.ListN.{length, take, drop}
-use Rattle.rolls.specs.Bytes.{u32At}
-use Rattle.joining.specs.Calls.{Lists, readBoth}
+use Rattle.supports.specs.Bytes.{u32At}
+use Rattle.joined_lists.specs.Calls.{Lists, readBoth}
 use Rattle.pauli.specs.Pauli.{Pauli}
 use Rattle.rolls.specs.Roll.{read}
-use Rattle.rolls.specs.Told.{Told, answer, refused, refuseIf, andThen}
+use Rattle.supports.specs.Told.{Told, answer, refused, refuseIf, andThen}
 use Rattle.pauli_theory.specs.Group.{none}
 use Rattle.pauli_theory.specs.Standard.{rank, nonabelian, phaseStep}
 use Rattle.pauli_theory.specs.Membership.{factorizationOf}
-use Rattle.standard_form.specs.Area.{enough}
-use Rattle.standard_form.specs.Groups.{paulis}
-use Rattle.closing_report.specs.Lines.{firstLine, memberLines, refusedLine}
+use Rattle.work_area.specs.Area.{enough}
+use Rattle.group_form.specs.Groups.{paulis}
+use Rattle.report_lines.specs.Lines.{firstLine, memberLines, refusedLine}
 
 -- "at most 65,536 bytes"
 abbrev pub mostInput : ℕ

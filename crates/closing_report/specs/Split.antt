@@ -2,7 +2,7 @@
 use mathlib.Core.List.{List}
 use Prim.Native.Nat.{ℕ, _-_, _≤_}
 use lib.ListN.{take, drop}
-use Rattle.rolls.specs.Told.{Told, answer, refused}
+use Rattle.supports.specs.Told.{Told, answer, refused}
 use Rattle.closing_report.specs.declared.input.Split.{Split}
 use Rattle.closing_report.specs.declared.input.Split.the-variants.{At, Cut}
 use Rattle.closing_report.specs.Listing.{Rolls}

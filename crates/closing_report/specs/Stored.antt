@@ -7,7 +7,7 @@ use Prim.Native.Nat.{ℕ, zero, suc, _+_, _*_, _^_, _<_}
 use lib.Dec.{ltb}
 use lib.ListN.{getD}
 use Rattle.pauli_theory.specs.Membership.{Factorization}
-use Rattle.standard_form.specs.Area.{Outside}
+use Rattle.work_area.specs.Area.{Outside}
 
 -- the result whose five words start at word i: the exponent, or 4 for an element that is no member; the two words of the index set;
 -- and two that say nothing

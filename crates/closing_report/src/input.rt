@@ -3,7 +3,7 @@ ghost use mathlib.Core.Path.{_≡_};
 ghost use lib.ListN.{length};
 ghost use Rattle.closing_report.specs.Listing.{rollsIn};
 ghost use Rattle.closing_report.specs.Split.{rollsTold, SplitWithin};
-use rolls::bytes::u32_at;
+use supports::bytes::u32_at;
 
 // An input of more bytes is refused.
 pub const MOST_INPUT: usize = 65536;

@@ -1,9 +1,5 @@
 // The closing listing as bytes.
 
-// Texts and decimal numbers.
-pub(crate) mod text;
-// The lines of the listing.
-pub(crate) mod lines;
 // Results of membership in the work area, and their lines.
 pub(crate) mod stored;
 // A whole text, written where there is room.

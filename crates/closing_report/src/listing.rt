@@ -3,21 +3,21 @@ ghost use mathlib.Core.Path.{_≡_};
 ghost use mathlib.Core.List.{_++_};
 ghost use Prim.Native.Nat.{_+_, _*_, _≤_};
 ghost use lib.ListN.{length};
-ghost use Rattle.rolls.specs.Answers.{numberOf};
-ghost use Rattle.pauli.specs.Answers.{toldWrote};
-ghost use Rattle.rolls.specs.Told.{answer};
-ghost use Rattle.pauli.specs.Writing.{toldBytes, leftIn};
-ghost use Rattle.closing_report.specs.Lines.{firstLine, memberLines, refusedLine};
+ghost use Rattle.supports.specs.Refusals.{numberOf};
+ghost use Rattle.roll_paulis.specs.Answers.{toldWrote};
+ghost use Rattle.supports.specs.Told.{answer};
+ghost use Rattle.roll_paulis.specs.Writing.{toldBytes, leftIn};
+ghost use Rattle.report_lines.specs.Lines.{firstLine, memberLines, refusedLine};
 ghost use Rattle.closing_report.specs.Stored.{storedIn};
-use crate::lines::first_line_length;
-use crate::lines::put_first_line;
-use crate::lines::put_refused_line;
-use crate::lines::refused_line_length;
 use crate::stored::lines_length;
 use crate::stored::put_lines;
-use pauli::write::Wrote;
-use rolls::refusal::Reason;
-use rolls::refusal::Refusal;
+use report_lines::lines::first_line_length;
+use report_lines::lines::put_first_line;
+use report_lines::lines::put_refused_line;
+use report_lines::lines::refused_line_length;
+use roll_paulis::write::Wrote;
+use supports::refusal::Reason;
+use supports::refusal::Refusal;
 
 // Writes the first line and the lines of the m results from word base on.
 pub(crate) fn write_listing(

@@ -5,14 +5,14 @@ ghost use mathlib.Core.Option.{some, none};
 ghost use Prim.Native.Nat.{_+_, _*_, _≤_, _<_};
 ghost use lib.ListN.{length};
 ghost use Rattle.pauli.specs.Signed.{setIn};
-ghost use Rattle.closing_report.specs.Lines.{memberLine, memberLines};
-ghost use Rattle.closing_report.specs.Put.{Put};
+ghost use Rattle.report_lines.specs.Lines.{memberLine, memberLines};
+ghost use Rattle.report_lines.specs.Put.{Put};
 ghost use Rattle.closing_report.specs.Stored.{resultIn, storedIn, Stored};
-use crate::lines::member_line_length;
-use crate::lines::other_line_length;
-use crate::lines::put_member_line;
-use crate::lines::put_other_line;
 use pauli::signed::Places;
+use report_lines::lines::member_line_length;
+use report_lines::lines::other_line_length;
+use report_lines::lines::put_member_line;
+use report_lines::lines::put_other_line;
 
 // The exponent's word of an element that is no member.
 const NO_MEMBER: u64 = 4;

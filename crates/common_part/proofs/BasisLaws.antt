@@ -10,16 +10,16 @@ use Rattle.binar.specs.Layout.{formIn}
 use Rattle.binar.proofs.Bounds.{rank-rows}
 use Rattle.binar.proofs.Lists.{all-of, all-map, all-join, map-same}
 use Rattle.binar.proofs.Theorems.{transform-law}
-use Rattle.rolls.specs.Roll.{Sparse, support, mostQubits}
-use Rattle.rolls.specs.RollTheorems.{All, Rising}
-use Rattle.rolls.specs.Known.{Gathered}
-use Rattle.rolls.proofs.Lists.{in-getD}
-use Rattle.pauli.specs.Condense.{condensed}
+use Rattle.rolls.specs.Roll.{Sparse, support}
+use Rattle.supports.specs.Support.{mostQubits, All, Rising}
+use Rattle.supports.specs.Known.{Gathered}
+use Rattle.supports.proofs.Lists.{in-getD}
+use Rattle.roll_paulis.specs.Condense.{condensed}
 use Rattle.pauli.specs.Pauli.{Pauli, normal, indexedProduct}
 use Rattle.pauli.specs.Signed.{listIn}
-use Rattle.pauli.specs.Writing.{OnPlaces}
+use Rattle.roll_paulis.specs.Writing.{OnPlaces}
 use Rattle.pauli.proofs.Algebra.{normal-lt}
-use Rattle.pauli.proofs.Writers.{length-list}
+use Rattle.roll_paulis.proofs.Writers.{length-list}
 use Rattle.pauli_theory.specs.Standard.{supportOf, standard}
 use Rattle.pauli_theory.specs.CommonPlaces.{formOfPlaces, dependencyProducts, basisProducts, commonProducts}
 use Rattle.pauli_theory.specs.ModuloPlaces.{movedPauli}
@@ -31,14 +31,14 @@ use Rattle.pauli_theory.proofs.Placed.{condensed-on}
 use Rattle.pauli_theory.proofs.Rows.{support-rises}
 use Rattle.pauli_theory.proofs.StandardLaw.{standard-law}
 use Rattle.pauli_theory.proofs.Written.{support-of}
-use Rattle.standard_form.specs.Area.{standardAt, spareAt, rowWords, strideOf, Outside}
-use Rattle.standard_form.specs.Groups.{paulis, overSupport, Grouped}
-use Rattle.standard_form.specs.Lists.{rowOver, formOver, productsBy}
-use Rattle.standard_form.proofs.AreaLaws.{form-room-more}
-use Rattle.standard_form.proofs.BuildLaws.{products-rows}
-use Rattle.standard_form.proofs.GroupLaws.{known-is, places-are, places-few, paulis-append}
-use Rattle.standard_form.proofs.ListLaws.{list-append, list-kept, list-kept-after}
-use Rattle.two_groups.specs.Moved.{Movable, MovablePauli}
+use Rattle.work_area.specs.Area.{standardAt, spareAt, rowWords, strideOf, Outside}
+use Rattle.group_form.specs.Groups.{paulis, overSupport, Grouped}
+use Rattle.work_area.specs.Lists.{rowOver, formOver, productsBy}
+use Rattle.work_area.proofs.AreaLaws.{form-room-more}
+use Rattle.group_form.proofs.BuildLaws.{products-rows}
+use Rattle.group_form.proofs.GroupLaws.{known-is, places-are, places-few, paulis-append}
+use Rattle.work_area.proofs.ListLaws.{list-append, list-kept, list-kept-after}
+use Rattle.group_modulo.specs.Moved.{Movable, MovablePauli}
 use Rattle.common_part.specs.Shared.{Joint, standardOver, Stack, basisOver}
 
 -- ---- the joint support

@@ -7,15 +7,15 @@ use native.Mathlib.Omega.{arith}
 use lib.ListN.{length, getD, take}
 use Rattle.binar.proofs.Lists.{all-map, all-over, all-under}
 use Rattle.rolls.specs.Roll.{countOf}
-use Rattle.rolls.specs.RollTheorems.{All, Rising}
-use Rattle.rolls.specs.Told.{Told, answer, refused, mapTold}
-use Rattle.pauli.specs.Condense.{listOf, condensed}
+use Rattle.supports.specs.Support.{All, Rising}
+use Rattle.supports.specs.Told.{Told, answer, refused, mapTold}
+use Rattle.roll_paulis.specs.Condense.{listOf, condensed}
 use Rattle.pauli.specs.Pauli.{Pauli}
-use Rattle.pauli.specs.PauliTheorems.{On, PauliOn}
-use Rattle.pauli.specs.Sets.{condense}
+use Rattle.roll_paulis.specs.PauliTheorems.{On, PauliOn}
+use Rattle.roll_paulis.specs.Sets.{condense}
 use Rattle.pauli.specs.Signed.{listIn}
-use Rattle.pauli.specs.Writing.{OnPlaces, rollOver, toldBytes, leftIn}
-use Rattle.pauli.proofs.Places.{condense-bit}
+use Rattle.roll_paulis.specs.Writing.{OnPlaces, rollOver, toldBytes, leftIn}
+use Rattle.roll_paulis.proofs.Places.{condense-bit}
 use Rattle.pauli_theory.specs.Group.{Promise}
 use Rattle.pauli_theory.specs.Standard.{supportOf, phaseStep}
 use Rattle.pauli_theory.specs.Common.{commonBasis, withExponent, consSome, phasesFrom, commonPhases, commonPart, lesser, bitand}
@@ -29,14 +29,14 @@ use Rattle.pauli_theory.proofs.ModuloPlaces.{joined}
 use Rattle.pauli_theory.proofs.Placed.{condensed-on}
 use Rattle.pauli_theory.proofs.Products.{indexed-lt}
 use Rattle.pauli_theory.proofs.Rows.{support-rises}
-use Rattle.joining.proofs.JoinLaws.{Joining}
-use Rattle.standard_form.specs.Area.{spareAt, workWords, areaAfter}
-use Rattle.standard_form.specs.Groups.{paulis, overSupport}
-use Rattle.standard_form.proofs.GroupedLaws.{list-length}
-use Rattle.two_groups.specs.Calls.{Pair, twoLists}
+use Rattle.joined_lists.proofs.JoinLaws.{Joining}
+use Rattle.work_area.specs.Area.{spareAt, workWords, areaAfter}
+use Rattle.group_form.specs.Groups.{paulis, overSupport}
+use Rattle.group_form.proofs.GroupedLaws.{list-length}
+use Rattle.comparison.specs.Calls.{Pair, twoLists}
 use Rattle.common_part.specs.Calls.{listBytes, commonBytes, commonCall}
-use Rattle.two_groups.proofs.OrderLaws.{pair-long}
-use Rattle.two_groups.specs.Moved.{Movable, MovablePauli}
+use Rattle.comparison.proofs.OrderLaws.{pair-long}
+use Rattle.group_modulo.specs.Moved.{Movable, MovablePauli}
 use Rattle.common_part.specs.Shared.{Joint, standardOver, basisOver, exponentFor, noted, sharedNoted}
 
 pub lists-few : (l r : List ℕ) (nl nr : ℕ) → countOf l ≡ answer nl → countOf r ≡ answer nr → nl + nr ≤ 128

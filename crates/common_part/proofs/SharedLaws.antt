@@ -13,16 +13,16 @@ use Rattle.binar.specs.Layout.{formIn}
 use Rattle.binar.specs.Solve.{transposeSolve}
 use Rattle.pauli.specs.declared.signed.Pauli.{Pauli as Held}
 use Rattle.pauli.specs.Pauli.{Pauli, I, normal, indexedProduct}
-use Rattle.pauli.specs.Writing.{OnPlaces, rollOver}
-use Rattle.pauli.specs.Condense.{listOf}
+use Rattle.roll_paulis.specs.Writing.{OnPlaces, rollOver}
+use Rattle.roll_paulis.specs.Condense.{listOf}
 use Rattle.rolls.specs.Roll.{countOf}
-use Rattle.rolls.specs.Told.{answer}
-use Rattle.pauli.proofs.Writers.{length-list}
-use Rattle.rolls.specs.RollTheorems.{All}
+use Rattle.supports.specs.Told.{answer}
+use Rattle.roll_paulis.proofs.Writers.{length-list}
+use Rattle.supports.specs.Support.{All}
 use Rattle.binar.proofs.Lists.{all-get}
 use Rattle.pauli.specs.Signed.{held, pauliIn, pauliWords, listIn}
 use Rattle.pauli.proofs.Algebra.{pauli-path}
-use Rattle.pauli.proofs.Places.{condense-lt}
+use Rattle.roll_paulis.proofs.Places.{condense-lt}
 use Rattle.pauli_theory.specs.Standard.{supportOf, ifZero, phase}
 use Rattle.pauli_theory.proofs.OverPlaces.{places-on, places-echelon}
 use Rattle.pauli_theory.proofs.SymplecticPlaces.{written-placed}
@@ -31,16 +31,16 @@ use Rattle.pauli_theory.specs.CommonPlaces.{formOfPlaces, sharedExponentFrom, s
 use Rattle.pauli_theory.specs.ModuloPlaces.{movedSet, movedPauli}
 use Rattle.pauli_theory.proofs.CommonWritten.{shared-append, phases-next}
 use Rattle.pauli_theory.proofs.IfZero.{ifZero-zero, ifZero-more}
-use Rattle.standard_form.specs.Area.{targetAt, listAt, spareAt, rowWords, strideOf, Outside}
-use Rattle.standard_form.specs.Groups.{paulis, overSupport, Grouped}
-use Rattle.standard_form.specs.Lists.{rowOver}
-use Rattle.standard_form.proofs.FactorLaws.{grouped-solvable}
-use Rattle.standard_form.proofs.GroupedLaws.{list-length, list-few, group-places}
-use Rattle.standard_form.proofs.AreaLaws.{form-room}
-use Rattle.standard_form.proofs.ListLaws.{pauli-same, list-same, list-at, on-places-at, list-append, list-snoc, list-kept, list-kept-after, pauli-kept-after, outside-refl, list-store, store-further}
-use Rattle.standard_form.proofs.SolveLaws.{solvable-kept, form-kept}
+use Rattle.work_area.specs.Area.{targetAt, listAt, spareAt, rowWords, strideOf, Outside}
+use Rattle.group_form.specs.Groups.{paulis, overSupport, Grouped}
+use Rattle.work_area.specs.Lists.{rowOver}
+use Rattle.membership.proofs.FactorLaws.{grouped-solvable}
+use Rattle.group_form.proofs.GroupedLaws.{list-length, list-few, group-places}
+use Rattle.work_area.proofs.AreaLaws.{form-room}
+use Rattle.work_area.proofs.ListLaws.{pauli-same, list-same, list-at, on-places-at, list-append, list-snoc, list-kept, list-kept-after, pauli-kept-after, outside-refl, list-store, store-further}
+use Rattle.membership.proofs.SolveLaws.{solvable-kept, form-kept}
 use Rattle.common_part.specs.Calls.{listBytes}
-use Rattle.two_groups.specs.Moved.{MovablePauli}
+use Rattle.group_modulo.specs.Moved.{MovablePauli}
 use Rattle.common_part.specs.Shared.{Solving, exponentOver, exponentFor, noted, sharedNoted, exponentFound}
 
 pub mod-le : (n m : ℕ) → n % m ≤ n

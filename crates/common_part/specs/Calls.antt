@@ -2,12 +2,12 @@
 use mathlib.Core.List.{List, map}
 use Prim.Native.Nat.{ℕ}
 use Rattle.rolls.specs.Roll.{write}
-use Rattle.rolls.specs.Told.{Told, mapTold}
+use Rattle.supports.specs.Told.{Told, mapTold}
 use Rattle.pauli.specs.Pauli.{Pauli}
-use Rattle.pauli.specs.Sets.{sparseOf}
+use Rattle.roll_paulis.specs.Sets.{sparseOf}
 use Rattle.pauli_theory.specs.Common.{bitand}
 use Rattle.pauli_theory.specs.Group.{Promise}
-use Rattle.two_groups.specs.Calls.{Pair, twoLists}
+use Rattle.comparison.specs.Calls.{Pair, twoLists}
 
 -- a list as a written roll
 unfoldable pub listBytes : List Pauli → List ℕ

@@ -3,12 +3,12 @@ use mathlib.Core.Path.{_≡_}
 use mathlib.Core.List.{List}
 use Prim.Native.Nat.{ℕ}
 use lib.ListN.{length}
-use Rattle.pauli.specs.declared.write.Wrote.{Wrote}
-use Rattle.pauli.specs.Answers.{toldWrote}
-use Rattle.pauli.specs.Writing.{toldBytes, leftIn}
+use Rattle.roll_paulis.specs.declared.write.Wrote.{Wrote}
+use Rattle.roll_paulis.specs.Answers.{toldWrote}
+use Rattle.roll_paulis.specs.Writing.{toldBytes, leftIn}
 use Rattle.pauli_theory.specs.Group.{Promise}
-use Rattle.standard_form.specs.Area.{areaAfter}
-use Rattle.two_groups.specs.Calls.{twoLists}
+use Rattle.work_area.specs.Area.{areaAfter}
+use Rattle.comparison.specs.Calls.{twoLists}
 use Rattle.common_part.specs.Calls.{commonCall}
 
 pub record CommonCall (left right : Promise) (l r work out : List ℕ) (wrote : Wrote) (work′ out′ : List ℕ) : Type 0 where

@@ -13,8 +13,8 @@ use Rattle.pauli_theory.specs.Standard.{supportOf, standard}
 use Rattle.pauli_theory.specs.Common.{withExponent}
 use Rattle.pauli_theory.specs.CommonPlaces.{formOfPlaces, commonProducts, sharedExponent, solvedExponent}
 use Rattle.pauli_theory.specs.ModuloPlaces.{movedPauli}
-use Rattle.standard_form.specs.Area.{targetAt, listAt, spareAt, rowWords, strideOf}
-use Rattle.standard_form.specs.Groups.{overSupport}
+use Rattle.work_area.specs.Area.{targetAt, listAt, spareAt, rowWords, strideOf}
+use Rattle.group_form.specs.Groups.{overSupport}
 
 -- ---- the common basis
 

@@ -3,18 +3,18 @@ ghost use mathlib.Core.Path.{_≡_};
 ghost use Prim.Native.Nat.{_+_, _≤_};
 ghost use lib.ListN.{length};
 ghost use Rattle.rolls.specs.Roll.{countOf};
-ghost use Rattle.rolls.specs.Told.{answer};
-ghost use Rattle.pauli.specs.Condense.{listOf};
+ghost use Rattle.supports.specs.Told.{answer};
+ghost use Rattle.roll_paulis.specs.Condense.{listOf};
 ghost use Rattle.pauli.specs.Signed.{listIn};
-ghost use Rattle.standard_form.specs.Area.{spareAt};
-ghost use Rattle.standard_form.specs.Groups.{paulis};
+ghost use Rattle.work_area.specs.Area.{spareAt};
+ghost use Rattle.group_form.specs.Groups.{paulis};
 ghost use Rattle.common_part.specs.Shared.{Joint, Stack, basisOver};
-use standard_form::area::SPARE;
-use standard_form::area::STANDARD;
-use standard_form::form::form_of;
-use standard_form::form::put_products;
-use standard_form::group::group_of;
-use two_groups::moved::move_list;
+use group_form::group::group_of;
+use group_modulo::moved::move_list;
+use work_area::area::SPARE;
+use work_area::area::STANDARD;
+use work_area::form::form_of;
+use work_area::form::put_products;
 
 // How many Paulis of each of two lists stand one after the other.
 pub(crate) struct Stacked {

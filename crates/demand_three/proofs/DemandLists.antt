@@ -6,13 +6,13 @@ use native.Mathlib.Omega.{arith}
 use lib.ListN.{length, getD, take, drop, length-map, List·getD-map}
 use lib.Seq.{take-at, ext-getD}
 use Rattle.binar.proofs.Lists.{all-map, all-over, all-under}
-use Rattle.rolls.specs.Bytes.{u16At, le16}
+use Rattle.supports.specs.Bytes.{u16At, le16}
 use Rattle.pauli.specs.Pauli.{Pauli, I, normal, consIf, select}
 use Rattle.rolls.specs.Roll.{Sparse, read, byValue}
-use Rattle.rolls.specs.RollTheorems.{All}
-use Rattle.pauli.specs.Sets.{members, pauliOf}
-use Rattle.rolls.specs.Told.{Told, answer, refused}
-use Rattle.pauli.specs.Writing.{putBytes, toldBytes, leftIn}
+use Rattle.supports.specs.Support.{All}
+use Rattle.roll_paulis.specs.Sets.{members, pauliOf}
+use Rattle.supports.specs.Told.{Told, answer, refused}
+use Rattle.roll_paulis.specs.Writing.{putBytes, toldBytes, leftIn}
 use Rattle.rolls.proofs.BytesLaws.{length-le16, u16-read}
 use Rattle.rolls.proofs.Items.{itemsAt, itemsBytes, length-itemsAt, length-itemsBytes, items-read}
 use Rattle.rolls.proofs.Told.{refused-none, test-passed}
@@ -21,8 +21,8 @@ use Rattle.pauli_theory.proofs.Agree.{four, agree-normal, agree-flip}
 use Rattle.pauli_theory.proofs.Group.{generated-subgroup, generators, inside-by}
 use Rattle.pauli_theory.proofs.IndexSets.{members-upTo}
 use Rattle.pauli_theory.proofs.OverPlaces.{upTo, upTo-length, upTo-at}
-use Rattle.standard_form.specs.Groups.{paulis}
-use Rattle.standard_form.specs.Members.{le16s}
+use Rattle.group_form.specs.Groups.{paulis}
+use Rattle.membership.specs.Members.{le16s}
 use Rattle.demand_three.specs.DemandThree.{indexesAt}
 
 -- ---- indexes of two bytes each

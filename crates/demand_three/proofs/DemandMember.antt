@@ -8,17 +8,17 @@ use native.Mathlib.Omega.{arith}
 use borrow.Author.Tests.{ltb-false, le-ltb, lt-leb}
 use lib.Dec.{ltb}
 use lib.ListN.{length, replicate, length-replicate, length-map}
-use Rattle.binar.specs.Row.{weight}
+use Rattle.bit_rows.specs.Row.{weight}
 use Rattle.binar.proofs.Lists.{all-map}
-use Rattle.joining.specs.Calls.{readBoth, within}
+use Rattle.joined_lists.specs.Calls.{readBoth, within}
 use Rattle.pauli.specs.Pauli.{indexedProduct}
 use Rattle.rolls.specs.Roll.{mostPaulis}
-use Rattle.pauli.specs.Sets.{members, pauliOf}
-use Rattle.rolls.specs.Told.{answer, refuseIf, andThen, mapTold}
-use Rattle.pauli.specs.Writing.{putBytes}
+use Rattle.roll_paulis.specs.Sets.{members, pauliOf}
+use Rattle.supports.specs.Told.{answer, refuseIf, andThen, mapTold}
+use Rattle.roll_paulis.specs.Writing.{putBytes}
 use Rattle.rolls.proofs.RollLaws.{answer-parts, parts-count}
-use Rattle.pauli.proofs.Sets.{members-rise, members-count}
-use Rattle.rolls.proofs.SupportLaws.{rising-bound}
+use Rattle.roll_paulis.proofs.Sets.{members-rise, members-count}
+use Rattle.supports.proofs.SupportLaws.{rising-bound}
 use Rattle.rolls.proofs.Told.{test-pass, test-passed, map-test}
 use Rattle.pauli_theory.specs.Group.{Generated}
 use Rattle.pauli_theory.specs.Membership.{Factorization, factorizationOf}
@@ -28,8 +28,8 @@ use Rattle.pauli_theory.proofs.Theorems.{group-laws}
 use Rattle.pauli_group.specs.declared.answers.MemberFound.{MemberFound}
 use Rattle.pauli_group.specs.declared.answers.MemberFound.the-variants.{Member as MemberTold, NotMember}
 use Rattle.pauli_group.specs.Answers.{toldFactored}
-use Rattle.standard_form.specs.Area.{enough, areaAfter}
-use Rattle.standard_form.specs.Groups.{paulis}
+use Rattle.work_area.specs.Area.{enough, areaAfter}
+use Rattle.group_form.specs.Groups.{paulis}
 use Rattle.pauli_group.specs.Calls.{question, factorizationCall, indexBytes, Factored, factored, toldMember, memberLeft}
 use Rattle.demand_three.specs.DemandThree.{Generators, list, Element, pauli, Asked, Member, indexesAt, Gives, ifArea, ifRoom, bytesOf}
 use Rattle.demand_three.proofs.DemandLists.{length-le16s, indexes-read, named-select}

@@ -9,27 +9,29 @@ use native.Mathlib.Omega.{arith}
 use lib.Dec.{ltb}
 use lib.ListN.{length, take, length-map}
 use Rattle.binar.proofs.Lists.{all-map, all-over}
-use Rattle.pauli.specs.Answers.{toldWrote}
-use Rattle.pauli.specs.Sets.{sparseOf, setOf, members}
+use Rattle.roll_paulis.specs.Answers.{toldWrote}
+use Rattle.roll_paulis.specs.Sets.{sparseOf, setOf, members}
 use Rattle.pauli.specs.Pauli.{Pauli}
-use Rattle.pauli.specs.PauliTheorems.{On, PauliOn}
-use Rattle.rolls.specs.Roll.{mostPaulis, mostQubits, highestQubit, Sparse, numbers, support, read, byValue, write}
-use Rattle.rolls.specs.RollTheorems.{All, AllowedSet}
-use Rattle.rolls.specs.Told.{answer, refuseIf, andThen, mapTold}
-use Rattle.pauli.specs.Writing.{toldBytes}
+use Rattle.roll_paulis.specs.PauliTheorems.{On, PauliOn}
+use Rattle.rolls.specs.Roll.{mostPaulis, highestQubit, Sparse, numbers, support, read, byValue, write}
+use Rattle.supports.specs.Support.{mostQubits, All}
+use Rattle.rolls.specs.RollTheorems.{AllowedSet}
+use Rattle.supports.specs.Told.{answer, refuseIf, andThen, mapTold}
+use Rattle.roll_paulis.specs.Writing.{toldBytes}
 use Rattle.rolls.proofs.Checks.{AllowedSets}
-use Rattle.rolls.proofs.Lists.{all-in, all-mem}
+use Rattle.supports.proofs.Lists.{all-in, all-mem}
 use Rattle.rolls.proofs.RollLaws.{answer-parts}
-use Rattle.pauli.proofs.Sets.{set-members, members-rise, members-only}
-use Rattle.rolls.proofs.SupportLaws.{in-support, rising-length, support-only, support-rises}
+use Rattle.roll_paulis.proofs.Sets.{set-members, members-rise, members-only}
+use Rattle.supports.proofs.SupportLaws.{rising-length}
+use Rattle.rolls.proofs.ListSupport.{in-support, support-only, support-rises}
 use Rattle.rolls.proofs.Told.{test-passed, map-test}
 use Rattle.pauli_theory.specs.Group.{SameGroup}
 use Rattle.pauli_theory.specs.Standard.{supportOf, standard}
 use Rattle.pauli_theory.specs.Theorems.{StandardLaw}
 use Rattle.pauli_theory.proofs.Theorems.{group-laws}
 use Rattle.pauli_theory.proofs.Written.{support-of}
-use Rattle.standard_form.specs.Area.{enough}
-use Rattle.standard_form.specs.Groups.{paulis}
+use Rattle.work_area.specs.Area.{enough}
+use Rattle.group_form.specs.Groups.{paulis}
 use Rattle.pauli_group.specs.Calls.{oneList, standardBytes, standardGenerators}
 use Rattle.demand_three.specs.DemandThree.{Generators, list, Standardized, ifArea, ifRoom}
 use Rattle.joining.proofs.JoinedLists.{written-read}

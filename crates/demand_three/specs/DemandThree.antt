@@ -8,26 +8,26 @@ use mathlib.Core.Option.{Option, some, none}
 use Prim.Native.Nat.{ℕ, zero, suc, _+_, _*_, _≤_, _<_}
 use lib.Dec.{ltb}
 use lib.ListN.{length, getD, take}
-use Rattle.pauli.specs.declared.write.Wrote.{Wrote}
-use Rattle.pauli.specs.Answers.{toldWrote}
-use Rattle.rolls.specs.Bytes.{u16At}
-use Rattle.pauli.specs.Condense.{nothing}
+use Rattle.roll_paulis.specs.declared.write.Wrote.{Wrote}
+use Rattle.roll_paulis.specs.Answers.{toldWrote}
+use Rattle.supports.specs.Bytes.{u16At}
+use Rattle.roll_paulis.specs.Condense.{nothing}
 use Rattle.pauli.specs.Pauli.{Pauli, I, Same, turned, product}
 use Rattle.rolls.specs.Roll.{Sparse, support, read, byValue, write}
-use Rattle.rolls.specs.RollTheorems.{All, Rising}
-use Rattle.pauli.specs.Sets.{pauliOf}
-use Rattle.rolls.specs.Told.{Told, answer, refuseIf}
+use Rattle.supports.specs.Support.{All, Rising}
+use Rattle.roll_paulis.specs.Sets.{pauliOf}
+use Rattle.supports.specs.Told.{Told, answer, refuseIf}
 use Rattle.pauli_theory.specs.Group.{Generated, SameGroup, Promise, Honest}
 use Rattle.pauli_theory.specs.Order.{Order, equal, less}
 use Rattle.pauli_group.specs.declared.answers.MemberFound.{MemberFound}
-use Rattle.two_groups.specs.declared.answers.OrderFound.{OrderFound}
+use Rattle.comparison.specs.declared.answers.OrderFound.{OrderFound}
 use Rattle.pauli_group.specs.Answers.{toldFactored}
-use Rattle.two_groups.specs.Answers.{toldOrder}
-use Rattle.standard_form.specs.Groups.{paulis}
+use Rattle.comparison.specs.Answers.{toldOrder}
+use Rattle.group_form.specs.Groups.{paulis}
 use Rattle.pauli_group.specs.Calls.{Factored}
 use Rattle.pauli_group.specs.Contracts.{StandardCall, MemberCall}
-use Rattle.two_groups.specs.Contracts.{OrderCall}
-use Rattle.joining.specs.Contracts.{JoinCall}
+use Rattle.comparison.specs.Contracts.{OrderCall}
+use Rattle.joined_lists.specs.Contracts.{JoinCall}
 
 -- ---- lists and elements
 

@@ -7,13 +7,14 @@ use borrow.Author.Tests.{ltb-false}
 use lib.Dec.{ltb}
 use lib.ListN.{length, length-map, length-append}
 use Rattle.binar.proofs.Lists.{all-join, all-map, all-over}
-use Rattle.rolls.specs.Told.{answer, refuseIf, andThen, mapTold}
-use Rattle.rolls.specs.Roll.{mostPaulis, mostQubits, Sparse, support, read, write, byValue}
-use Rattle.rolls.specs.RollTheorems.{All, Allowed}
-use Rattle.joining.specs.Calls.{readBoth, fewQubits, joinedOf, joinOf}
+use Rattle.supports.specs.Told.{answer, refuseIf, andThen, mapTold}
+use Rattle.rolls.specs.Roll.{mostPaulis, Sparse, support, read, write, byValue}
+use Rattle.supports.specs.Support.{mostQubits, All}
+use Rattle.rolls.specs.RollTheorems.{Allowed}
+use Rattle.joined_lists.specs.Calls.{readBoth, fewQubits, joinedOf, joinOf}
 use Rattle.joining.specs.JoinTheorems.{JoinLaw, JoinedLaw}
 use Rattle.rolls.proofs.Checks.{AllowedSets}
-use Rattle.rolls.proofs.SupportLaws.{support-byValue}
+use Rattle.rolls.proofs.ListSupport.{support-byValue}
 use Rattle.rolls.proofs.RollLaws.{read-law, answer-parts}
 use Rattle.rolls.proofs.Told.{test-passed, map-test}
 

@@ -1,3 +1,2 @@
-pub mod JoinLaws
 pub mod ProductLaws
 pub mod JoinedLists

@@ -8,31 +8,32 @@ use borrow.Author.Tests.{lt-ltb, le-ltb, le-leb, lt-leb}
 use lib.Dec.{ltb, leb}
 use lib.ListN.{length, getD, take, drop}
 use lib.Seq.{sets}
-use Rattle.binar.specs.Row.{_⊕_, dot}
+use Rattle.bit_rows.specs.Row.{_⊕_, dot}
 use Rattle.binar.proofs.Lists.{all-get}
-use Rattle.rolls.specs.Told.{Told, answer, refused, refuseIf, andThen, mapTold}
-use Rattle.rolls.specs.Bytes.{u16At, numbersAt}
-use Rattle.rolls.specs.Roll.{mostQubits, Sparse, support, numbers, insertAll, read, countOf, byValue, encode, write}
-use Rattle.rolls.specs.RollTheorems.{All, Rising, AllowedSet}
+use Rattle.supports.specs.Told.{Told, answer, refused, refuseIf, andThen, mapTold}
+use Rattle.supports.specs.Bytes.{u16At, numbersAt}
+use Rattle.rolls.specs.Roll.{Sparse, support, numbers, read, countOf, byValue, encode, write}
+use Rattle.supports.specs.Support.{mostQubits, insertAll, All, Rising}
+use Rattle.rolls.specs.RollTheorems.{AllowedSet}
 use Rattle.pauli.specs.declared.signed.Pauli.{Pauli as Held}
 use Rattle.pauli.specs.Pauli.{Pauli, times, normal, select}
 use Rattle.pauli.specs.Signed.{held, setIn, pauliIn, pauliWords, listIn}
-use Rattle.pauli.specs.Sets.{members, condense, expand, pauliOf, setOf, sparseOf}
-use Rattle.pauli.specs.PauliTheorems.{On, PauliOn}
-use Rattle.rolls.specs.Known.{Gathered}
-use Rattle.pauli.specs.Writing.{sparseOver, rollOver, toldBytes, leftIn, OnPlaces}
-use Rattle.pauli.specs.Condense.{listOf, nothing, condensed, Covered, Readable}
+use Rattle.roll_paulis.specs.Sets.{members, condense, expand, pauliOf, setOf, sparseOf}
+use Rattle.roll_paulis.specs.PauliTheorems.{On, PauliOn}
+use Rattle.supports.specs.Known.{Gathered}
+use Rattle.roll_paulis.specs.Writing.{sparseOver, rollOver, toldBytes, leftIn, OnPlaces}
+use Rattle.roll_paulis.specs.Condense.{listOf, nothing, condensed, Covered, Readable}
 use Rattle.joining.specs.Product.{productOver, productBytes}
-use Rattle.joining.specs.Calls.{Lists, readBoth, fewQubits, within, productOf}
+use Rattle.joined_lists.specs.Calls.{Lists, readBoth, fewQubits, within, productOf}
 use Rattle.pauli.proofs.Algebra.{pauli-path}
 use Rattle.rolls.proofs.Checks.{AllowedSets}
-use Rattle.rolls.proofs.Lists.{in-getD, all-in}
-use Rattle.rolls.proofs.SupportLaws.{support-rises, sets-in-support}
-use Rattle.joining.proofs.JoinLaws.{accepted, count-refused}
-use Rattle.pauli.proofs.Condensed.{condensed-times, sparse-over}
-use Rattle.pauli.proofs.Places.{select-rises, condense-lt, condense-sum, condense-dot, expand-condense}
-use Rattle.pauli.proofs.Rows.{on-times}
-use Rattle.pauli.proofs.PauliTheorems.{support-law}
+use Rattle.supports.proofs.Lists.{in-getD, all-in}
+use Rattle.rolls.proofs.ListSupport.{support-rises, sets-in-support}
+use Rattle.joined_lists.proofs.JoinLaws.{accepted, count-refused}
+use Rattle.roll_paulis.proofs.Condensed.{condensed-times, sparse-over}
+use Rattle.roll_paulis.proofs.Places.{select-rises, condense-lt, condense-sum, condense-dot, expand-condense}
+use Rattle.roll_paulis.proofs.Rows.{on-times}
+use Rattle.roll_paulis.proofs.PauliTheorems.{support-law}
 use Rattle.rolls.proofs.RollLaws.{answer-parts}
 
 -- ---- what checking a roll tells

@@ -2,9 +2,9 @@
 use mathlib.Core.Path.{_≡_}
 use mathlib.Core.List.{List, _++_, map}
 use Prim.Native.Nat.{ℕ}
-use Rattle.rolls.specs.Told.{answer}
+use Rattle.supports.specs.Told.{answer}
 use Rattle.rolls.specs.Roll.{Sparse, read, write, byValue}
-use Rattle.joining.specs.Calls.{joinOf}
+use Rattle.joined_lists.specs.Calls.{joinOf}
 
 -- where the rolls of two lists are joined to the bytes bs
 pub record JoinLaw (ps qs : List Sparse) (bs : List ℕ) : Type 0 where

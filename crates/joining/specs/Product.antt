@@ -4,9 +4,9 @@ use Prim.Native.Nat.{ℕ}
 use lib.ListN.{getD}
 use Rattle.rolls.specs.Roll.{Sparse}
 use Rattle.pauli.specs.Pauli.{Pauli, times}
-use Rattle.pauli.specs.Sets.{pauliOf}
-use Rattle.pauli.specs.Writing.{rollOver}
-use Rattle.pauli.specs.Condense.{nothing, condensed}
+use Rattle.roll_paulis.specs.Sets.{pauliOf}
+use Rattle.roll_paulis.specs.Writing.{rollOver}
+use Rattle.roll_paulis.specs.Condense.{nothing, condensed}
 
 -- Pauli i of one list times Pauli j of another, over the places of qs
 unfoldable pub productOver : List ℕ → List Sparse → ℕ → List Sparse → ℕ → Pauli

@@ -1,6 +1,6 @@
-// The calls on two rolls alone: product and joining, after the crate paulimer of microsoft/qdk-ec.
+// The calls on two rolls that write one: the joined roll and the product of two Paulis.
 
-// Two rolls joined.
-pub mod joined;
 // The call for the product of two Paulis of rolls.
 pub mod product;
+// The joined roll.
+pub mod join;

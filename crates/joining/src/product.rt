@@ -2,22 +2,22 @@
 ghost use mathlib.Core.Path.{_≡_};
 ghost use Prim.Native.Nat.{_≤_};
 ghost use lib.ListN.{length, take};
-ghost use Rattle.pauli.specs.Answers.{toldWrote};
-ghost use Rattle.joining.specs.Calls.{productOf};
-ghost use Rattle.pauli.specs.Condense.{Readable, listOf};
+ghost use Rattle.roll_paulis.specs.Answers.{toldWrote};
+ghost use Rattle.joined_lists.specs.Calls.{productOf};
+ghost use Rattle.roll_paulis.specs.Condense.{Readable, listOf};
 ghost use Rattle.joining.specs.Product.{productBytes};
-ghost use Rattle.rolls.specs.Told.{answer};
-ghost use Rattle.pauli.specs.Writing.{toldBytes, leftIn};
-use crate::joined::join_support;
-use pauli::condense::condense_from;
+ghost use Rattle.supports.specs.Told.{answer};
+ghost use Rattle.roll_paulis.specs.Writing.{toldBytes, leftIn};
+use joined_lists::joined::join_support;
 use pauli::signed::store;
-use pauli::write::Wrote;
-use pauli::write::write_roll;
-use rolls::refusal::Reason;
-use rolls::refusal::Refusal;
+use roll_paulis::condense::condense_from;
+use roll_paulis::write::Wrote;
+use roll_paulis::write::write_roll;
 use rolls::roll::Checked;
-use rolls::roll::MOST_QUBITS;
 use rolls::roll::check_roll;
+use supports::refusal::Reason;
+use supports::refusal::Refusal;
+use supports::support::MOST_QUBITS;
 
 // Writes the product of Pauli i of the one roll and Pauli j of the other, over a support that has their qubits.
 fn write_product(

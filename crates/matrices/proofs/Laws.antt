@@ -8,12 +8,12 @@ use lib.ListN.{length, getD, take, drop}
 use lib.Seq.{getD-take, getD-drop}
 use Rattle.binar.specs.declared.echelon.Formation.{Formation}
 use Rattle.binar.specs.declared.echelon.Formation.the-variants.{Rank}
-use Rattle.binar.specs.Words.{matrix, putRow}
+use Rattle.bit_rows.specs.Words.{matrix, putRow}
 use Rattle.binar.specs.Echelon.{echelon, rank}
 use Rattle.binar.specs.Layout.{formStride, fits, FormIs, formIn, Solvable}
 use Rattle.binar.proofs.Bounds.{rank-rows}
 use Rattle.binar.proofs.Matrix.{length-matrix}
-use Rattle.binar.proofs.Slice.{length-put}
+use Rattle.bit_rows.proofs.Slice.{length-put}
 use Rattle.binar.proofs.Sweep.{get-put-before}
 use Rattle.binar.proofs.Formed.{fits-true}
 use Rattle.binar.proofs.Theorems.{form-law, reduced-law}

@@ -11,9 +11,9 @@ use binar::echelon::Formation;
 use binar::echelon::Solution;
 use binar::echelon::echelon_form;
 use binar::echelon::transpose_solve;
-use binar::row::bitxor_assign;
-use binar::row::clear_bits;
-use binar::row::index;
+use bit_rows::row::bitxor_assign;
+use bit_rows::row::clear_bits;
+use bit_rows::row::index;
 use libc::STDOUT_FILENO;
 
 // ---- lines. A line that is longer than its buffer is cut.

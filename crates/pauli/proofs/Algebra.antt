@@ -2,8 +2,8 @@
 use mathlib.Core.Path.{_≡_, refl, ap, ap₂}
 use Prim.Native.Nat.{ℕ, _+_, _*_, _%_, _<_}
 use native.Mathlib.Omega.{arith}
-use Rattle.binar.specs.Row.{_⊕_}
-use Rattle.binar.proofs.Bits.{xor-assoc, xor-comm, xor-self, xor-zero-l, xor-zero-r, dot-lt, dot-comm, dot-xor-l, dot-xor-r, dot-zero-l, dot-zero-r}
+use Rattle.bit_rows.specs.Row.{_⊕_}
+use Rattle.bit_rows.proofs.Bits.{xor-assoc, xor-comm, xor-self, xor-zero-l, xor-zero-r, dot-lt, dot-comm, dot-xor-l, dot-xor-r, dot-zero-l, dot-zero-r}
 use Rattle.pauli.specs.Pauli.{Pauli, I, normal, Same, times, turned, anticommute, orderFour}
 
 pub pauli-path : {p q : Pauli} → p .e ≡ q .e → p .x ≡ q .x → p .z ≡ q .z → p ≡ q

@@ -7,8 +7,8 @@ use native.Mathlib.Decide.{decLt, le-ind}
 use native.Mathlib.Numerals.{add-one}
 use lib.Count.{under, trailingZeros, trailing-le}
 use lib.Pow.{shr-shr}
-use Rattle.binar.specs.Row.{bit, ifBit}
-use Rattle.binar.proofs.Bits.{bit-zero, bit-suc, bit-lt, bit-of-zero, bit-past, Blank, blank-join, blank-zero}
+use Rattle.bit_rows.specs.Row.{bit, ifBit}
+use Rattle.bit_rows.proofs.Bits.{bit-zero, bit-suc, bit-lt, bit-of-zero, bit-past, Blank, blank-join, blank-zero}
 use Rattle.pauli.specs.declared.signed.Places.{Places}
 use Rattle.pauli.specs.Signed.{setIn, firstOf, firstFrom}
 use Rattle.pauli.proofs.Halves.{Words, index-low, index-high}

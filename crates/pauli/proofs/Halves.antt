@@ -8,9 +8,9 @@ use borrow.Author.Tests.{eq-eqb, ne-eqb}
 use lib.Bits.{bitAnd, bitOr, bitXor, and-block, or-block, xor-block, and-lt, and-le-l, and-le-r, or-add-and}
 use lib.Count.{ones, ones-cat}
 use lib.Dec.{eqb}
-use Rattle.binar.specs.Row.{_⊕_, bit, dot, weight}
-use Rattle.binar.proofs.Bits.{ones-xor}
-use Rattle.binar.proofs.Scan.{bit-low, bit-high}
+use Rattle.bit_rows.specs.Row.{_⊕_, bit, dot, weight}
+use Rattle.bit_rows.proofs.Bits.{ones-xor}
+use Rattle.bit_rows.proofs.Scan.{bit-low, bit-high}
 use Rattle.pauli.specs.declared.signed.Places.{Places}
 use Rattle.pauli.specs.Signed.{setIn}
 

@@ -1,16 +1,5 @@
-pub mod MoreBits
 pub mod Algebra
-pub mod Action
 pub mod Products
-pub mod Sets
-pub mod Places
-pub mod Rows
-pub mod PauliTheorems
-pub mod Condensed
 pub mod Halves
 pub mod Firsts
 pub mod SignedLaws
-pub mod Puts
-pub mod Writers
-pub mod CondenseLaws
-pub mod BodyLaws

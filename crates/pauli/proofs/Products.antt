@@ -3,7 +3,7 @@ use mathlib.Core.Path.{_≡_, refl, sym, ap, ap₂, _∙_}
 use mathlib.Core.List.{List, [], _∷_, _++_, map}
 use Prim.Native.Nat.{ℕ, zero, suc, _/_, _%_, _<_}
 use native.Mathlib.Omega.{arith}
-use Rattle.binar.specs.Row.{_⊕_, ifBit, rowSum}
+use Rattle.bit_rows.specs.Row.{_⊕_, ifBit, rowSum}
 use Rattle.binar.proofs.Span.{ifBit-map}
 use Rattle.pauli.specs.Pauli.{Pauli, I, normal, times, productFrom, product, consIf, select, indexedProduct}
 use Rattle.pauli.proofs.Algebra.{times-assoc, I-times, times-I, times-lt, normal-times, times-normal-l}

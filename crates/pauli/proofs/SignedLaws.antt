@@ -12,7 +12,7 @@ use lib.Dec.{eqb}
 use lib.ListN.{length, getD, set}
 use lib.Pow.{mod-mod-pow, shr-shr}
 use lib.Seq.{sets}
-use Rattle.binar.specs.Row.{bit, ifBit}
+use Rattle.bit_rows.specs.Row.{bit, ifBit}
 use Rattle.pauli.specs.Pauli.{Pauli, I, normal, times, productFrom, product, consIf, select, indexedProduct}
 use Rattle.pauli.specs.Signed.{pauliIn, listIn}
 use Rattle.pauli.proofs.Algebra.{times-normal-l}

@@ -2,7 +2,7 @@
 use mathlib.Core.List.{List, [], _∷_}
 use Prim.Native.Nat.{ℕ, zero, suc, _+_, _-_, _*_, _%_, _^_}
 use lib.ListN.{getD}
-use Rattle.binar.specs.Row.{bit, ifBit}
+use Rattle.bit_rows.specs.Row.{bit, ifBit}
 use Rattle.pauli.specs.declared.signed.Places.{Places}
 use Rattle.pauli.specs.declared.signed.Pauli.{Pauli as Held}
 use Rattle.pauli.specs.Pauli.{Pauli}

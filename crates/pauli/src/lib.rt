@@ -2,7 +2,3 @@
 
 // Signed Paulis.
 pub mod signed;
-// Written rolls.
-pub mod write;
-// Paulis of a roll over the places of a support.
-pub mod condense;

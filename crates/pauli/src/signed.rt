@@ -5,7 +5,7 @@ ghost use lib.Bits.{bitOr};
 ghost use lib.Dec.{eqb};
 ghost use lib.ListN.{length};
 ghost use lib.Seq.{sets};
-ghost use Rattle.binar.specs.Row.{_⊕_, bit, dot, weight as weightOf};
+ghost use Rattle.bit_rows.specs.Row.{_⊕_, bit, dot, weight as weightOf};
 ghost use Rattle.pauli.specs.Pauli.{I, normal, times as timesOf, anticommute, pauliWeight, orderFour, isIdentity, indexedProduct};
 ghost use Rattle.pauli.specs.Signed.{setIn, firstFrom, held, pauliIn, pauliWords, listIn};
 

@@ -6,25 +6,26 @@ use native.Mathlib.Omega.{arith}
 use borrow.Author.Tests.{lt-ltb, le-ltb, ltb-false}
 use lib.Dec.{ltb}
 use lib.ListN.{length, take, drop}
-use Rattle.rolls.specs.declared.refusal.Refusal.{Refusal}
+use Rattle.supports.specs.declared.refusal.Refusal.{Refusal}
 use Rattle.rolls.specs.declared.roll.Checked.{Checked}
 use Rattle.rolls.specs.declared.roll.Checked.the-variants.{Count, Refused}
-use Rattle.rolls.specs.Answers.{toldRefusal, toldCount}
-use Rattle.pauli.specs.Condense.{listOf}
+use Rattle.rolls.specs.Answers.{toldCount}
+use Rattle.supports.specs.Refusals.{toldRefusal}
+use Rattle.roll_paulis.specs.Condense.{listOf}
 use Rattle.pauli.specs.Pauli.{Pauli}
 use Rattle.rolls.specs.Roll.{read, countOf}
 use Rattle.pauli.specs.Signed.{listIn}
-use Rattle.rolls.specs.Told.{Told, answer, refused, refuseIf, andThen, mapTold}
-use Rattle.pauli.specs.Writing.{rollOver}
-use Rattle.joining.proofs.JoinLaws.{accepted}
+use Rattle.supports.specs.Told.{Told, answer, refused, refuseIf, andThen, mapTold}
+use Rattle.roll_paulis.specs.Writing.{rollOver}
+use Rattle.joined_lists.proofs.JoinLaws.{accepted}
 use Rattle.rolls.proofs.Told.{refused-none, test-pass, test-refuses, test-passed, map-refused, map-answer}
 use Rattle.pauli_theory.specs.Group.{Promise}
 use Rattle.pauli_theory.specs.Standard.{ifZero, standard, rank, nonabelian, phaseStep, log2Size}
 use Rattle.pauli_theory.proofs.OverPlaces.{placed}
 use Rattle.pauli_theory.proofs.Written.{written-standard}
-use Rattle.standard_form.specs.Area.{workWords, standardAt, enough, cleared, areaAfter}
-use Rattle.standard_form.specs.Groups.{paulis, overSupport, Grouped}
-use Rattle.standard_form.proofs.GroupedLaws.{cleared-part, nonabelian-le, list-length}
+use Rattle.work_area.specs.Area.{workWords, standardAt, enough, cleared, areaAfter}
+use Rattle.group_form.specs.Groups.{paulis, overSupport, Grouped}
+use Rattle.group_form.proofs.GroupedLaws.{cleared-part, nonabelian-le, list-length}
 use Rattle.pauli_group.specs.Calls.{oneList, standardBytes}
 
 -- what the code makes of the description

@@ -1,5 +1,1 @@
 pub mod CallLaws
-pub mod QuestionLaws
-pub mod PairLaws
-pub mod ListingLaws
-pub mod PageLaws

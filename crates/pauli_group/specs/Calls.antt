@@ -5,22 +5,22 @@ use mathlib.Core.Option.{Option, some, none}
 use Prim.Native.Nat.{ℕ}
 use lib.Dec.{ltb}
 use lib.ListN.{length, getD}
-use Rattle.binar.specs.Row.{weight}
-use Rattle.joining.specs.Calls.{readBoth, within, Counts}
-use Rattle.pauli.specs.Sets.{sparseOf, members, pauliOf}
-use Rattle.pauli.specs.Condense.{nothing}
+use Rattle.bit_rows.specs.Row.{weight}
+use Rattle.joined_lists.specs.Calls.{readBoth, within, Counts}
+use Rattle.roll_paulis.specs.Sets.{sparseOf, members, pauliOf}
+use Rattle.roll_paulis.specs.Condense.{nothing}
 use Rattle.pauli.specs.Pauli.{Pauli}
 use Rattle.rolls.specs.Roll.{read, write}
-use Rattle.rolls.specs.Told.{Told, answer, refused, refuseIf, andThen, mapTold}
-use Rattle.pauli.specs.Writing.{putBytes}
+use Rattle.supports.specs.Told.{Told, answer, refused, refuseIf, andThen, mapTold}
+use Rattle.roll_paulis.specs.Writing.{putBytes}
 use Rattle.pauli_theory.specs.Group.{Promise}
 use Rattle.pauli_theory.specs.Standard.{ifZero, standard, rank, nonabelian, phaseStep, log2Size, stabilizer}
 use Rattle.pauli_theory.specs.Membership.{Factorization, factorizationOf}
 use Rattle.pauli_theory.specs.Listing.{elementsOf, page}
 use Rattle.pauli_theory.specs.Symplectic.{symplecticForm}
-use Rattle.standard_form.specs.Area.{enough}
-use Rattle.standard_form.specs.Groups.{paulis}
-use Rattle.standard_form.specs.Members.{le16s}
+use Rattle.work_area.specs.Area.{enough}
+use Rattle.group_form.specs.Groups.{paulis}
+use Rattle.membership.specs.Members.{le16s}
 
 -- ---- calls on one list
 

@@ -3,9 +3,9 @@ use mathlib.Core.Path.{_≡_}
 use mathlib.Core.List.{List}
 use Prim.Native.Nat.{ℕ}
 use lib.ListN.{length}
-use Rattle.pauli.specs.Answers.{toldWrote}
-use Rattle.pauli.specs.Writing.{toldBytes, leftIn}
-use Rattle.pauli.specs.declared.write.Wrote.{Wrote}
+use Rattle.roll_paulis.specs.Answers.{toldWrote}
+use Rattle.roll_paulis.specs.Writing.{toldBytes, leftIn}
+use Rattle.roll_paulis.specs.declared.write.Wrote.{Wrote}
 use Rattle.pauli_theory.specs.Group.{Promise}
 use Rattle.pauli_group.specs.declared.answers.RankFound.{RankFound}
 use Rattle.pauli_group.specs.declared.answers.PhasesFound.{PhasesFound}
@@ -13,7 +13,7 @@ use Rattle.pauli_group.specs.declared.answers.Decided.{Decided}
 use Rattle.pauli_group.specs.declared.answers.SizeFound.{SizeFound}
 use Rattle.pauli_group.specs.declared.answers.MemberFound.{MemberFound}
 use Rattle.pauli_group.specs.Answers.{toldRank, toldPhases, toldDecided, toldSize, toldFactored}
-use Rattle.standard_form.specs.Area.{areaAfter}
+use Rattle.work_area.specs.Area.{areaAfter}
 use Rattle.pauli_group.specs.Calls.{oneList, standardGenerators, rankCall, phasesCall, abelianCall, stabilizerCall, sizeCall, question, factorizationCall, toldMember, memberLeft, symplecticCall, elementsCall}
 
 pub record StandardCall (b work out : List ℕ) (r : Wrote) (work′ out′ : List ℕ) : Type 0 where

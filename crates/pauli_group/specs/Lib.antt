@@ -1,5 +1,3 @@
 pub mod Calls
 pub mod Answers
 pub mod Contracts
-pub mod Pairs
-pub mod Listed

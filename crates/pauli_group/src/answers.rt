@@ -1,5 +1,5 @@
 // What the calls on one list answer.
-use rolls::refusal::Refusal;
+use supports::refusal::Refusal;
 
 // The phases of a group.
 pub enum Phases {

@@ -3,17 +3,17 @@ ghost use mathlib.Core.Path.{_≡_};
 ghost use Prim.Native.Nat.{_≤_, _<_};
 ghost use lib.ListN.{length};
 ghost use Rattle.rolls.specs.Answers.{toldCount};
-ghost use Rattle.pauli.specs.Answers.{toldWrote};
-ghost use Rattle.pauli.specs.Sets.{sparseOf};
-ghost use Rattle.pauli.specs.Condense.{listOf};
+ghost use Rattle.roll_paulis.specs.Answers.{toldWrote};
+ghost use Rattle.roll_paulis.specs.Sets.{sparseOf};
+ghost use Rattle.roll_paulis.specs.Condense.{listOf};
 ghost use Rattle.rolls.specs.Roll.{countOf, write};
-ghost use Rattle.rolls.specs.Told.{answer, mapTold};
-ghost use Rattle.pauli.specs.Writing.{toldBytes, leftIn};
+ghost use Rattle.supports.specs.Told.{answer, mapTold};
+ghost use Rattle.roll_paulis.specs.Writing.{toldBytes, leftIn};
 ghost use Rattle.pauli_theory.specs.Standard.{standard};
 ghost use Rattle.standard_form.specs.Promises.{promiseOf};
 ghost use Rattle.pauli_group.specs.Answers.{stepTold, toldDecided};
-ghost use Rattle.standard_form.specs.Area.{cleared};
-ghost use Rattle.standard_form.specs.Groups.{paulis};
+ghost use Rattle.work_area.specs.Area.{cleared};
+ghost use Rattle.group_form.specs.Groups.{paulis};
 ghost use Rattle.pauli_group.specs.Calls.{oneList, standardBytes};
 ghost use Rattle.pauli_group.specs.Contracts.{StandardCall, RankCall, PhasesCall, AbelianCall, StabilizerCall, SizeCall};
 use crate::answers::Decided;
@@ -21,21 +21,21 @@ use crate::answers::Phases;
 use crate::answers::PhasesFound;
 use crate::answers::RankFound;
 use crate::answers::SizeFound;
-use binar::row::clear_bits;
-use pauli::write::Wrote;
-use pauli::write::write_roll;
-use rolls::refusal::Reason;
-use rolls::refusal::Refusal;
+use bit_rows::row::clear_bits;
+use group_form::group::describe_once;
+use group_form::group::group_of;
+use roll_paulis::write::Wrote;
+use roll_paulis::write::write_roll;
 use rolls::roll::Checked;
 use rolls::roll::check_roll;
-use standard_form::area::STANDARD;
-use standard_form::area::WORK_WORDS;
-use standard_form::group::describe_once;
-use standard_form::group::group_of;
-use standard_form::promise::Promise;
+use supports::refusal::Reason;
+use supports::refusal::Refusal;
+use work_area::area::STANDARD;
+use work_area::area::WORK_WORDS;
+use work_area::promise::Promise;
 
 // Checks the roll, then the work area of so many words; tells how many Paulis the roll has.
-pub(crate) fn check_list(b: &[u8], words: usize) -> Checked
+pub fn check_list(b: &[u8], words: usize) -> Checked
     ensures { λ r. ⌜ toldCount r ≡ mapTold length (oneList (now (b .entry)) words) ⌝ }
 {
     let checked = check_roll(b);

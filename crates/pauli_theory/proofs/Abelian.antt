@@ -5,7 +5,7 @@ use Prim.Native.Nat.{ℕ, zero, suc}
 use native.Mathlib.Omega.{arith}
 use lib.ListN.{getD}
 use Rattle.binar.proofs.Lists.{all-map, all-get, all-by}
-use Rattle.rolls.specs.RollTheorems.{All}
+use Rattle.supports.specs.Support.{All}
 use Rattle.pauli.specs.Pauli.{Pauli, I, anticommute}
 use Rattle.pauli_theory.specs.Group.{Generated, Abelian, NotAbelian, Promise, none, abelian, notAbelian, Honest}
 use Rattle.pauli_theory.specs.Standard.{standard, someAnticommute, nonabelian}

@@ -5,9 +5,9 @@ use mathlib.Core.List.{List, [], _∷_}
 use Prim.Native.Nat.{ℕ, _+_, _-_, _*_, _/_, _%_, _≤_, _<_}
 use native.Mathlib.Nat.{add-zero, mod-mod}
 use native.Mathlib.Omega.{arith}
-use Rattle.binar.specs.Row.{_⊕_, dot}
+use Rattle.bit_rows.specs.Row.{_⊕_, dot}
 use Rattle.binar.proofs.Span.{ifBit-case}
-use Rattle.rolls.specs.RollTheorems.{All}
+use Rattle.supports.specs.Support.{All}
 use Rattle.pauli.specs.Pauli.{Pauli, I, normal, Same, times, turned, product, indexedProduct, select}
 use Rattle.pauli.proofs.Products.{product-cons, product-none, indexed-cons}
 use Rattle.pauli_theory.specs.Standard.{exponentMod}

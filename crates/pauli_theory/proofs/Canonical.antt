@@ -11,9 +11,9 @@ use Rattle.binar.specs.Space.{RowSpace, SameSpace}
 use Rattle.binar.proofs.Lists.{all-map, all-zip, all-over}
 use Rattle.binar.proofs.Span.{same-space}
 use Rattle.binar.proofs.Theorems.{unique-law}
-use Rattle.rolls.specs.RollTheorems.{All}
+use Rattle.supports.specs.Support.{All}
 use Rattle.pauli.specs.Pauli.{Pauli}
-use Rattle.pauli.specs.Sets.{rowOf}
+use Rattle.roll_paulis.specs.Sets.{rowOf}
 use Rattle.pauli.proofs.Algebra.{pauli-path}
 use Rattle.pauli_theory.specs.Group.{Generated, Inside}
 use Rattle.pauli_theory.specs.Standard.{supportOf, formOf, standard}

@@ -11,31 +11,17 @@ use Rattle.binar.specs.Space.{RowSpace}
 use Rattle.binar.proofs.Lists.{all-map, all-join, all-left, all-right, all-over, all-of, map-same}
 use Rattle.binar.proofs.Span.{below-subspace, space-rows, space-in}
 use Rattle.rolls.specs.Roll.{mostPaulis}
-use Rattle.rolls.specs.RollTheorems.{All}
+use Rattle.supports.specs.Support.{All}
 use Rattle.pauli.specs.Pauli.{Pauli, I}
-use Rattle.pauli.specs.Sets.{rowOf, pauliOfRow}
-use Rattle.pauli.specs.PauliTheorems.{PauliOn}
-use Rattle.pauli.proofs.Places.{expand-on}
-use Rattle.pauli.proofs.Rows.{back-row, on-I}
+use Rattle.roll_paulis.specs.Sets.{rowOf, pauliOfRow}
+use Rattle.roll_paulis.specs.PauliTheorems.{PauliOn}
+use Rattle.roll_paulis.proofs.Places.{expand-on}
+use Rattle.roll_paulis.proofs.Rows.{back-row, on-I}
 use Rattle.pauli_theory.specs.Group.{Promise}
 use Rattle.pauli_theory.specs.Standard.{supportOf, ifZero, phase, standard, phaseStep}
 use Rattle.pauli_theory.specs.Membership.{Factorization, factorizationOf}
 use Rattle.pauli_theory.specs.Order.{Order, equal, less, greater, noOrder, partialCmp}
-use Rattle.pauli_theory.specs.Common.{
-  commonRows,
-  commonBasis,
-  withExponent,
-  ifBoth,
-  commonPhaseFrom,
-  commonPhase,
-  consSome,
-  sharedOf,
-  phasesFrom,
-  commonPhases,
-  commonPart,
-  lesser,
-  bitand,
-}
+use Rattle.pauli_theory.specs.Common.{commonRows, commonBasis, withExponent, ifBoth, commonPhaseFrom, commonPhase, consSome, sharedOf, phasesFrom, commonPhases, commonPart, lesser, bitand}
 use Rattle.pauli_theory.specs.Theorems.{CommonRowsLaw, CommonBasisLaw}
 use Rattle.pauli_theory.proofs.Rows.{rows-narrow, inside-rows, support-rises, support-on}
 use Rattle.pauli_theory.proofs.Standard.{standard-inside, inside-standard}

@@ -7,7 +7,7 @@ use native.Mathlib.Omega.{arith}
 use lib.ListN.{length, length-append}
 use Rattle.binar.specs.Echelon.{echelon, rank as echelonRank}
 use Rattle.pauli.specs.Pauli.{Pauli}
-use Rattle.pauli.specs.Sets.{rowOf}
+use Rattle.roll_paulis.specs.Sets.{rowOf}
 use Rattle.pauli_theory.specs.Group.{Inside}
 use Rattle.pauli_theory.specs.Standard.{supportOf, formOf, rank, appended, ifZero, standard}
 use Rattle.pauli_theory.specs.CommonPlaces.{formOfPlaces}

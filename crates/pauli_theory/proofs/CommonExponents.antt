@@ -11,10 +11,10 @@ use Rattle.binar.specs.Solve.{transposeSolve}
 use Rattle.binar.specs.Space.{RowSpace}
 use Rattle.binar.proofs.Lists.{all-zip, all-under}
 use Rattle.binar.proofs.Span.{space-rows}
-use Rattle.rolls.specs.RollTheorems.{All}
+use Rattle.supports.specs.Support.{All}
 use Rattle.pauli.specs.Pauli.{Pauli, indexedProduct}
-use Rattle.pauli.specs.Sets.{rowOf}
-use Rattle.pauli.specs.PauliTheorems.{PauliOn}
+use Rattle.roll_paulis.specs.Sets.{rowOf}
+use Rattle.roll_paulis.specs.PauliTheorems.{PauliOn}
 use Rattle.pauli_theory.specs.Group.{Inside, Promise}
 use Rattle.pauli_theory.specs.Standard.{supportOf, formOf, ifZero, phaseStep}
 use Rattle.pauli_theory.specs.Membership.{Factorization, outside, exponentLeft, withPhase, factorizationOf}

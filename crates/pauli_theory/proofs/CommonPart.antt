@@ -8,26 +8,15 @@ use native.Mathlib.Nat.{mod-mod}
 use native.Mathlib.Omega.{arith}
 use Rattle.binar.specs.Space.{RowSpace}
 use Rattle.binar.proofs.Lists.{all-of, all-left, all-right}
-use Rattle.rolls.specs.RollTheorems.{All}
+use Rattle.supports.specs.Support.{All}
 use Rattle.pauli.specs.Pauli.{Pauli, turned, indexedProduct}
-use Rattle.pauli.specs.Sets.{rowOf}
-use Rattle.pauli.specs.PauliTheorems.{PauliOn}
+use Rattle.roll_paulis.specs.Sets.{rowOf}
+use Rattle.roll_paulis.specs.PauliTheorems.{PauliOn}
 use Rattle.pauli_theory.specs.Group.{Generated, Inside, Promise, Honest}
 use Rattle.pauli_theory.specs.Standard.{supportOf, phaseStep}
 use Rattle.pauli_theory.specs.Membership.{exponentLeft}
 use Rattle.pauli_theory.specs.Order.{Order, equal, less, greater, noOrder, partialCmp}
-use Rattle.pauli_theory.specs.Common.{
-  commonBasis,
-  withExponent,
-  commonPhase,
-  consSome,
-  sharedOf,
-  phasesFrom,
-  commonPhases,
-  commonPart,
-  lesser,
-  bitand,
-}
+use Rattle.pauli_theory.specs.Common.{commonBasis, withExponent, commonPhase, consSome, sharedOf, phasesFrom, commonPhases, commonPart, lesser, bitand}
 use Rattle.pauli_theory.specs.Theorems.{CommonLaw}
 use Rattle.pauli_theory.proofs.Agree.{four, Agree, same-agree, left-same, left-agree, indexed-in}
 use Rattle.pauli_theory.proofs.Group.{generated-subgroup, generators, inside-by, joined-law}

@@ -8,24 +8,15 @@ use lib.ListN.{length}
 use Rattle.binar.specs.Solve.{transposeSolve}
 use Rattle.binar.proofs.Lists.{all-zip}
 use Rattle.rolls.specs.Roll.{write}
-use Rattle.rolls.specs.RollTheorems.{All}
+use Rattle.supports.specs.Support.{All}
 use Rattle.pauli.specs.Pauli.{Pauli, indexedProduct}
-use Rattle.pauli.specs.Sets.{rowOf, sparseOf}
-use Rattle.pauli.specs.PauliTheorems.{PauliOn}
-use Rattle.pauli.specs.Condense.{condensed}
-use Rattle.pauli.specs.Writing.{rollOver, OnPlaces}
+use Rattle.roll_paulis.specs.Sets.{rowOf, sparseOf}
+use Rattle.roll_paulis.specs.PauliTheorems.{PauliOn}
+use Rattle.roll_paulis.specs.Condense.{condensed}
+use Rattle.roll_paulis.specs.Writing.{rollOver, OnPlaces}
 use Rattle.pauli_theory.specs.Group.{Promise}
 use Rattle.pauli_theory.specs.Standard.{supportOf, ifZero, phase, phaseStep}
-use Rattle.pauli_theory.specs.Common.{
-  commonBasis,
-  withExponent,
-  commonPhase,
-  consSome,
-  sharedOf,
-  phasesFrom,
-  commonPhases,
-  commonPart,
-}
+use Rattle.pauli_theory.specs.Common.{commonBasis, withExponent, commonPhase, consSome, sharedOf, phasesFrom, commonPhases, commonPart}
 use Rattle.pauli_theory.specs.CommonPlaces.{sharedExponent, withSome, sharedWith, exponentBy, solvedExponent}
 use Rattle.pauli_theory.specs.ModuloPlaces.{movedPauli}
 use Rattle.pauli_theory.proofs.IfZero.{ifZero-map}

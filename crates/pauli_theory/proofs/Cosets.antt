@@ -8,22 +8,7 @@ use Rattle.pauli.proofs.Algebra.{times-assoc, times-I, times-lt, times-self, tu
 use Rattle.pauli_theory.specs.Group.{Generated, Inside}
 use Rattle.pauli_theory.specs.Membership.{exponentLeft}
 use Rattle.pauli_theory.specs.Theorems.{Coset}
-use Rattle.pauli_theory.proofs.Agree.{
-  Divisor,
-  four,
-  Agree,
-  agree-path,
-  agree-flip,
-  agree-join,
-  agree-normal,
-  agree-times,
-  agree-turned,
-  same-agree,
-  agree-same,
-  left-same,
-  left-agree,
-  Subgroup,
-}
+use Rattle.pauli_theory.proofs.Agree.{Divisor, four, Agree, agree-path, agree-flip, agree-join, agree-normal, agree-times, agree-turned, same-agree, agree-same, left-same, left-agree, Subgroup}
 use Rattle.pauli_theory.proofs.Group.{generated-subgroup}
 use Rattle.pauli_theory.proofs.Powers.{Power, powers, turned-in}
 

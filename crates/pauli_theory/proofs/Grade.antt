@@ -6,53 +6,20 @@ use Prim.Native.Nat.{ℕ, zero, suc, _%_, _^_, _<_, max}
 use native.Mathlib.Nat.{zero-mod}
 use native.Mathlib.Omega.{arith}
 use lib.ListN.{length}
-use Rattle.binar.specs.Row.{rowSum}
+use Rattle.bit_rows.specs.Row.{rowSum}
 use Rattle.binar.proofs.Lists.{all-of, all-map, all-zip, all-over, all-under}
-use Rattle.rolls.specs.RollTheorems.{All}
+use Rattle.supports.specs.Support.{All}
 use Rattle.pauli.specs.Pauli.{Pauli, I, anticommute, orderFour, indexedProduct}
-use Rattle.pauli.specs.Sets.{rowOf}
+use Rattle.roll_paulis.specs.Sets.{rowOf}
 use Rattle.pauli.proofs.Algebra.{I-times, orderFour-lt}
 use Rattle.pauli_theory.specs.Group.{Generated}
-use Rattle.pauli_theory.specs.Standard.{
-  supportOf,
-  formOf,
-  ifZero,
-  zeroRows,
-  nonzeroRows,
-  modulus,
-  rowGenerators,
-  someOrderFour,
-  someAnticommute,
-  exponentMod,
-}
-use Rattle.pauli_theory.proofs.Agree.{
-  Divisor,
-  one,
-  two,
-  four,
-  Agree,
-  agree-path,
-  agree-flip,
-  agree-join,
-  agree-weaker,
-  agree-normal,
-  agree-times,
-  agree-exponentMod,
-  Subgroup,
-}
+use Rattle.pauli_theory.specs.Standard.{supportOf, formOf, ifZero, zeroRows, nonzeroRows, modulus, rowGenerators, someOrderFour, someAnticommute, exponentMod}
+use Rattle.pauli_theory.proofs.Agree.{Divisor, one, two, four, Agree, agree-path, agree-flip, agree-join, agree-weaker, agree-normal, agree-times, agree-exponentMod, Subgroup}
 use Rattle.pauli_theory.proofs.Group.{generated-indexed}
 use Rattle.pauli_theory.proofs.Products.{Covers, covers-by, indexed-subspace}
 use Rattle.pauli_theory.proofs.Powers.{Power, agree-in, minus-by-square, minus-by-pair}
 use Rattle.pauli_theory.proofs.Tests.{orderFour-largest, largest-none, largest-found, Commuting, anticommute-none, anticommute-found, max-found}
-use Rattle.pauli_theory.proofs.Pivots.{
-  pivotProducts,
-  rowGenerators-are,
-  orderFour-agree,
-  zero-rows-scalar,
-  kernel-in,
-  commute-by-pivots,
-  order-by-pivots,
-}
+use Rattle.pauli_theory.proofs.Pivots.{pivotProducts, rowGenerators-are, orderFour-agree, zero-rows-scalar, kernel-in, commute-by-pivots, order-by-pivots}
 use Rattle.pauli_theory.proofs.Modulus.{lowered, lowered-divisor, lowered-multiple, lowered-power, modulus-divisor, modulus-divides, modulus-power}
 
 -- the test of `standard`: more than 0 if one is of order four or two anticommute

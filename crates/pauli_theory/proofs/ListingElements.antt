@@ -10,28 +10,14 @@ use lib.Bits.{bitOr}
 use lib.ListN.{length, getD, take, length-append, length-map, List·getD-append}
 use lib.Pow.{pow-add}
 use lib.Seq.{getD-append-add, take-at}
-use Rattle.binar.specs.Row.{weight}
-use Rattle.binar.proofs.Bits.{ones-zero}
+use Rattle.bit_rows.specs.Row.{weight}
+use Rattle.bit_rows.proofs.Bits.{ones-zero}
 use Rattle.binar.proofs.Lists.{all-map, all-by}
-use Rattle.rolls.specs.RollTheorems.{All}
+use Rattle.supports.specs.Support.{All}
 use Rattle.pauli.specs.Pauli.{Pauli, I, turned, pauliWeight, product, consIf, select, indexedProduct}
-use Rattle.pauli.specs.PauliTheorems.{PauliOn}
+use Rattle.roll_paulis.specs.PauliTheorems.{PauliOn}
 use Rattle.pauli_theory.specs.Group.{Generated, Promise, Honest}
-use Rattle.pauli_theory.specs.Standard.{
-  supportOf,
-  ifZero,
-  rank,
-  phase,
-  appended,
-  standard,
-  nonabelian,
-  bare,
-  someOrderFour,
-  someImaginary,
-  someMinus,
-  phaseStep,
-  log2Size,
-}
+use Rattle.pauli_theory.specs.Standard.{supportOf, ifZero, rank, phase, appended, standard, nonabelian, bare, someOrderFour, someImaginary, someMinus, phaseStep, log2Size}
 use Rattle.pauli_theory.specs.Listing.{upTo, subsets, subsetAt, nontrivial, phaseCount, phasesOf, withPhases, elementsOf}
 use Rattle.pauli_theory.specs.ListingTheorems.{ElementsLaw, ListedLaw}
 use Rattle.pauli_theory.proofs.Agree.{Divisor, one, two, four}
@@ -41,18 +27,7 @@ use Rattle.pauli_theory.proofs.Grade.{signTest, grade}
 use Rattle.pauli_theory.proofs.Elements.{basis, basis-count, basis-products-in}
 use Rattle.pauli_theory.proofs.Standard.{completed, standard-is}
 use Rattle.pauli_theory.proofs.Phases.{basis-bare, phaseStep-grade}
-use Rattle.pauli_theory.proofs.Size.{
-  some-multiple,
-  multiples-count,
-  phases,
-  size,
-  element,
-  phases-positive,
-  element-in,
-  set-below,
-  elements-apart,
-  element-found,
-}
+use Rattle.pauli_theory.proofs.Size.{some-multiple, multiples-count, phases, size, element, phases-positive, element-in, set-below, elements-apart, element-found}
 use Rattle.pauli_theory.proofs.OverPlaces.{upTo-length, upTo-at}
 use Rattle.pauli_theory.proofs.ListingSubsets.{get-map, select-none, subset-at, subsets-count}
 use Rattle.pauli_theory.proofs.ListingNumbers.{ones-none, numbers-law}

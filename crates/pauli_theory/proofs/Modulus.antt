@@ -4,7 +4,7 @@ use mathlib.Core.List.{List, [], _∷_, map}
 use Prim.Native.Nat.{ℕ, zero, suc, _*_, _/_, _%_, _<_, min}
 use native.Mathlib.Omega.{arith}
 use Rattle.binar.proofs.Lists.{all-map, all-over, all-under}
-use Rattle.rolls.specs.RollTheorems.{All}
+use Rattle.supports.specs.Support.{All}
 use Rattle.pauli.specs.Pauli.{Pauli, I, turned, indexedProduct}
 use Rattle.pauli_theory.specs.Group.{Generated}
 use Rattle.pauli_theory.specs.Standard.{formOf, phaseOf, ifZero, zeroRows, modulusOf, modulus}

@@ -8,41 +8,24 @@ use native.Mathlib.Omega.{arith}
 use native.Mathlib.Decide.{decLt}
 use lib.Bits.{bitOr}
 use lib.ListN.{length, getD, take, drop, take-append-drop}
-use Rattle.binar.specs.Row.{bit}
+use Rattle.bit_rows.specs.Row.{bit}
 use Rattle.binar.specs.Echelon.{echelon, rank as echelonRank}
 use Rattle.binar.specs.Solve.{transposeSolve}
-use Rattle.binar.proofs.Bits.{bit-past}
+use Rattle.bit_rows.proofs.Bits.{bit-past}
 use Rattle.binar.proofs.Lists.{all-of, all-map, all-over, all-left, map-drop, map-same}
-use Rattle.rolls.specs.RollTheorems.{All, Rising}
+use Rattle.supports.specs.Support.{All, Rising}
 use Rattle.pauli.specs.Pauli.{Pauli, normal, indexedProduct}
-use Rattle.pauli.specs.Sets.{members, condense, rowOf}
-use Rattle.pauli.specs.PauliTheorems.{PauliOn}
-use Rattle.pauli.specs.Condense.{condensed}
-use Rattle.pauli.specs.Writing.{OnPlaces}
-use Rattle.rolls.proofs.Lists.{in-getD}
-use Rattle.pauli.proofs.MoreBits.{ext-below}
-use Rattle.rolls.proofs.SupportLaws.{rising-ext}
-use Rattle.pauli.proofs.Sets.{members-rise, members-has, members-only}
-use Rattle.pauli.proofs.Places.{condense-bit, condense-lt, condense-or}
+use Rattle.roll_paulis.specs.Sets.{members, condense, rowOf}
+use Rattle.roll_paulis.specs.PauliTheorems.{PauliOn}
+use Rattle.roll_paulis.specs.Condense.{condensed}
+use Rattle.roll_paulis.specs.Writing.{OnPlaces}
+use Rattle.supports.proofs.Lists.{in-getD}
+use Rattle.roll_paulis.proofs.MoreBits.{ext-below}
+use Rattle.supports.proofs.SupportLaws.{rising-ext}
+use Rattle.roll_paulis.proofs.Sets.{members-rise, members-has, members-only}
+use Rattle.roll_paulis.proofs.Places.{condense-bit, condense-lt, condense-or}
 use Rattle.pauli_theory.specs.Group.{Promise, none, abelian, notAbelian}
-use Rattle.pauli_theory.specs.Standard.{
-  usedBy,
-  supportOf,
-  formOf,
-  rank,
-  ifZero,
-  modulusOf,
-  someOrderFour,
-  someAnticommute,
-  exponentMod,
-  standard,
-  nonabelian,
-  someImaginary,
-  someMinus,
-  phaseStep,
-  log2Size,
-  stabilizer,
-}
+use Rattle.pauli_theory.specs.Standard.{usedBy, supportOf, formOf, rank, ifZero, modulusOf, someOrderFour, someAnticommute, exponentMod, standard, nonabelian, someImaginary, someMinus, phaseStep, log2Size, stabilizer}
 use Rattle.pauli_theory.specs.Membership.{Factorization, outside, exponentLeft, withPhase, factorizationOf}
 use Rattle.pauli_theory.proofs.IfZero.{ifZero-zero}
 use Rattle.pauli_theory.proofs.Form.{map-take}
@@ -51,18 +34,7 @@ use Rattle.pauli_theory.proofs.Grade.{signTest}
 use Rattle.pauli_theory.proofs.Standard.{standardOf}
 use Rattle.pauli_theory.proofs.StandardLaw.{standard-law}
 use Rattle.pauli_theory.proofs.ByProducts.{rowProducts, standard-by-products}
-use Rattle.pauli_theory.proofs.Placed.{
-  condense-none,
-  condensed-on,
-  condensed-exponentMod,
-  condensed-standardOf,
-  condensed-indexed,
-  condensed-someOrderFour,
-  condensed-someAnticommute,
-  condensed-someImaginary,
-  condensed-someMinus,
-  condensed-signTest,
-}
+use Rattle.pauli_theory.proofs.Placed.{condense-none, condensed-on, condensed-exponentMod, condensed-standardOf, condensed-indexed, condensed-someOrderFour, condensed-someAnticommute, condensed-someImaginary, condensed-someMinus, condensed-signTest}
 pub use Rattle.pauli_theory.proofs.Membership.{outside-on, on-outside}
 unfoldable pub use Rattle.pauli_theory.specs.Listing.{countFrom, upTo}
 

@@ -6,30 +6,21 @@ use Prim.Native.Nat.{ℕ, _+_, _*_, _%_, _^_, _<_}
 use native.Mathlib.Omega.{arith}
 use lib.ListN.{length, getD, length-map}
 use lib.Pow.{pow-lt}
-use Rattle.binar.specs.Row.{dot, rowSum}
+use Rattle.bit_rows.specs.Row.{dot, rowSum}
 use Rattle.binar.specs.Space.{RowSpace, Independent}
-use Rattle.binar.proofs.Bits.{dot-zero-l}
+use Rattle.bit_rows.proofs.Bits.{dot-zero-l}
 use Rattle.binar.proofs.Lists.{all-map, all-zip, all-join, all-left, all-right, all-get, all-by, all-under, map-same}
 use Rattle.binar.proofs.Span.{Subspace}
-use Rattle.rolls.specs.RollTheorems.{All}
+use Rattle.supports.specs.Support.{All}
 use Rattle.pauli.specs.Pauli.{Pauli, I, anticommute, orderFour, indexedProduct}
-use Rattle.pauli.specs.Sets.{rowOf, pauliOfRow}
+use Rattle.roll_paulis.specs.Sets.{rowOf, pauliOfRow}
 use Rattle.pauli.proofs.Algebra.{anticommute-comm, orderFour-I, orderFour-times}
-use Rattle.pauli.proofs.Rows.{row-back, on-I}
+use Rattle.roll_paulis.proofs.Rows.{row-back, on-I}
 use Rattle.pauli_theory.specs.Group.{Generated}
 use Rattle.pauli_theory.specs.Standard.{supportOf, formOf, rank, phaseOf, zeroRows, nonzeroRows, modulus, rowGenerators, exponentMod}
 use Rattle.pauli_theory.proofs.Agree.{two, four, Agree, agree-path, agree-join, agree-weaker, agree-normal}
 use Rattle.pauli_theory.proofs.Group.{generated-in, generated-indexed}
-use Rattle.pauli_theory.proofs.Products.{
-  indexed-unit,
-  indexed-zero,
-  indexed-times,
-  indexed-subspace,
-  covers-two,
-  anticommute-agree,
-  anticommute-unit,
-  commuting-subgroup,
-}
+use Rattle.pauli_theory.proofs.Products.{indexed-unit, indexed-zero, indexed-times, indexed-subspace, covers-two, anticommute-agree, anticommute-unit, commuting-subgroup}
 use Rattle.pauli_theory.proofs.Form.{rows-split, pivot-count, zero-rows-zero, pivot-rows-free, rows-made, all-sets, zero-sets, pivot-rows-span}
 use Rattle.pauli_theory.proofs.Rows.{row-I, row-indexed, rows-narrow, row-sets, support-rises, indexed-on}
 use Rattle.pauli_theory.proofs.Tests.{Commuting}

@@ -8,19 +8,7 @@ use Rattle.pauli.specs.Pauli.{Pauli, I, normal, times, turned, anticommute, ord
 use Rattle.pauli.proofs.Algebra.{I-times, times-self, turned-times-l, turned-turned, turned-normal, turned-zero, orderFour-lt, orderFour-times}
 use Rattle.pauli_theory.specs.Group.{Generated}
 use Rattle.pauli_theory.specs.Membership.{exponentLeft}
-use Rattle.pauli_theory.proofs.Agree.{
-  Divisor,
-  four,
-  Agree,
-  agree-path,
-  agree-join,
-  agree-flip,
-  agree-normal,
-  power-phase,
-  same-agree,
-  left-same,
-  left-agree,
-}
+use Rattle.pauli_theory.proofs.Agree.{Divisor, four, Agree, agree-path, agree-join, agree-flip, agree-normal, power-phase, same-agree, left-same, left-agree}
 use Rattle.pauli_theory.proofs.Group.{generated-subgroup}
 
 module _ (gs : List Pauli) where

@@ -6,25 +6,14 @@ use Prim.Native.Nat.{ℕ, zero, suc, _+_, _-_, _*_, _/_}
 use lib.ListN.{length}
 use Rattle.binar.specs.Solve.{transposeSolve}
 use Rattle.pauli.specs.Pauli.{Pauli}
-use Rattle.pauli.specs.Sets.{rowOf}
+use Rattle.roll_paulis.specs.Sets.{rowOf}
 use Rattle.pauli_theory.specs.Group.{Promise, Honest}
 use Rattle.pauli_theory.specs.Standard.{supportOf, formOf, rank, phaseStep, log2Size, stabilizer}
 use Rattle.pauli_theory.specs.Membership.{withPhase, factorizationOf}
 use Rattle.pauli_theory.specs.Order.{Order, ranksOf, partialCmp}
 use Rattle.pauli_theory.specs.Listing.{phaseCount, phasesOf, elementsOf}
 use Rattle.pauli_theory.specs.Modulo.{modulo, tryQuotient, ifBelow}
-use Rattle.pauli_theory.specs.Common.{
-  commonBasis,
-  withExponent,
-  commonPhaseFrom,
-  commonPhase,
-  consSome,
-  sharedOf,
-  commonPhases,
-  commonPart,
-  lesser,
-  bitand,
-}
+use Rattle.pauli_theory.specs.Common.{commonBasis, withExponent, commonPhaseFrom, commonPhase, consSome, sharedOf, commonPhases, commonPart, lesser, bitand}
 use Rattle.pauli_theory.specs.Theorems.{PromiseLaw, PromisesLaw}
 use Rattle.pauli_theory.proofs.Abelian.{promise-nonabelian}
 use Rattle.pauli_theory.proofs.Phases.{phaseStep-grade}

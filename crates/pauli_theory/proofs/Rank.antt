@@ -4,15 +4,15 @@ use mathlib.Core.List.{List, map}
 use Prim.Native.Nat.{ℕ, _*_, _≤_}
 use native.Mathlib.Omega.{arith}
 use lib.ListN.{length, length-map}
-use Rattle.binar.specs.Row.{rowSum}
+use Rattle.bit_rows.specs.Row.{rowSum}
 use Rattle.binar.specs.Space.{RowSpace, Independent}
 use Rattle.binar.proofs.Dimension.{independent-le}
 use Rattle.binar.proofs.Lists.{all-map, all-over}
 use Rattle.binar.proofs.Theorems.{space-law}
-use Rattle.rolls.specs.RollTheorems.{All}
+use Rattle.supports.specs.Support.{All}
 use Rattle.pauli.specs.Pauli.{Pauli, indexedProduct}
-use Rattle.pauli.specs.Sets.{rowOf}
-use Rattle.pauli.proofs.Rows.{row-lt, on-I}
+use Rattle.roll_paulis.specs.Sets.{rowOf}
+use Rattle.roll_paulis.proofs.Rows.{row-lt, on-I}
 use Rattle.pauli_theory.specs.Group.{Generated, Inside}
 use Rattle.pauli_theory.specs.Standard.{supportOf, formOf, rank}
 use Rattle.pauli_theory.specs.Theorems.{RankLaw}

@@ -10,7 +10,7 @@ use lib.ListN.{length, getD, length-map}
 use lib.Pow.{pow-add}
 use Rattle.binar.proofs.Lists.{all-by}
 use Rattle.pauli.specs.Pauli.{Pauli, I, Same, turned, indexedProduct}
-use Rattle.pauli.specs.Sets.{rowOf}
+use Rattle.roll_paulis.specs.Sets.{rowOf}
 use Rattle.pauli_theory.specs.Group.{Generated, Promise, Honest}
 use Rattle.pauli_theory.specs.Standard.{supportOf, rank, phaseStep, log2Size}
 use Rattle.pauli_theory.specs.Membership.{exponentLeft}

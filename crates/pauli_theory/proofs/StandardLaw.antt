@@ -8,27 +8,10 @@ use lib.ListN.{length, length-append, length-map}
 use Rattle.binar.specs.Echelon.{Row}
 use Rattle.binar.proofs.Lists.{all-of, all-map, all-join, all-over}
 use Rattle.binar.proofs.Transform.{rows-count}
-use Rattle.rolls.specs.RollTheorems.{All}
+use Rattle.supports.specs.Support.{All}
 use Rattle.pauli.specs.Pauli.{Pauli}
-use Rattle.pauli.specs.Sets.{rowOf}
-use Rattle.pauli_theory.specs.Standard.{
-  supportOf,
-  formOf,
-  rank,
-  phaseOf,
-  ifZero,
-  zeroRows,
-  nonzeroRows,
-  modulusOf,
-  modulus,
-  rowGenerators,
-  someOrderFour,
-  someAnticommute,
-  phase,
-  appended,
-  exponentMod,
-  standard,
-}
+use Rattle.roll_paulis.specs.Sets.{rowOf}
+use Rattle.pauli_theory.specs.Standard.{supportOf, formOf, rank, phaseOf, ifZero, zeroRows, nonzeroRows, modulusOf, modulus, rowGenerators, someOrderFour, someAnticommute, phase, appended, exponentMod, standard}
 use Rattle.pauli_theory.specs.Theorems.{StandardLaw}
 use Rattle.pauli_theory.proofs.Agree.{divisor-positive, divisor-le}
 use Rattle.pauli_theory.proofs.Form.{rows-split, pivot-count}

@@ -3,9 +3,9 @@ use mathlib.Core.Path.{_≡_, refl, sym, ap, ap₂, _∙_}
 use mathlib.Core.List.{List, [], _∷_, _++_, map}
 use Prim.Native.Nat.{ℕ, zero, suc, _/_, _%_, _<_, max}
 use native.Mathlib.Omega.{arith}
-use Rattle.binar.proofs.Bits.{dot-comm}
+use Rattle.bit_rows.proofs.Bits.{dot-comm}
 use Rattle.binar.proofs.Lists.{all-map, all-zip}
-use Rattle.rolls.specs.RollTheorems.{All}
+use Rattle.supports.specs.Support.{All}
 use Rattle.pauli.specs.Pauli.{Pauli, anticommute, orderFour}
 use Rattle.pauli.proofs.Algebra.{anticommute-lt, anticommute-comm}
 use Rattle.pauli_theory.specs.Standard.{ifZero, someOrderFour, anticommutesWithSome, someAnticommute, bare, someImaginary, someMinus}

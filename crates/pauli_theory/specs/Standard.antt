@@ -5,7 +5,7 @@ use lib.Bits.{bitOr}
 use lib.ListN.{length}
 use Rattle.binar.specs.Echelon.{Row, EchelonForm, echelon, rank as echelonRank}
 use Rattle.pauli.specs.Pauli.{Pauli, anticommute, orderFour, indexedProduct}
-use Rattle.pauli.specs.Sets.{members, rowOf, pauliOfRow}
+use Rattle.roll_paulis.specs.Sets.{members, rowOf, pauliOfRow}
 use Rattle.pauli_theory.specs.Group.{Promise, none, abelian, notAbelian}
 
 -- the qubits that a list uses, as a set and as the rising list, its support

@@ -6,10 +6,10 @@ use Prim.Native.Nat.{ℕ, _+_, _-_, _*_, _%_, _^_, _≤_, _<_, min, max}
 use lib.ListN.{length, getD}
 use Rattle.binar.specs.Space.{RowSpace, Independent, Dimension}
 use Rattle.rolls.specs.Roll.{mostPaulis}
-use Rattle.rolls.specs.RollTheorems.{All}
+use Rattle.supports.specs.Support.{All}
 use Rattle.pauli.specs.Pauli.{Pauli, I, Same, times, turned, anticommute, indexedProduct}
-use Rattle.pauli.specs.Sets.{rowOf}
-use Rattle.pauli.specs.PauliTheorems.{PauliOn}
+use Rattle.roll_paulis.specs.Sets.{rowOf}
+use Rattle.roll_paulis.specs.PauliTheorems.{PauliOn}
 use Rattle.pauli_theory.specs.Group.{Generated, Inside, SameGroup, Abelian, Promise, Honest}
 use Rattle.pauli_theory.specs.Standard.{supportOf, formOf, rank, standard, nonabelian, phaseStep, log2Size, stabilizer}
 use Rattle.pauli_theory.specs.Membership.{Factorization, factorizationOf}

@@ -3,9 +3,9 @@ ghost use Prim.Native.Nat.{_≤_, min};
 ghost use mathlib.Core.Path.{_≡_};
 ghost use lib.ListN.{length};
 use libc::STDOUT_FILENO;
-use pauli::write::Wrote;
-use rolls::refusal::Refusal;
-use rolls::refusal::number_of;
+use roll_paulis::write::Wrote;
+use supports::refusal::Refusal;
+use supports::refusal::number_of;
 
 const WORK_WORDS: usize = 4096;
 

@@ -2,14 +2,14 @@
 use crate::lines::number;
 use crate::lines::print_refusal;
 use crate::lines::text;
+use comparison::answers::Order;
+use comparison::answers::OrderFound;
 use pauli_group::answers::Decided;
 use pauli_group::answers::MemberFound;
 use pauli_group::answers::Phases;
 use pauli_group::answers::PhasesFound;
 use pauli_group::answers::RankFound;
 use pauli_group::answers::SizeFound;
-use two_groups::answers::Order;
-use two_groups::answers::OrderFound;
 
 pub(crate) fn print_rank(found: RankFound) {
     match found {

@@ -4,11 +4,11 @@ use mathlib.Core.List.{List}
 use Prim.Native.Nat.{ℕ, _≤_}
 use native.Mathlib.Omega.{arith}
 use lib.ListN.{length, take}
-use Rattle.rolls.specs.declared.refusal.Refusal.{Refusal}
-use Rattle.rolls.specs.Told.{Told, answer}
-use Rattle.pauli.specs.declared.write.Wrote.{Wrote}
-use Rattle.pauli.specs.declared.write.Wrote.the-variants.{Bytes, Refused}
-use Rattle.pauli.specs.Answers.{toldWrote}
+use Rattle.supports.specs.declared.refusal.Refusal.{Refusal}
+use Rattle.supports.specs.Told.{Told, answer}
+use Rattle.roll_paulis.specs.declared.write.Wrote.{Wrote}
+use Rattle.roll_paulis.specs.declared.write.Wrote.the-variants.{Bytes, Refused}
+use Rattle.roll_paulis.specs.Answers.{toldWrote}
 use Rattle.closing_report.specs.Bound.{NeverRefused, Printed}
 use Rattle.closing_report.specs.Contract.{ReportCall}
 use Rattle.closing_report.specs.Listing.{listing}

@@ -6,10 +6,10 @@ use Prim.Native.Nat.{ℕ, zero, suc, _+_, _*_, _/_, _%_, _^_, _≤_, _<_}
 use native.Mathlib.Nat.{add-zero, add-assoc, div-div-eq-div-mul}
 use native.Mathlib.Omega.{arith}
 use lib.ListN.{length, getD, drop}
-use Rattle.rolls.specs.Bytes.{u16At, u32At, le16, le32, numbersAt, le32s}
-use Rattle.rolls.specs.RollTheorems.{All}
+use Rattle.supports.specs.Bytes.{u16At, u32At, le16, le32, numbersAt, le32s}
+use Rattle.supports.specs.Support.{All}
 use Rattle.rolls.proofs.Items.{itemsAt, itemsBytes, length-itemsAt, getD-itemsAt, length-itemsBytes, all-bytes-items, items-read, items-written}
-use Rattle.rolls.proofs.Lists.{AllBytes, byte-at, drop-past, getD-front, drop-one}
+use Rattle.supports.proofs.Lists.{AllBytes, byte-at, drop-past, getD-front, drop-one}
 
 -- n as k bytes
 unfoldable pub bytes : ℕ → ℕ → List ℕ

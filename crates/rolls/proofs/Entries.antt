@@ -5,10 +5,10 @@ use Prim.Native.Nat.{ℕ, zero, suc, _+_, _*_, _^_, _≤_, _<_}
 use native.Mathlib.Nat.{add-assoc}
 use native.Mathlib.Omega.{arith}
 use lib.ListN.{length, getD, drop, length-append}
-use Rattle.rolls.specs.Bytes.{le16, le32}
+use Rattle.supports.specs.Bytes.{le16, le32}
 use Rattle.rolls.specs.Roll.{Entry, entryAt, entriesAt}
-use Rattle.rolls.specs.RollTheorems.{All}
-use Rattle.rolls.proofs.Lists.{AllBytes, all-bytes-append, drop-past, getD-front, drop-one}
+use Rattle.supports.specs.Support.{All}
+use Rattle.supports.proofs.Lists.{AllBytes, all-bytes-append, drop-past, getD-front, drop-one}
 use Rattle.rolls.proofs.Items.{itemsAt, itemsBytes, length-itemsAt, getD-itemsAt, length-itemsBytes, items-read, items-written}
 use Rattle.rolls.proofs.BytesLaws.{u16-read, u32-read, u16-written, u32-written, length-le16, length-le32, all-bytes-le16, all-bytes-le32}
 

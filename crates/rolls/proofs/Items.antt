@@ -5,8 +5,8 @@ use Prim.Native.Nat.{ℕ, zero, suc, _+_, _*_, _≤_, _<_}
 use native.Mathlib.Nat.{add-zero, mul-zero}
 use native.Mathlib.Omega.{arith}
 use lib.ListN.{length, getD, drop, length-append}
-use Rattle.rolls.specs.RollTheorems.{All}
-use Rattle.rolls.proofs.Lists.{AllBytes, all-bytes-append, drop-past}
+use Rattle.supports.specs.Support.{All}
+use Rattle.supports.proofs.Lists.{AllBytes, all-bytes-append, drop-past}
 
 -- n items, the first at byte i; `at` reads one
 unfoldable pub itemsAt : {A : Type 0} → ℕ → (ℕ → A) → ℕ → ℕ → List A

@@ -1,8 +1,6 @@
-pub mod Lists
 pub mod Items
 pub mod BytesLaws
-pub mod SupportLaws
-pub mod Walk
+pub mod ListSupport
 pub mod Told
 pub mod Entries
 pub mod Paulis

@@ -4,10 +4,11 @@ use Prim.Native.Nat.{ℕ, _+_, _*_, _^_, _≤_, _<_}
 use native.Mathlib.Omega.{arith}
 use lib.ListN.{length, length-append}
 use Rattle.binar.proofs.Lists.{all-map, all-join}
-use Rattle.rolls.specs.Roll.{mostPaulis, mostQubits, highestQubit, Sparse, numbers, support}
-use Rattle.rolls.specs.RollTheorems.{All, Allowed, Within}
-use Rattle.rolls.proofs.Lists.{all-in, all-mem}
-use Rattle.rolls.proofs.SupportLaws.{sets-in-numbers, in-support, rising-in-support}
+use Rattle.rolls.specs.Roll.{mostPaulis, highestQubit, Sparse, numbers, support}
+use Rattle.supports.specs.Support.{mostQubits, All}
+use Rattle.rolls.specs.RollTheorems.{Allowed, Within}
+use Rattle.supports.proofs.Lists.{all-in, all-mem}
+use Rattle.rolls.proofs.ListSupport.{sets-in-numbers, in-support, rising-in-support}
 use Rattle.rolls.proofs.Entries.{Fits}
 use Rattle.rolls.proofs.Paulis.{entryOf, entriesOf}
 

@@ -6,10 +6,11 @@ use native.Mathlib.Nat.{add-zero}
 use native.Mathlib.Omega.{arith}
 use lib.ListN.{length, getD, drop, length-append}
 use Rattle.binar.proofs.Lists.{all-map}
-use Rattle.rolls.specs.Bytes.{numbersAt, le32s}
+use Rattle.supports.specs.Bytes.{numbersAt, le32s}
 use Rattle.rolls.specs.Roll.{highestQubit, Sparse, Entry, paulisAt, entry, table, numbers, bodies}
-use Rattle.rolls.specs.RollTheorems.{All, Allowed}
-use Rattle.rolls.proofs.Lists.{AllBytes, all-bytes-append, drop-past}
+use Rattle.rolls.specs.RollTheorems.{Allowed}
+use Rattle.supports.specs.Support.{All}
+use Rattle.supports.proofs.Lists.{AllBytes, all-bytes-append, drop-past}
 use Rattle.rolls.proofs.Items.{itemsBytes}
 use Rattle.rolls.proofs.BytesLaws.{le32s-append, length-numbers, length-le32s, all-bytes-le32s, numbers-read, numbers-written}
 use Rattle.rolls.proofs.Entries.{tenBytes, all-bytes-tenBytes}

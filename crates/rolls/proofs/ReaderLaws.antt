@@ -10,20 +10,21 @@ use borrow.Author.Tests.{lt-ltb, le-ltb, eq-eqb, ne-eqb}
 use lib.Dec.{eqb, ltb}
 use lib.ListN.{length, getD, take}
 use Rattle.rolls.specs.declared.roll.Entry.{Entry as CodeEntry}
-use Rattle.rolls.specs.Told.{Told, answer, refused, refuseIf, andThen, mapTold}
-use Rattle.rolls.specs.Bytes.{u16At, u32At, numbersAt}
-use Rattle.rolls.specs.Roll.{mostPaulis, mostQubits, highestQubit, Sparse, Entry, entryAt, entriesAt, paulisAt, checkEntries, checkSet, checkSets}
-use Rattle.rolls.specs.Roll.{insertAll, numbers, support, read, countOf}
+use Rattle.supports.specs.Told.{Told, answer, refused, refuseIf, andThen, mapTold}
+use Rattle.supports.specs.Bytes.{u16At, u32At, numbersAt}
+use Rattle.rolls.specs.Roll.{mostPaulis, highestQubit, Sparse, Entry, entryAt, entriesAt, paulisAt, checkEntries, checkSet, checkSets, numbers, support, read, countOf}
+use Rattle.supports.specs.Support.{mostQubits, insertAll}
 use Rattle.rolls.specs.Answers.{toldEntry}
-use Rattle.rolls.specs.Known.{Gathered}
+use Rattle.supports.specs.Known.{Gathered}
 use Rattle.rolls.proofs.Told.{refused-none, test-pass, test-refuses}
 use Rattle.rolls.proofs.BytesLaws.{length-numbers}
 use Rattle.rolls.proofs.Entries.{length-entries}
 use Rattle.rolls.proofs.Paulis.{counted, length-paulis}
 use Rattle.rolls.proofs.Checks.{entries-passed}
 use Rattle.rolls.proofs.RollLaws.{parts-count, answer-parts}
-use Rattle.rolls.proofs.SupportLaws.{numbers-append, insertAll-append}
-use Rattle.rolls.proofs.Walk.{numbers-next, numbers-end}
+use Rattle.supports.proofs.SupportLaws.{insertAll-append}
+use Rattle.rolls.proofs.ListSupport.{numbers-append}
+use Rattle.supports.proofs.Walk.{numbers-next, numbers-end}
 
 -- ---- entries
 

@@ -9,18 +9,18 @@ use lib.ListN.{length, getD, drop, length-append, length-map}
 use lib.Seq.{drop-length}
 use borrow.Author.Tests.{ltb-false, eqb-true, not-false, le-ltb, eq-eqb}
 use Rattle.binar.proofs.Lists.{all-map, all-zip, all-over}
-use Rattle.rolls.specs.Told.{answer, andThen}
-use Rattle.rolls.specs.Bytes.{u16At, le16}
-use Rattle.rolls.specs.Roll.{mostPaulis, mostQubits, Sparse, Entry, entryAt, entriesAt, paulisAt, numbers, support, read, table, bodies, encode, byValue, write}
-use Rattle.rolls.specs.RollTheorems.{All, Allowed, Within, ReadLaw}
-use Rattle.rolls.proofs.Lists.{AllBytes, all-bytes-append, byte-at, drop-past}
+use Rattle.supports.specs.Told.{answer, andThen}
+use Rattle.supports.specs.Bytes.{u16At, le16}
+use Rattle.rolls.specs.Roll.{mostPaulis, Sparse, Entry, entryAt, entriesAt, paulisAt, numbers, support, read, table, bodies, encode, byValue, write}
+use Rattle.supports.specs.Support.{mostQubits, All}
+use Rattle.rolls.specs.RollTheorems.{Allowed, Within, ReadLaw}
+use Rattle.supports.proofs.Lists.{AllBytes, all-bytes-append, byte-at, drop-past}
 use Rattle.rolls.proofs.Items.{itemsBytes}
 use Rattle.rolls.proofs.BytesLaws.{u16-read, u16-written, length-le16, all-bytes-le16}
-use Rattle.rolls.proofs.SupportLaws.{support-byValue}
+use Rattle.rolls.proofs.ListSupport.{support-byValue}
 use Rattle.rolls.proofs.Told.{test-pass, test-passed, answered}
 use Rattle.rolls.proofs.Entries.{tenBytes, length-entries, getD-entries, length-entriesBytes, entries-read, entries-written}
-use Rattle.rolls.proofs.Paulis.{entriesOf, counted, Placed, bodyAt, table-entries, length-entriesOf, entriesOf-placed, entriesOf-counted, length-bodies}
-use Rattle.rolls.proofs.Paulis.{all-bytes-table, all-bytes-bodies, length-paulis, entriesOf-paulis, paulis-read, paulis-written, getD-paulis}
+use Rattle.rolls.proofs.Paulis.{entriesOf, counted, Placed, bodyAt, table-entries, length-entriesOf, entriesOf-placed, entriesOf-counted, length-bodies, all-bytes-table, all-bytes-bodies, length-paulis, entriesOf-paulis, paulis-read, paulis-written, getD-paulis}
 use Rattle.rolls.proofs.Checks.{AllowedSets, entries-pass, entries-passed, sets-pass, sets-passed}
 use Rattle.rolls.proofs.Limits.{within-fits}
 

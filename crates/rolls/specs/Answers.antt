@@ -1,8 +1,5 @@
 -- What the answers of the reader tell: document 01's numbers and values for each of their cases.
 use Prim.Native.Nat.{ℕ}
-use Rattle.rolls.specs.declared.refusal.Reason.{Reason}
-use Rattle.rolls.specs.declared.refusal.Reason.the-variants.{Length, Paulis, Entry, Exponent, Qubit, Rising, Qubits, Number, Work, Listing, Subgroup, Output}
-use Rattle.rolls.specs.declared.refusal.Refusal.{Refusal}
 use Rattle.rolls.specs.declared.roll.Entry.{Entry as CodeEntry}
 use Rattle.rolls.specs.declared.roll.EntriesChecked.{EntriesChecked}
 use Rattle.rolls.specs.declared.roll.EntriesChecked.the-variants.{Numbers, Refused as EntriesRefused}
@@ -10,27 +7,9 @@ use Rattle.rolls.specs.declared.roll.SetsChecked.{SetsChecked}
 use Rattle.rolls.specs.declared.roll.SetsChecked.the-variants.{Passed, Refused as SetsRefused}
 use Rattle.rolls.specs.declared.roll.Checked.{Checked}
 use Rattle.rolls.specs.declared.roll.Checked.the-variants.{Count, Refused}
-use Rattle.rolls.specs.Told.{Told, answer, refused}
+use Rattle.supports.specs.Told.{Told, answer}
 use Rattle.rolls.specs.Roll.{Entry as RollEntry}
-
--- the table of "Turned back"
-abbrev pub numberOf : Reason → ℕ
-numberOf Length = 1
-numberOf Paulis = 2
-numberOf Entry = 3
-numberOf Exponent = 4
-numberOf Qubit = 5
-numberOf Rising = 6
-numberOf Qubits = 7
-numberOf Number = 8
-numberOf Work = 9
-numberOf Listing = 10
-numberOf Subgroup = 11
-numberOf Output = 12
-
--- "A refusal carries its number and its place"
-abbrev pub toldRefusal : {A : Type 0} → Refusal → Told A
-toldRefusal r = refused (numberOf (r .reason)) (r .place)
+use Rattle.supports.specs.Refusals.{toldRefusal}
 
 -- the entry that the code holds
 abbrev pub toldEntry : CodeEntry → RollEntry

@@ -1,18 +1,16 @@
 -- Rolls: document 01, "Roll" and "Turned back", 1 to 7.
-use mathlib.Core.Bool.{not, cond}
+use mathlib.Core.Bool.{not}
 use mathlib.Core.List.{List, [], _∷_, _++_, map}
 use Prim.Native.Nat.{ℕ, zero, suc, _+_, _*_, _%_}
 use lib.Dec.{eqb, ltb}
 use lib.ListN.{length, getD}
-use Rattle.rolls.specs.Told.{Told, answer, refuseIf, andThen, mapTold}
-use Rattle.rolls.specs.Bytes.{u16At, u32At, le16, le32, numbersAt, le32s}
+use Rattle.supports.specs.Told.{Told, answer, refuseIf, andThen, mapTold}
+use Rattle.supports.specs.Bytes.{u16At, u32At, le16, le32, numbersAt, le32s}
+use Rattle.supports.specs.Support.{mostQubits, insertAll}
 
--- at most 128 Paulis, 128 distinct qubits, qubit number 65,535
+-- "At most 128 Paulis, 128 distinct qubits, qubit number 65,535"; mostQubits is in Support
 unfoldable pub mostPaulis : ℕ
 mostPaulis = 128
-
-unfoldable pub mostQubits : ℕ
-mostQubits = 128
 
 unfoldable pub highestQubit : ℕ
 highestQubit = 65535
@@ -65,16 +63,6 @@ checkSet i least (q ∷ qs) = refuseIf (ltb highestQubit q) 5 i (refuseIf (ltb q
 unfoldable pub checkSets : ℕ → List Sparse → Told Unit
 checkSets i [] = answer tt
 checkSets i (p ∷ ps) = andThen (checkSet i 0 (p .xs)) λ _. andThen (checkSet i 0 (p .zs)) λ _. checkSets (suc i) ps
-
--- q put into a rising list, once
-unfoldable pub insert : ℕ → List ℕ → List ℕ
-insert q [] = q ∷ []
-insert q (r ∷ rs) = cond (ltb q r) (q ∷ r ∷ rs) (cond (eqb q r) (r ∷ rs) (r ∷ insert q rs))
-
--- all of qs put into it
-unfoldable pub insertAll : List ℕ → List ℕ → List ℕ
-insertAll [] known = known
-insertAll (q ∷ qs) known = insertAll qs (insert q known)
 
 -- the qubit numbers of all sets, in the order of the bodies
 unfoldable pub numbers : List Sparse → List ℕ

@@ -1,20 +1,11 @@
 -- What is proved of rolls.
 use mathlib.Core.Path.{_≡_}
-use mathlib.Core.List.{List, [], _∷_, map}
-use Prim.Native.Nat.{ℕ, suc, _≤_, _<_}
+use mathlib.Core.List.{List, map}
+use Prim.Native.Nat.{ℕ, _≤_, _<_}
 use lib.ListN.{length}
-use Rattle.rolls.specs.Told.{answer}
-use Rattle.rolls.specs.Roll.{mostPaulis, mostQubits, highestQubit, Sparse, support, read, encode, write, byValue}
-
--- each element of a list has the property P
-abbrev pub All {ℓ} : {A : Type ℓ} → (A → Type 0) → List A → Type 0
-All P [] = Unit {0}
-All P (x ∷ xs) = P x × All P xs
-
--- the list rises strictly, from `least` on
-abbrev pub Rising : ℕ → List ℕ → Type 0
-Rising least [] = Unit {0}
-Rising least (q ∷ qs) = (least ≤ q) × Rising (suc q) qs
+use Rattle.supports.specs.Told.{answer}
+use Rattle.rolls.specs.Roll.{mostPaulis, highestQubit, Sparse, support, read, encode, write, byValue}
+use Rattle.supports.specs.Support.{mostQubits, All, Rising}
 
 -- a set that a roll can hold, rising from `least` on
 pub record AllowedSet (least : ℕ) (qs : List ℕ) : Type 0 where

@@ -3,22 +3,24 @@ ghost use mathlib.Core.Path.{_≡_};
 ghost use mathlib.Core.List.{[]};
 ghost use Prim.Native.Nat.{suc, _+_, _*_, _≤_, _<_, min};
 ghost use lib.ListN.{length};
-ghost use Rattle.rolls.specs.Bytes.{numbersAt};
-ghost use Rattle.rolls.specs.Roll.{mostPaulis, mostQubits, entryAt, entriesAt, paulisAt, checkEntries, checkSet, checkSets, numbers, insertAll, countOf};
-ghost use Rattle.rolls.specs.Told.{refused};
-ghost use Rattle.rolls.specs.Answers.{numberOf, toldEntry, toldNumbers, toldPassed, toldCount};
-use crate::bytes::u16_at;
-use crate::bytes::u32_at;
-use crate::refusal::Reason;
-use crate::refusal::Refusal;
-use crate::support::gather;
+ghost use Rattle.supports.specs.Bytes.{numbersAt};
+ghost use Rattle.rolls.specs.Roll.{mostPaulis, entryAt, entriesAt, paulisAt, checkEntries, checkSet, checkSets, numbers, countOf};
+ghost use Rattle.supports.specs.Support.{mostQubits, insertAll};
+ghost use Rattle.supports.specs.Told.{refused};
+ghost use Rattle.rolls.specs.Answers.{toldEntry, toldNumbers, toldPassed, toldCount};
+ghost use Rattle.supports.specs.Refusals.{numberOf};
+use supports::bytes::u16_at;
+use supports::bytes::u32_at;
+use supports::refusal::Reason;
+use supports::refusal::Refusal;
+use supports::support::MOST_QUBITS;
+use supports::support::gather;
 
 // The highest qubit number of a roll.
 pub const HIGHEST_QUBIT: u32 = 65535;
+
 // The most Paulis of a list.
 pub const MOST_PAULIS: usize = 128;
-// The most distinct qubits of a list.
-pub const MOST_QUBITS: usize = 128;
 
 // What the table says of a Pauli.
 pub struct Entry {

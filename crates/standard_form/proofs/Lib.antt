@@ -1,15 +1,3 @@
-pub mod ListLaws
-pub mod AreaLaws
-pub mod RowLaws
-pub mod FormLaws
-pub mod MadeLaws
-pub mod BuildLaws
-pub mod GroupLaws
 pub mod ScanLaws
 pub mod PhaseLaws
 pub mod StandardLaws
-pub mod GroupedLaws
-pub mod KeptLaws
-pub mod MemberLaws
-pub mod SolveLaws
-pub mod FactorLaws

@@ -10,11 +10,11 @@ use Rattle.pauli.specs.Pauli.{Pauli, normal}
 use Rattle.pauli.specs.Signed.{setIn, held, pauliIn, pauliWords, listIn}
 use Rattle.pauli.proofs.Algebra.{pauli-path}
 use Rattle.pauli.proofs.SignedLaws.{zero-bit}
-use Rattle.pauli.proofs.Writers.{listFrom, list-start, list-next, list-end, length-list}
+use Rattle.roll_paulis.proofs.Writers.{listFrom, list-start, list-next, list-end, length-list}
 use Rattle.pauli_theory.specs.Standard.{ifZero, modulusOf, exponentMod, phase, appended}
 use Rattle.pauli_theory.proofs.IfZero.{ifZero-zero, ifZero-more}
-use Rattle.standard_form.specs.Area.{Outside}
-use Rattle.standard_form.proofs.ListLaws.{list-append, list-one, list-snoc, outside-refl, outside-join, outside-wider, list-kept, pauli-kept-after, set-outside, store-outside, store-pauli}
+use Rattle.work_area.specs.Area.{Outside}
+use Rattle.work_area.proofs.ListLaws.{list-append, list-one, list-snoc, outside-refl, outside-join, outside-wider, list-kept, pauli-kept-after, set-outside, store-outside, store-pauli}
 
 -- ---- the modulus
 

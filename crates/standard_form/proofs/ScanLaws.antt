@@ -6,14 +6,14 @@ use native.Mathlib.Omega.{arith}
 use lib.Bits.{bitOr}
 use lib.Count.{ones, ones-step}
 use lib.Pow.{mod-mod-pow}
-use Rattle.binar.specs.Row.{weight}
-use Rattle.binar.proofs.Bits.{ones-zero}
+use Rattle.bit_rows.specs.Row.{weight}
+use Rattle.bit_rows.proofs.Bits.{ones-zero}
 use Rattle.pauli.specs.declared.signed.Pauli.{Pauli as Held}
 use Rattle.pauli.specs.Pauli.{Pauli, normal, anticommute, orderFour, pauliWeight}
 use Rattle.pauli.specs.Signed.{held, pauliIn, listIn}
 use Rattle.pauli.proofs.Algebra.{anticommute-lt}
 use Rattle.pauli.proofs.SignedLaws.{zero-bit}
-use Rattle.pauli.proofs.Writers.{listFrom, list-start, list-next, list-end}
+use Rattle.roll_paulis.proofs.Writers.{listFrom, list-start, list-next, list-end}
 use Rattle.pauli_theory.specs.Standard.{ifZero, someOrderFour, anticommutesWithSome, someAnticommute, bare, someImaginary, someMinus}
 use Rattle.pauli_theory.proofs.IfZero.{ifZero-zero, ifZero-more}
 use Rattle.pauli_theory.proofs.Tests.{imaginary, minus}

@@ -8,12 +8,12 @@ use lib.Seq.{take-at, drop-at}
 use Rattle.pauli.specs.Pauli.{Pauli}
 use Rattle.pauli.specs.Signed.{listIn}
 use Rattle.pauli.proofs.SignedLaws.{zero-bit}
-use Rattle.pauli.proofs.Writers.{length-list}
+use Rattle.roll_paulis.proofs.Writers.{length-list}
 use Rattle.pauli_theory.specs.Standard.{ifZero, exponentMod, appended, someOrderFour, someAnticommute, someImaginary, someMinus}
 use Rattle.pauli_theory.proofs.IfZero.{ifZero-zero, ifZero-more}
-use Rattle.standard_form.specs.Area.{standardAt, Outside}
-use Rattle.standard_form.specs.Lists.{fromProducts, stepOf, stabilizerOf}
-use Rattle.standard_form.proofs.ListLaws.{list-append, outside-join, outside-wider}
+use Rattle.work_area.specs.Area.{standardAt, Outside}
+use Rattle.work_area.specs.Lists.{fromProducts, stepOf, stabilizerOf}
+use Rattle.work_area.proofs.ListLaws.{list-append, outside-join, outside-wider}
 use Rattle.standard_form.proofs.PhaseLaws.{modulusIn}
 use Rattle.standard_form.proofs.ScanLaws.{more-than, search-lt, search-imaginary}
 

@@ -1,5 +1,1 @@
-pub mod Area
 pub mod Promises
-pub mod Lists
-pub mod Groups
-pub mod Members

@@ -1,7 +1,7 @@
 -- What the caller promises of a list.
 use Rattle.pauli_theory.specs.Group.{Promise as Promised, none, abelian, notAbelian}
-use Rattle.standard_form.specs.declared.promise.Promise.{Promise}
-use Rattle.standard_form.specs.declared.promise.Promise.the-variants.{None, Abelian, NotAbelian}
+use Rattle.work_area.specs.declared.promise.Promise.{Promise}
+use Rattle.work_area.specs.declared.promise.Promise.the-variants.{None, Abelian, NotAbelian}
 
 abbrev pub promiseOf : Promise → Promised
 promiseOf None = none

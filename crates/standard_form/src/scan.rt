@@ -6,7 +6,7 @@ ghost use lib.ListN.{length};
 ghost use Rattle.pauli.specs.Signed.{held, listIn};
 ghost use Rattle.pauli.specs.Pauli.{Pauli as PauliOf};
 ghost use Rattle.pauli_theory.specs.Standard.{modulusOf, exponentMod, someOrderFour, anticommutesWithSome, someAnticommute, appended, someImaginary, someMinus, phase};
-ghost use Rattle.standard_form.specs.Area.{Outside};
+ghost use Rattle.work_area.specs.Area.{Outside};
 use pauli::signed::Pauli;
 use pauli::signed::Places;
 use pauli::signed::load;

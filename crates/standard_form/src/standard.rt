@@ -4,11 +4,9 @@ ghost use Prim.Native.Nat.{_+_, _*_, _/_, _^_, _≤_, _<_};
 ghost use lib.ListN.{length};
 ghost use Rattle.pauli.specs.Signed.{listIn};
 ghost use Rattle.pauli_theory.specs.Standard.{ifZero};
-ghost use Rattle.standard_form.specs.Area.{standardAt, Outside};
+ghost use Rattle.work_area.specs.Area.{standardAt, Outside};
 ghost use Rattle.standard_form.specs.Promises.{promiseOf};
-ghost use Rattle.standard_form.specs.Lists.{fromProducts, clashOf, stepOf, stabilizerOf};
-use crate::area::STANDARD;
-use crate::promise::Promise;
+ghost use Rattle.work_area.specs.Lists.{fromProducts, clashOf, stepOf, stabilizerOf};
 use crate::scan::append_phase;
 use crate::scan::modulus_of;
 use crate::scan::some_anticommute;
@@ -16,6 +14,8 @@ use crate::scan::some_imaginary;
 use crate::scan::some_minus;
 use crate::scan::some_order_four;
 use crate::scan::take_mod;
+use work_area::area::STANDARD;
+use work_area::promise::Promise;
 
 // What the standard generators tell: the phases, as the step between them, and 1 or 0 for not abelian and for a stabilizer group.
 pub struct Signs {

@@ -3,9 +3,9 @@ use Prim.Native.Nat.{ℕ, _+_, _-_, _*_, _^_, _≤_, _<_}
 use Rattle.binar.proofs.Bounds.{found-in}
 use Rattle.binar.proofs.Matrix.{length-matrix, row-in, two-rows}
 use Rattle.binar.proofs.Passes.{words-set, final, total, final-start, total-start, final-stop, total-stop, stops-end, stops-none, final-turn, total-turn}
-use Rattle.binar.proofs.Slice.{AreWords, exchanged}
+use Rattle.bit_rows.proofs.Slice.{AreWords, exchanged}
 use Rattle.binar.specs.Echelon.{addToOthers}
-use Rattle.binar.specs.Words.{rowAt, matrix, image}
+use Rattle.bit_rows.specs.Words.{rowAt, matrix, image}
 use borrow.Author.Needs.{needs}
 use lib.ListN.{length, set, drop, length-set}
 use mathlib.Core.List.{List}

@@ -3,8 +3,8 @@ use Prim.Native.Nat.{ℕ, _+_, _-_, _*_, _^_, _≤_, _<_}
 use Rattle.binar.proofs.Matrix.{cell-bit, row-in, length-matrix}
 use Rattle.binar.proofs.Search.{row-hit, row-miss, row-end, col-next, col-end}
 use Rattle.binar.specs.Echelon.{pivotOf, inColumn, byColumns}
-use Rattle.binar.specs.Row.{bit}
-use Rattle.binar.specs.Words.{value, rowAt, matrix}
+use Rattle.bit_rows.specs.Row.{bit}
+use Rattle.bit_rows.specs.Words.{value, rowAt, matrix}
 use lib.ListN.{length, getD, drop}
 use mathlib.Core.Path.{_≡_, refl, sym, ap, _∙_}
 use native.Mathlib.Omega.{arith}

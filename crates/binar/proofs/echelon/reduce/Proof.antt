@@ -3,10 +3,10 @@ use Prim.Native.Nat.{ℕ, _+_, _-_, _*_, _^_, _≤_, _<_}
 use Rattle.binar.proofs.Matrix.{row-in, two-rows}
 use Rattle.binar.proofs.Others.{cleared, length-cleared, clear-add, clear-pivot}
 use Rattle.binar.proofs.RowByRow.{rewritten, rewritten-none, rewritten-all, bit-here}
-use Rattle.binar.proofs.Bits.{bit-lt}
-use Rattle.binar.proofs.Slice.{AreWords}
-use Rattle.binar.specs.Row.{_⊕_}
-use Rattle.binar.specs.Words.{value, putRow, rowAt}
+use Rattle.bit_rows.proofs.Bits.{bit-lt}
+use Rattle.bit_rows.proofs.Slice.{AreWords}
+use Rattle.bit_rows.specs.Row.{_⊕_}
+use Rattle.bit_rows.specs.Words.{value, putRow, rowAt}
 use lib.ListN.{length, getD, drop}
 use mathlib.Core.Logic.{⊎-elim}
 use mathlib.Core.Path.{_≡_, refl, sym, ap, _∙_}
@@ -33,8 +33,8 @@ turn c =
     ⊎-elim
     (λ h. (
       h .7 ∙ h .4 .ensures
-      ∙ ap (λ (b : ℕ). putRow _ _ _ (rowAt _ _ _ ⊕ b * rowAt _ _ _)) (h .2 .ensures ∙ bit-here _ _ _ _ known (start .pre .0) (length-cleared _ _ _ _ _) _ inside _ (l .inv .2) _ (omega (arith, start .pre .0, l .inv .1)) (start .pre .2))
-      ∙ clear-add _ _ _ _ _ known (start .pre .0) (start .pre .1) _ inside _ (l .inv .2) (h .0 .taken),
+          ∙ ap (λ (b : ℕ). putRow _ _ _ (rowAt _ _ _ ⊕ b * rowAt _ _ _)) (h .2 .ensures ∙ bit-here _ _ _ _ known (start .pre .0) (length-cleared _ _ _ _ _) _ inside _ (l .inv .2) _ (omega (arith, start .pre .0, l .inv .1)) (start .pre .2))
+          ∙ clear-add _ _ _ _ _ known (start .pre .0) (start .pre .1) _ inside _ (l .inv .2) (h .0 .taken),
       ap length (h .7) ∙ h .4 .kept .0,
     ))
     (λ h. (h .1 ∙ clear-pivot _ _ _ _ _ known (start .pre .0) (start .pre .1) _ inside _ (l .inv .2) (h .0 .left), ap length (h .1)))

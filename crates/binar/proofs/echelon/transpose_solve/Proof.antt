@@ -4,7 +4,7 @@ use Prim.Native.Nat.{ℕ, _+_, _-_, _*_, _^_, _≤_, _<_}
 use Rattle.binar.proofs.Matrix.{row-in}
 use Rattle.binar.proofs.Sweep.{sweptFrom, from-start, from-end, pivot-inside, target-bit, target-rows, skip, added-row, added-from, ends, start-row}
 use Rattle.binar.specs.Layout.{swept, solution}
-use Rattle.binar.specs.Words.{rowAt, putRow}
+use Rattle.bit_rows.specs.Words.{rowAt, putRow}
 use borrow.Author.Needs.{needs}
 use lib.Dec.{eqb}
 use lib.ListN.{length}

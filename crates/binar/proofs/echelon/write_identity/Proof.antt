@@ -6,7 +6,7 @@ use Rattle.binar.proofs.Matrix.{row-in, length-matrix}
 use Rattle.binar.proofs.RowByRow.{rewritten, rewritten-none, rewritten-all, rewritten-row, row-here}
 use Rattle.binar.proofs.Transform.{beside-length}
 use Rattle.binar.specs.Echelon.{besideIdentity}
-use Rattle.binar.specs.Words.{rowAt, matrix}
+use Rattle.bit_rows.specs.Words.{rowAt, matrix}
 use lib.ListN.{length, getD, drop}
 use mathlib.Core.Path.{_≡_, refl, sym, ap, _∙_}
 use native.Mathlib.Nat.{zero-add}

@@ -1,9 +1,9 @@
 use mathlib.Core.Path.{_≡_, refl, sym, ap, _∙_}
 use native.Mathlib.Omega.{arith}
-use Rattle.rolls.specs.Told.{answer}
-use Rattle.joining.proofs.JoinLaws.{accepted-table, accepted-room}
-use Rattle.capi.specs.Code.{codeBody}
-use Rattle.capi.specs.Stretch.{Stretch}
+use Rattle.supports.specs.Told.{answer}
+use Rattle.joined_lists.proofs.JoinLaws.{accepted-table, accepted-room}
+use Rattle.answer_codes.specs.Code.{codeBody}
+use Rattle.answer_codes.specs.Stretch.{Stretch}
 use Rattle.capi.proofs.StretchLaws.{stretch-is}
 use borrow.Author.Needs.{needs}
 use Rattle.capi.proofs.roll_calls.stretch_in.Statement.{statement}

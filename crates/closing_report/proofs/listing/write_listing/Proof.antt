@@ -2,9 +2,9 @@
 use mathlib.Core.List.{[], _∷_}
 use native.Mathlib.Omega.{arith}
 use borrow.Author.Needs.{needs}
-use Rattle.closing_report.specs.Lines.{firstLine, memberLines}
+use Rattle.report_lines.specs.Lines.{firstLine, memberLines}
 use Rattle.closing_report.specs.Stored.{storedIn}
-use Rattle.closing_report.proofs.PutLaws.{joined, begun, next-put, length-both, text-short, text-long}
+use Rattle.report_lines.proofs.PutLaws.{joined, begun, next-put, length-both, text-short, text-long}
 use Rattle.closing_report.proofs.listing.write_listing.Statement.{statement}
 use Rattle.closing_report.proofs.listing.write_listing.Tie as tie
 

@@ -1,7 +1,7 @@
 -- By what membership tells.
 use mathlib.Core.Path.{ap, subst}
 use native.Mathlib.Omega.{arith}
-use Rattle.standard_form.specs.Members.{factoringTold}
+use Rattle.membership.specs.Members.{factoringTold}
 use Rattle.closing_report.specs.Stored.{Storable}
 use borrow.Author.Needs.{needs}
 use Rattle.closing_report.proofs.report.store_result.Statement.{statement}

@@ -3,14 +3,15 @@ use mathlib.Core.Path.{_≡_, ap, _∙_}
 use mathlib.Core.List.{List}
 use Prim.Native.Nat.{ℕ}
 use native.Mathlib.Omega.{arith}
-use Rattle.rolls.specs.Roll.{mostPaulis, mostQubits}
-use Rattle.rolls.specs.Told.{answer}
-use Rattle.joining.proofs.JoinLaws.{accepted-few}
-use Rattle.pauli.specs.Writing.{toldBytes, leftIn}
+use Rattle.rolls.specs.Roll.{mostPaulis}
+use Rattle.supports.specs.Support.{mostQubits}
+use Rattle.supports.specs.Told.{answer}
+use Rattle.joined_lists.proofs.JoinLaws.{accepted-few}
+use Rattle.roll_paulis.specs.Writing.{toldBytes, leftIn}
 use Rattle.pauli_theory.specs.Group.{none}
-use Rattle.standard_form.proofs.FactorLaws.{asked-of}
-use Rattle.standard_form.proofs.GroupLaws.{described}
-use Rattle.standard_form.proofs.GroupedLaws.{cleared-whole, group-total, group-places, list-few, list-length}
+use Rattle.membership.proofs.FactorLaws.{asked-of}
+use Rattle.group_form.proofs.GroupLaws.{described}
+use Rattle.group_form.proofs.GroupedLaws.{cleared-whole, group-total, group-places, list-few, list-length}
 use Rattle.closing_report.proofs.CallLaws.{report-text}
 use borrow.Author.Needs.{needs}
 use Rattle.closing_report.proofs.report.write_report.Statement.{statement}

@@ -1,8 +1,8 @@
 -- Invariant: the lines from element i on are left to put.
 use Prim.Native.Nat.{_-_, _≤_}
 use native.Mathlib.Omega.{arith}
-use Rattle.pauli.proofs.Puts.{Left, left-start}
-use Rattle.closing_report.specs.Lines.{memberLines}
+use Rattle.roll_paulis.proofs.Puts.{Left, left-start}
+use Rattle.report_lines.specs.Lines.{memberLines}
 use Rattle.closing_report.specs.Stored.{storedIn}
 use Rattle.closing_report.proofs.StoredLaws.{linesFrom, lines-start, lines-put, line-fits, line-put}
 use Rattle.closing_report.proofs.stored.put_lines.Statement.{statement}

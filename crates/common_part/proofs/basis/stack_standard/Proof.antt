@@ -1,11 +1,10 @@
 use mathlib.Core.Path.{_∙_}
 use native.Mathlib.Omega.{arith}
 use borrow.Author.Needs.{needs}
-use Rattle.rolls.specs.Roll.{mostQubits}
-use Rattle.standard_form.proofs.FactorLaws.{places-known}
-use Rattle.standard_form.proofs.GroupedLaws.{group-total, group-places, group-on}
+use Rattle.supports.specs.Support.{mostQubits}
+use Rattle.membership.proofs.FactorLaws.{places-known}
+use Rattle.group_form.proofs.GroupedLaws.{group-total, group-places, group-on}
 use Rattle.common_part.proofs.BasisLaws.{grouped-movable, joint-rises, joint-left, joint-right, stack-is}
-use borrow.Author.Needs.{needs}
 use Rattle.common_part.proofs.basis.stack_standard.Statement.{statement}
 use Rattle.common_part.proofs.basis.stack_standard.Tie as tie
 

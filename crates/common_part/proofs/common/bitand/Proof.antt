@@ -1,7 +1,7 @@
-use Rattle.joining.specs.Answers.{toldCounts}
+use Rattle.joined_lists.specs.Answers.{toldCounts}
 use Rattle.rolls.specs.Roll.{mostPaulis}
-use Rattle.joining.proofs.JoinLaws.{counts-joining}
-use Rattle.two_groups.proofs.OrderLaws.{pair-refused, pair-short, order-cleared}
+use Rattle.joined_lists.proofs.JoinLaws.{counts-joining}
+use Rattle.comparison.proofs.OrderLaws.{pair-refused, pair-short, order-cleared}
 use Rattle.common_part.proofs.PartLaws.{common-refused, common-answered}
 use lib.Seq.{length-take-le}
 use mathlib.Core.Path.{sym, ap, _∙_}

@@ -1,12 +1,11 @@
 use mathlib.Core.Path.{_∙_}
 use native.Mathlib.Omega.{arith}
 use borrow.Author.Needs.{needs}
-use Rattle.rolls.specs.Roll.{mostQubits}
-use Rattle.standard_form.proofs.FactorLaws.{places-known}
-use Rattle.standard_form.proofs.GroupLaws.{described}
-use Rattle.standard_form.proofs.GroupedLaws.{group-total}
+use Rattle.supports.specs.Support.{mostQubits}
+use Rattle.membership.proofs.FactorLaws.{places-known}
+use Rattle.group_form.proofs.GroupLaws.{described}
+use Rattle.group_form.proofs.GroupedLaws.{group-total}
 use Rattle.common_part.proofs.SharedLaws.{group-solving, group-further, group-movable, group-noted}
-use borrow.Author.Needs.{needs}
 use Rattle.common_part.proofs.common.note_by.Statement.{statement}
 use Rattle.common_part.proofs.common.note_by.Tie as tie
 

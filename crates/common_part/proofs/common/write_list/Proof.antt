@@ -3,14 +3,14 @@ use mathlib.Core.Path.{ap, _∙_}
 use Prim.Native.Nat.{ℕ}
 use native.Mathlib.Omega.{arith}
 use borrow.Author.Needs.{needs}
-use Rattle.joining.proofs.JoinLaws.{accepted-few}
-use Rattle.pauli.specs.Writing.{toldBytes, leftIn}
-use Rattle.rolls.specs.Roll.{mostPaulis, mostQubits}
-use Rattle.rolls.specs.Told.{answer}
-use Rattle.standard_form.proofs.FactorLaws.{places-known}
-use Rattle.standard_form.proofs.GroupedLaws.{group-places}
+use Rattle.joined_lists.proofs.JoinLaws.{accepted-few}
+use Rattle.roll_paulis.specs.Writing.{toldBytes, leftIn}
+use Rattle.rolls.specs.Roll.{mostPaulis}
+use Rattle.supports.specs.Support.{mostQubits}
+use Rattle.supports.specs.Told.{answer}
+use Rattle.membership.proofs.FactorLaws.{places-known}
+use Rattle.group_form.proofs.GroupedLaws.{group-places}
 use Rattle.common_part.proofs.SharedLaws.{list-on, list-written}
-use borrow.Author.Needs.{needs}
 use Rattle.common_part.proofs.common.write_list.Statement.{statement}
 use Rattle.common_part.proofs.common.write_list.Tie as tie
 

@@ -3,13 +3,12 @@ use mathlib.Core.Path.{ap, _∙_}
 use Prim.Native.Nat.{ℕ}
 use native.Mathlib.Omega.{arith}
 use borrow.Author.Needs.{needs}
-use Rattle.pauli.specs.Writing.{toldBytes, leftIn}
-use Rattle.rolls.specs.Roll.{mostQubits}
-use Rattle.rolls.specs.Told.{answer}
-use Rattle.standard_form.proofs.GroupedLaws.{step-kinds}
+use Rattle.roll_paulis.specs.Writing.{toldBytes, leftIn}
+use Rattle.supports.specs.Support.{mostQubits}
+use Rattle.supports.specs.Told.{answer}
+use Rattle.group_form.proofs.GroupedLaws.{step-kinds}
 use Rattle.common_part.proofs.BasisLaws.{joint-is}
 use Rattle.common_part.proofs.PartLaws.{part-on, part-left, once-on, once-right, part-places, part-written}
-use borrow.Author.Needs.{needs}
 use Rattle.common_part.proofs.common.write_part.Statement.{statement}
 use Rattle.common_part.proofs.common.write_part.Tie as tie
 

@@ -2,12 +2,11 @@
 use Prim.Native.Nat.{ℕ, _+_, _-_, _*_, _/_, _%_, _^_, _≤_, _<_}
 use Rattle.joining.proofs.ProductLaws.{left-refused, right-refused, many-refused, past-left-refused, past-right-refused, left-readable, right-readable, written}
 use Rattle.rolls.specs.Answers.{toldCount}
-use Rattle.rolls.specs.Roll.{mostQubits}
+use Rattle.supports.specs.Support.{mostQubits}
 use borrow.Author.Needs.{needs}
 use lib.ListN.{length, take}
 use mathlib.Core.Path.{_≡_, refl, sym, ap, ap₂, _∙_}
 use native.Mathlib.Omega.{arith}
-use borrow.Author.Needs.{needs}
 use Rattle.joining.proofs.product.product.Statement.{statement}
 use Rattle.joining.proofs.product.product.Tie as tie
 

@@ -1,9 +1,9 @@
 -- The product is stored over the places of the support and written from there.
 use Prim.Native.Nat.{ℕ, _+_, _-_, _*_, _/_, _%_, _^_, _≤_, _<_}
 use Rattle.joining.proofs.ProductLaws.{written-roll, written-places}
-use Rattle.pauli.specs.Condense.{listOf}
-use Rattle.rolls.specs.Told.{answer}
-use Rattle.pauli.specs.Writing.{toldBytes, leftIn}
+use Rattle.roll_paulis.specs.Condense.{listOf}
+use Rattle.supports.specs.Told.{answer}
+use Rattle.roll_paulis.specs.Writing.{toldBytes, leftIn}
 use borrow.Author.Needs.{needs}
 use lib.ListN.{length, take}
 use lib.Seq.{length-take-le}

@@ -2,7 +2,7 @@
 use mathlib.Core.Path.{_≡_, sym, ap, _∙_}
 use Prim.Native.Nat.{_+_, _-_, _<_}
 use native.Mathlib.Omega.{arith}
-use Rattle.binar.specs.Row.{bit}
+use Rattle.bit_rows.specs.Row.{bit}
 use Rattle.pauli.proofs.Algebra.{times-normal-r, normal-times}
 use Rattle.pauli.proofs.Firsts.{first-told}
 use Rattle.pauli.proofs.SignedLaws.{productLeft, left-start, left-same, left-hit, left-skip, left-end}

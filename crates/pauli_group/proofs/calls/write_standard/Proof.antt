@@ -3,10 +3,10 @@ use mathlib.Core.List.{List}
 use mathlib.Core.Path.{ap, _∙_}
 use Prim.Native.Nat.{ℕ}
 use native.Mathlib.Omega.{arith}
-use Rattle.rolls.specs.Roll.{mostQubits}
-use Rattle.rolls.specs.Told.{answer}
-use Rattle.pauli.specs.Writing.{toldBytes, leftIn}
-use Rattle.standard_form.proofs.GroupedLaws.{cleared-whole, group-total, group-places, group-on}
+use Rattle.supports.specs.Support.{mostQubits}
+use Rattle.supports.specs.Told.{answer}
+use Rattle.roll_paulis.specs.Writing.{toldBytes, leftIn}
+use Rattle.group_form.proofs.GroupedLaws.{cleared-whole, group-total, group-places, group-on}
 use Rattle.pauli_group.proofs.CallLaws.{group-written}
 use borrow.Author.Needs.{needs}
 use Rattle.pauli_group.proofs.calls.write_standard.Statement.{statement}

@@ -1,7 +1,8 @@
 -- Test by test, in the order of `read`.
 use Rattle.rolls.proofs.ReaderLaws.{roll-short, roll-many, roll-cut, roll-entry, total-bound, roll-length, roll-filled, roll-set, roll-qubits, roll-passes}
 use Rattle.rolls.specs.Answers.{toldNumbers, toldPassed}
-use Rattle.rolls.specs.Roll.{mostPaulis, mostQubits}
+use Rattle.rolls.specs.Roll.{mostPaulis}
+use Rattle.supports.specs.Support.{mostQubits}
 use borrow.Author.Needs.{needs}
 use mathlib.Core.Path.{sym, ap, _∙_}
 use native.Mathlib.Omega.{arith}

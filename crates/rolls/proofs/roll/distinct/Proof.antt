@@ -1,5 +1,5 @@
 -- The array starts with nothing known.
-use Rattle.rolls.specs.Roll.{mostQubits}
+use Rattle.supports.specs.Support.{mostQubits}
 use borrow.Author.Needs.{needs}
 use native.Mathlib.Omega.{arith}
 use Rattle.rolls.proofs.roll.distinct.Statement.{statement}

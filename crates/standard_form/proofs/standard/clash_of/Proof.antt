@@ -2,8 +2,8 @@
 use mathlib.Core.Path.{_≡_, refl}
 use native.Mathlib.Omega.{arith}
 use Rattle.pauli.specs.Signed.{listIn}
-use Rattle.standard_form.specs.Area.{standardAt}
-use Rattle.standard_form.specs.Lists.{clashOf}
+use Rattle.work_area.specs.Area.{standardAt}
+use Rattle.work_area.specs.Lists.{clashOf}
 use Rattle.standard_form.proofs.ScanLaws.{search-lt, two-anticommute}
 use borrow.Author.Needs.{needs}
 use Rattle.standard_form.proofs.standard.clash_of.Statement.{statement}

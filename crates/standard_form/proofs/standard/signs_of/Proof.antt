@@ -2,7 +2,7 @@
 use Prim.Native.Nat.{_+_}
 use native.Mathlib.Omega.{arith}
 use Rattle.pauli.specs.Signed.{listIn}
-use Rattle.standard_form.specs.Area.{standardAt}
+use Rattle.work_area.specs.Area.{standardAt}
 use Rattle.standard_form.proofs.ScanLaws.{search-lt, order-four, search-minus}
 use Rattle.standard_form.proofs.StandardLaws.{ifZero-le, stabilizer-found, step-odd, step-even}
 use borrow.Author.Needs.{needs}

@@ -1,7 +1,7 @@
 -- By what the tests say: the phases stay, or go mod 2.
 use native.Mathlib.Omega.{arith}
 use Rattle.pauli.specs.Signed.{listIn}
-use Rattle.standard_form.specs.Area.{standardAt}
+use Rattle.work_area.specs.Area.{standardAt}
 use Rattle.standard_form.proofs.PhaseLaws.{modulus-le, modulus-more}
 use Rattle.standard_form.proofs.ScanLaws.{search-lt, order-four, two-anticommute}
 use Rattle.standard_form.proofs.StandardLaws.{made-plain, made-halved}

@@ -1,7 +1,7 @@
 use Rattle.pauli_theory.specs.Standard.{ifZero}
 use mathlib.Core.Path.{_≡_, refl, sym}
 use Prim.Native.Nat.{ℕ, zero, suc}
-use Rattle.standard_form.proofs.FormLaws.{zero-picks, other-picks}
+use Rattle.work_area.proofs.FormLaws.{zero-picks, other-picks}
 use Rattle.standard_form.proofs.standard.unless.Statement.{statement}
 use Rattle.standard_form.proofs.standard.unless.Tie as tie
 

@@ -1,5 +1,5 @@
 -- The place is in the low word or in the high one.
-use Rattle.binar.specs.Row.{bit}
+use Rattle.bit_rows.specs.Row.{bit}
 use Rattle.pauli.proofs.Halves.{index-low, index-high}
 use borrow.Author.Needs.{needs}
 use mathlib.Core.Path.{_≡_, refl, sym, ap, ap₂, _∙_}

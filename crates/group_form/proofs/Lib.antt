@@ -1,0 +1,4 @@
+pub mod BuildLaws
+pub mod GroupLaws
+pub mod GroupedLaws
+pub mod KeptLaws

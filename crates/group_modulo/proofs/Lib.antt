@@ -1,0 +1,4 @@
+pub mod PairLaws
+pub mod MoveLaws
+pub mod RemainderLaws
+pub mod ModuloLaws

@@ -1,0 +1,4 @@
+// The call for membership.
+
+// The call for membership.
+pub mod factorization;

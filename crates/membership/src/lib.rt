@@ -1,0 +1,4 @@
+// An element put to the form of a list.
+
+// An element put to the form of a list.
+pub mod member;

@@ -1,0 +1,4 @@
+pub mod DecimalLaws
+pub mod PutLaws
+pub mod IndexLaws
+pub mod LineLaws

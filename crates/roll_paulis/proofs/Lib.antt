@@ -1,0 +1,11 @@
+pub mod MoreBits
+pub mod Action
+pub mod Sets
+pub mod Places
+pub mod Rows
+pub mod PauliTheorems
+pub mod Condensed
+pub mod Puts
+pub mod Writers
+pub mod CondenseLaws
+pub mod BodyLaws

@@ -1,0 +1,5 @@
+pub mod Sets
+pub mod Writing
+pub mod Answers
+pub mod Condense
+pub mod PauliTheorems

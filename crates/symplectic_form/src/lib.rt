@@ -1,0 +1,4 @@
+// The call for symplectic pairing.
+
+// The call for symplectic pairing.
+pub mod symplectic;

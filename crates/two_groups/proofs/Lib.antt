@@ -1,6 +1,0 @@
-pub mod OrderLaws
-pub mod PairLaws
-pub mod MoveLaws
-pub mod RemainderLaws
-pub mod ModuloLaws
-pub mod QuotientLaws
