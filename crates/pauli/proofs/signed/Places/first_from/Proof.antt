@@ -38,10 +38,10 @@ add-result-3 : tie.Need-add-result-3
 add-result-3 c = omega (arith, trailing-le 64 (c .before .before .before .before .args .self .high / 2 ^ (c .before .before .before .before .args .p - 64)))
 
 returns-3 : tie.Need-returns-3
-returns-3 c = high-some (c .before .before .before .before .args .self) (record { low = omega arith; high = omega arith }) (c .before .before .before .before .args .p) (omega arith) (c .before .before .if3 .taken) (c .if4 .taken)
+returns-3 c = high-some (c .before .before .before .before .args .self) (record { low = omega arith; high = omega arith }) (c .before .before .before .before .args .p) (omega arith) (omega arith) (c .if4 .taken)
 
 returns-4 : tie.Need-returns-4
-returns-4 c = high-none (c .before .before .before .before .args .self) (record { low = omega arith; high = omega arith }) (c .before .before .before .before .args .p) (omega arith) (c .before .before .if3 .taken) (c .if4 .left)
+returns-4 c = high-none (c .before .before .before .before .args .self) (record { low = omega arith; high = omega arith }) (c .before .before .before .before .args .p) (omega arith) (omega arith) (c .if4 .left)
 
 returns-5 : tie.Need-returns-5
 returns-5 c = past-all _ _ (omega arith)
