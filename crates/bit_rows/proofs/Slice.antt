@@ -3,7 +3,7 @@ use mathlib.Core.Path.{_≡_, refl, sym, ap, ap₂, _∙_, subst}
 use mathlib.Core.Logic.{_⊎_, inl, inr, ⊎-elim}
 use mathlib.Core.List.{List, [], _∷_, _++_, append-assoc}
 use Prim.Native.Nat.{ℕ, zero, suc, _+_, _-_, _*_, _/_, _%_, _^_, _≤_, _<_}
-use native.Mathlib.Nat.{add-zero, add-assoc, sub-zero, mul-add, mul-assoc, one-mul, mul-le-mul-right}
+use native.Mathlib.Nat.{add-zero, zero-add, add-assoc, sub-zero, mul-add, mul-assoc, one-mul, mul-le-mul-right}
 use native.Mathlib.Numerals.{add-one}
 use native.Mathlib.Omega.{arith}
 use native.Mathlib.Decide.{decLt}
@@ -202,29 +202,69 @@ module _ (l : List ℕ) (i j n k : ℕ) (h : k < n) (t : TwoRows l (i + k) (j + 
         ≡ exchanged (set (set l (i + k) (getD l (j + k) 0)) (j + k) (getD l (i + k) 0)) (i + (k + 1)) (j + (k + 1)) (n - (k + 1))
     exchanged-step = by-step exchanged _ (exchanged-next l (i + k) (j + k) (n - (k + 1)) f two-here)
 
--- two words at once: the first is stored before the second
-module _ (l : List ℕ) (i j n k : ℕ) (h : k + 1 < n) (t : TwoRows l (i + k) (j + k) (n - k)) where
-  pub two-words : (x y : ℕ) → TwoRows (set (set l (i + k) x) (i + k + 1) y) (i + (k + 2)) (j + (k + 2)) (n - (k + 2))
-  two-words x y =
-      let e : k + 1 + 1 ≡ k + 2 = omega arith in
-      rw (add-assoc i k 1, ← e) (two-step (set l (i + k) x) i j n (k + 1) h (two-step l i j n k (omega arith) t x) y)
+nothing-added : (b : ℕ) (l : List ℕ) (i j : ℕ) → added b l i j 0 ≡ l
+unfolding added
+nothing-added b l i j = put-none l i _
 
-  module _ (b : ℕ) (hb : b ≤ 1) (f : AreWords l) (x y : ℕ) (p : x ≡ bitXor (getD l (i + k) 0) (b * getD l (j + k) 0)) (q : y ≡ bitXor (getD l (i + k + 1) 0) (b * getD l (j + k + 1) 0)) where
-    pub added-two : added b l (i + k) (j + k) (n - k) ≡ added b (set (set l (i + k) x) (i + k + 1) y) (i + (k + 2)) (j + (k + 2)) (n - (k + 2))
-    added-two =
-        let m = set l (i + k) x in
-        let two : k + 1 + 1 ≡ k + 2 = omega arith in
-        let here : n - k ≡ suc (n - (k + 1)) = omega arith in
-        let u = two-step l i j n k (omega arith) t x in
-        let g : AreWords m = words-set l (i + k) x (omega (arith, t .first)) (rw p (word-sum l (i + k) (j + k) (n - (k + 1)) f (rw here at t) b hb)) f in
-        let own : getD m (i + (k + 1)) 0 ≡ getD l (i + k + 1) 0 = rw (← add-assoc i k 1) (getD-set-other l (i + k) (i + k + 1) x 0 (λ e. omega arith)) in
-        let other : getD m (j + (k + 1)) 0 ≡ getD l (j + k + 1) 0 =
-        rw (← add-assoc j k 1) (getD-set-other l (i + k) (j + k + 1) x 0 (λ e. ⊎-elim (λ a. omega arith) (⊎-elim (λ a. omega arith) (λ a. omega arith)) (t .apart))) in
-        added-step l i j n k (omega arith) t f b hb
-        ∙ ap (λ (v : ℕ). added b (set l (i + k) v) (i + (k + 1)) (j + (k + 1)) (n - (k + 1))) (sym p)
-        ∙ added-step m i j n (k + 1) h u g b hb
-        ∙ ap₂ (λ (v : ℕ) (r : ℕ). added b (set m (i + (k + 1)) v) (i + r) (j + r) (n - r)) (ap₂ (λ (v : ℕ) (w : ℕ). bitXor v (b * w)) own other ∙ sym q) two
-        ∙ ap (λ (r : ℕ). added b (set m r y) (i + (k + 2)) (j + (k + 2)) (n - (k + 2))) (sym (add-assoc i k 1))
+-- two words of each row: both sums are made before the first is stored
+pub added-pair : (b : ℕ) → b ≤ 1 → (l : List ℕ) (i j x y : ℕ) → AreWords l → TwoRows l i j 2
+    → x ≡ bitXor (getD l i 0) (b * getD l j 0) → y ≡ bitXor (getD l (i + 1) 0) (b * getD l (j + 1) 0) → set (set l i x) (i + 1) y ≡ added b l i j 2
+added-pair b hb l i j x y f t p q =
+    let m = set l i x in
+    let g : AreWords m = words-set l i x (omega (arith, t .first)) (rw p (word-sum l i j 1 f t b hb)) f in
+    let own : getD m (i + 1) 0 ≡ getD l (i + 1) 0 = getD-set-other l i (i + 1) x 0 (λ e. omega arith) in
+    let other : getD m (j + 1) 0 ≡ getD l (j + 1) 0 = getD-set-other l i (j + 1) x 0 (λ e. ⊎-elim (λ a. omega arith) (⊎-elim (λ a. omega arith) (λ a. omega arith)) (t .apart)) in
+    sym
+    (added-next l i j 1 f t b hb
+    ∙ ap (λ (v : ℕ). added b (set l i v) (i + 1) (j + 1) 1) (sym p)
+    ∙ added-next m (i + 1) (j + 1) 0 g (two-next l i j 1 x t) b hb
+    ∙ ap (λ (v : ℕ). added b (set m (i + 1) v) (i + 1 + 1) (j + 1 + 1) 0) (ap₂ (λ (v : ℕ) (w : ℕ). bitXor v (b * w)) own other ∙ sym q)
+    ∙ nothing-added b (set m (i + 1) y) (i + 1 + 1) (j + 1 + 1))
+
+-- ---- a part of two rows, and the rest
+
+pub two-part : (l m : List ℕ) (i j n k p : ℕ) → length m ≡ length l → TwoRows l i j n → k + p ≤ n → TwoRows m (i + k) (j + k) p
+two-part l m i j n k p e t h = record {
+  first = rw e (omega (arith, t .first));
+  second = rw e (omega (arith, t .second));
+  apart = ⊎-elim (λ a. inl (omega arith)) (⊎-elim (λ a. inr (inl (omega arith))) (λ a. inr (inr (omega arith)))) (t .apart);
+}
+
+-- the first m of n words are added, then the others
+pub added-split : (b : ℕ) → b ≤ 1 → (l : List ℕ) (i j m n : ℕ) → AreWords l → TwoRows l i j (m + n) → added b l i j (m + n) ≡ added b (added b l i j m) (i + m) (j + m) n
+added-split b hb l i j zero n f t = sym (ap (λ (k : List ℕ). added b k (i + 0) (j + 0) n) (nothing-added b l i j) ∙ simp (add-zero, zero-add))
+added-split b hb l i j (suc m) n f t =
+    let e : suc m + n ≡ suc (m + n) = omega arith in
+    let s : TwoRows l i j (suc (m + n)) = rw e at t in
+    let u : TwoRows l i j (suc m) = record { first = omega (arith, t .first); second = omega (arith, t .second); apart = ⊎-elim inl (⊎-elim (λ a. inr (inl (omega arith))) (λ a. inr (inr (omega arith)))) (t .apart) } in
+    let x = bitXor (getD l i 0) (b * getD l j 0) in
+    let p : i + 1 + m ≡ i + suc m = omega arith in
+    let q : j + 1 + m ≡ j + suc m = omega arith in
+    ap (added b l i j) e
+    ∙ added-next l i j (m + n) f s b hb
+    ∙ added-split b hb (set l i x) (i + 1) (j + 1) m n (words-set l i x (omega (arith, t .first)) (word-sum l i j (m + n) f s b hb) f) (two-next l i j (m + n) x s)
+    ∙ ap₂ (λ (c : ℕ) (d : ℕ). added b (added b (set l i x) (i + 1) (j + 1) m) c d n) p q
+    ∙ ap (λ (k : List ℕ). added b k (i + suc m) (j + suc m) n) (sym (added-next l i j m f u b hb))
+
+pub two-first : (l : List ℕ) (i j n p : ℕ) → TwoRows l i j n → p ≤ n → TwoRows l i j p
+two-first l i j n p t h = simp add-zero at (two-part l l i j n 0 p refl t (omega arith))
+
+-- two words, two more, and the p words behind them
+pub added-parts : (b : ℕ) → b ≤ 1 → (l₀ l₁ l₂ l₃ : List ℕ) (i j n p : ℕ) → n ≡ 4 + p → AreWords l₀ → AreWords l₁ → TwoRows l₀ i j n
+    → l₁ ≡ added b l₀ i j 2 → l₂ ≡ added b l₁ (i + 2) (j + 2) 2 → l₃ ≡ added b l₂ (i + 4) (j + 4) p → l₃ ≡ added b l₀ i j n
+unfolding added
+added-parts b hb l₀ l₁ l₂ l₃ i j n p e f g t first second third =
+    let all : n ≡ 2 + (2 + p) = omega arith in
+    let size : length l₁ ≡ length l₀ = ap length first ∙ length-put l₀ i 2 _ (omega (arith, t .first)) in
+    let four : (k : ℕ) → k + 2 + 2 ≡ k + 4 = λ k. omega arith in
+    third
+    ∙ ap (λ (l : List ℕ). added b l (i + 4) (j + 4) p) second
+    ∙ sym
+    (ap (added b l₀ i j) all
+    ∙ added-split b hb l₀ i j 2 (2 + p) f (two-first l₀ i j n (2 + (2 + p)) t (omega arith))
+    ∙ ap (λ (l : List ℕ). added b l (i + 2) (j + 2) (2 + p)) (sym first)
+    ∙ added-split b hb l₁ (i + 2) (j + 2) 2 p g (two-part l₀ l₁ i j n 2 (2 + p) size t (omega arith))
+    ∙ ap₂ (λ (c : ℕ) (d : ℕ). added b (added b l₁ (i + 2) (j + 2) 2) c d p) (four i) (four j))
 
 pub two-start : (l : List ℕ) (i j n : ℕ) → TwoRows l i j n → TwoRows l (i + 0) (j + 0) (n - 0)
 two-start l i j n t = simp (add-zero, sub-zero) t
