@@ -18,7 +18,7 @@
 # dense generators on 128 qubits, as its input has at most 65,536 bytes. check_roll is beside the oracle's reader alone; joined_entry and
 # joined_body have no call in the Rust. M4RI reduces [A | I]; copying the input into place is timed on both sides.
 #
-# The library is $HOWHIRUKE_LIB/libcapi.a if that is set, else target/staticlib/libcapi.a, which is built where it is missing.
+# The library is $HOWHIRUKE_LIB/libcapi.a if that is set, else target/staticlib/libcapi.a, which is built.
 # Everything is written to target/bench: ratios.csv, table.md, ratios.svg and growth.svg besides the build.
 set -eu
 [ $# -ge 1 ] || { echo "usage: bench/run.sh ORACLE_FOLDER [WORDS..]" >&2; exit 2; }
@@ -32,7 +32,7 @@ mkdir -p "$made/driver"
 if [ -n "${HOWHIRUKE_LIB:-}" ]; then
     HOWHIRUKE_LIB=$(cd "$HOWHIRUKE_LIB" && pwd)
     export HOWHIRUKE_LIB
-elif [ ! -f "$root/target/staticlib/libcapi.a" ]; then
+else
     echo "building target/staticlib/libcapi.a" >&2
     (cd "$root" && rt staticlib capi) > "$made/staticlib.log" 2>&1 || { tail -20 "$made/staticlib.log" >&2; exit 1; }
 fi

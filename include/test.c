@@ -229,6 +229,8 @@ static void common_and_report(void)
     told("closing refusal", CALL(closing_report, input, 3, WORK, OUT), 25, 0, 0);
     if (memcmp(out, "refused 1 at 0 in roll 1\n", 25))
         exit(1);
+    refused("closing 9", CALL(closing_report, input, 4 + bell.n + elements.n, work, WORDS - 1, OUT), 9, 0);
+    refused("closing 12", CALL(closing_report, input, 4 + bell.n + elements.n, WORK, out, strlen(text) - 1), 12, 0);
 }
 
 static void refusals(void)
