@@ -2,9 +2,9 @@
 use mathlib.Core.Option.{Option, some}
 use mathlib.Core.Option.{none as nothing}
 use Prim.Native.Nat.{ℕ, zero, suc, _/_}
-use Rattle.binar.specs.declared.echelon.Formation.{Formation}
-use Rattle.binar.specs.declared.echelon.Formation.the-variants.{Rank, Misfit}
-use Rattle.supports.specs.Told.{Told, answer, refused}
+use Rattle.binar.specs.declared.matrix_form.Formation.{Formation}
+use Rattle.binar.specs.declared.matrix_form.Formation.the-variants.{Rank, Misfit}
+use Rattle.refusals.specs.Told.{Told, answer, refused}
 use Rattle.joined_lists.specs.Calls.{Looked}
 use Rattle.pauli_theory.specs.Group.{Promise, none, abelian, notAbelian}
 use Rattle.pauli_theory.specs.Order.{Order, equal, less, greater, noOrder}

@@ -5,9 +5,9 @@ use mathlib.Core.List.{List}
 use Prim.Native.Nat.{ℕ, zero, suc, _+_, _-_, _*_}
 use lib.Dec.{ltb}
 use lib.ListN.{take, drop}
-use Rattle.supports.specs.Bytes.{u16At}
+use Rattle.refusals.specs.Bytes.{u16At}
 use Rattle.rolls.specs.Roll.{entryAt}
-use Rattle.supports.specs.Told.{Told, mapTold}
+use Rattle.refusals.specs.Told.{Told, mapTold}
 use Rattle.joined_lists.specs.Calls.{entryOf}
 
 -- the roll, 0 for the left one or 1 for the right one; the stretch's first byte in it and its length

@@ -2,26 +2,26 @@
 ghost use mathlib.Core.Path.{_≡_};
 ghost use Prim.Native.Nat.{_/_};
 ghost use Rattle.rolls.specs.Answers.{toldCount};
-ghost use Rattle.supports.specs.Refusals.{numberOf};
-ghost use Rattle.roll_paulis.specs.Answers.{toldWrote};
-ghost use Rattle.joined_lists.specs.Answers.{toldLooked};
+ghost use Rattle.refusals.specs.Refusals.{numberOf};
+ghost use Rattle.roll_writer.specs.Answers.{toldWrote};
+ghost use Rattle.joined_lookup.specs.Lookups.{toldLooked};
 ghost use Rattle.pauli_group.specs.Answers.{stepTold, toldRank, toldPhases, toldDecided, toldSize, toldFactored};
 ghost use Rattle.comparison.specs.Answers.{orderOf, toldOrder};
 ghost use Rattle.answer_codes.specs.Code.{codeRefusal, codeValues, codeNumber, codePhases, codeLooked, codeMember, orderNumber, codeOrder, codeForm};
-use binar::echelon::Formation;
+use binar::matrix_form::Formation;
 use comparison::answers::Order;
 use comparison::answers::OrderFound;
-use joined_lists::lookup::EntryFound;
+use joined_lookup::lookup::EntryFound;
 use pauli_group::answers::Decided;
 use pauli_group::answers::MemberFound;
 use pauli_group::answers::Phases;
 use pauli_group::answers::PhasesFound;
 use pauli_group::answers::RankFound;
 use pauli_group::answers::SizeFound;
-use roll_paulis::write::Wrote;
+use refusals::refusal::Refusal;
+use refusals::refusal::number_of;
+use roll_writer::write::Wrote;
 use rolls::roll::Checked;
-use supports::refusal::Refusal;
-use supports::refusal::number_of;
 
 // The refusal's number, or 0 for an answer; the refusal's place; and what the call answers, in up to three numbers.
 #[repr(C)]

@@ -6,11 +6,11 @@ use native.Mathlib.Omega.{arith}
 use lib.ListN.{length, getD}
 use lib.Pow.{pow-pos}
 use Rattle.bit_rows.specs.Row.{bit}
-use Rattle.binar.specs.Space.{ReducedForm}
+use Rattle.row_reduction.specs.Space.{ReducedForm}
 use Rattle.bit_rows.proofs.Bits.{bit-of-zero, Blank, blank-zero}
-use Rattle.binar.proofs.Lists.{All, all-map, all-get, all-getD, all-by}
-use Rattle.binar.proofs.Span.{blank-subspace}
-use Rattle.binar.proofs.Reduced.{Reduced, last, next, pivots-in, reduced-room, reduced-from, reduced-blank}
+use Rattle.row_reduction.proofs.Lists.{All, all-map, all-get, all-getD, all-by}
+use Rattle.row_reduction.proofs.Span.{blank-subspace}
+use Rattle.row_reduction.proofs.Reduced.{Reduced, last, next, pivots-in, reduced-room, reduced-from, reduced-blank}
 
 -- ---- from the inductive notion, by index
 pivots-rise : {c lo : ℕ} {ps M : List ℕ} → Reduced c lo ps M → (i j : ℕ) → i < j → j < length ps → getD ps i 0 < getD ps j 0

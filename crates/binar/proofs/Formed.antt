@@ -11,17 +11,18 @@ use lib.Dec.{leb}
 use lib.ListN.{length, getD, drop}
 use lib.Pow.{pow-pos, pow-add, pow-lt}
 use lib.Seq.{drop-drop}
-use Rattle.binar.specs.declared.echelon.Formation.{Formation}
-use Rattle.binar.specs.declared.echelon.Formation.the-variants.{Rank, Misfit}
+use Rattle.binar.specs.declared.matrix_form.Formation.{Formation}
+use Rattle.binar.specs.declared.matrix_form.Formation.the-variants.{Rank, Misfit}
 use Rattle.bit_rows.specs.Words.{matrix, image}
-use Rattle.binar.specs.Echelon.{Reduction, echelonize, besideIdentity}
-use Rattle.binar.specs.Layout.{laidOut, formStride, both, fits, formed, FormIs}
+use Rattle.row_reduction.specs.Echelon.{Reduction, echelonize, besideIdentity}
+use Rattle.binar.specs.Layout.{formStride, both, fits, formed, FormIs}
+use Rattle.row_reduction.specs.Laid.{laidOut}
 use Rattle.bit_rows.proofs.Slice.{AreWords}
-use Rattle.binar.proofs.Matrix.{Below, length-matrix, matrix-image, drop-image}
-use Rattle.binar.proofs.Lists.{all-getD, all-by}
-use Rattle.binar.proofs.Kept.{echelonize-length}
-use Rattle.binar.proofs.Bounds.{echelonize-lt}
-use Rattle.binar.proofs.Transform.{beside-length}
+use Rattle.row_reduction.proofs.Matrix.{Below, length-matrix, matrix-image, drop-image}
+use Rattle.row_reduction.proofs.Lists.{all-getD, all-by}
+use Rattle.row_reduction.proofs.Kept.{echelonize-length}
+use Rattle.row_reduction.proofs.Bounds.{echelonize-lt}
+use Rattle.row_reduction.proofs.Transform.{beside-length}
 
 -- ---- the shape
 

@@ -10,10 +10,10 @@ use lib.ListN.{length, getD, set, take, drop, length-set, length-drop, take-appe
 use lib.Pow.{high, low, pow-pos, pow-add, pow-lt, shr-lt, mod-pow-add}
 use lib.Seq.{length-take-le, drop-drop, set-set, take-take}
 use Rattle.bit_rows.specs.Words.{value, words, rowAt, putRow, matrix}
-use Rattle.binar.specs.Echelon.{besideIdentity}
+use Rattle.row_reduction.specs.Echelon.{besideIdentity}
 use Rattle.bit_rows.proofs.Slice.{AreWords, Outside, put-none, put-first, put-next, put-kept}
 use Rattle.bit_rows.proofs.Scan.{one-shifted}
-use Rattle.binar.proofs.Matrix.{words-value, words-take, words-drop, row-lt, length-matrix}
+use Rattle.row_reduction.proofs.Matrix.{words-value, words-take, words-drop, row-lt, length-matrix}
 
 -- the lowest n words of a row
 pub value-mod : (l : List ℕ) (n : ℕ) → AreWords l → n ≤ length l → value l % 2 ^ (64 * n) ≡ value (take n l)

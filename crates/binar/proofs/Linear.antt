@@ -10,17 +10,17 @@ use lib.Dec.{eqb}
 use lib.ListN.{length, getD, set, drop, length-map, List·getD-map}
 use lib.Pow.{pow-pos, pow-mono, mod-mod-pow}
 use Rattle.bit_rows.specs.Row.{_⊕_, bit, ifBit}
-use Rattle.binar.specs.Echelon.{inColumn, byColumns, pivotOf, swapRows, clear, unless, addToOthers, placePivot, Reduction, withPivot, onFound, echelonizeFrom, echelonize, besideIdentity, echelon}
-use Rattle.binar.specs.Solve.{sweep, solved, transposeSolve}
-use Rattle.binar.specs.declared.echelon.Found.{Found}
-use Rattle.binar.specs.declared.echelon.Found.the-variants.{At}
+use Rattle.row_reduction.specs.Echelon.{inColumn, byColumns, pivotOf, swapRows, clear, unless, addToOthers, placePivot, Reduction, withPivot, onFound, echelonizeFrom, echelonize, besideIdentity, echelon}
+use Rattle.row_reduction.specs.Solve.{sweep, solved, transposeSolve}
+use Rattle.row_reduction.specs.declared.echelon.Found.{Found}
+use Rattle.row_reduction.specs.declared.echelon.Found.the-variants.{At}
 use Rattle.bit_rows.proofs.Bits.{bit-mod, bit-beside, beside-mod, beside-shr, xor-mod, xor-shr, xor-beside}
-use Rattle.binar.proofs.Lists.{All, all-of, map-same, map-drop, map-set}
-use Rattle.binar.proofs.Span.{ifBit-map, Additive, additive-zero}
-use Rattle.binar.proofs.Steps.{Search, nowhere, found, pivot-is}
-use Rattle.binar.proofs.Transform.{parts, whole}
-use Rattle.binar.proofs.Solve.{left, solve-is}
-use Rattle.binar.proofs.Bounds.{pivots-lt}
+use Rattle.row_reduction.proofs.Lists.{All, all-of, map-same, map-drop, map-set}
+use Rattle.row_reduction.proofs.Span.{ifBit-map, Additive, additive-zero}
+use Rattle.row_reduction.proofs.Steps.{Search, nowhere, found, pivot-is}
+use Rattle.row_reduction.proofs.Transform.{parts, whole}
+use Rattle.row_reduction.proofs.Solve.{left, solve-is}
+use Rattle.row_reduction.proofs.Bounds.{pivots-lt}
 
 unless-map : (f : ℕ → ℕ) (b : Bool) (v w : ℕ) → unless b (f v) (f w) ≡ f (unless b v w)
 unfolding unless

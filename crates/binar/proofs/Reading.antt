@@ -7,18 +7,19 @@ use native.Mathlib.Nat.{div-eq-of-lt}
 use native.Mathlib.Omega.{arith}
 use lib.ListN.{length, getD, take, drop, length-drop}
 use lib.Seq.{take-at, length-take-le, getD-take, getD-drop}
-use Rattle.binar.specs.declared.echelon.Formation.{Formation}
-use Rattle.binar.specs.declared.echelon.Formation.the-variants.{Rank, Misfit}
+use Rattle.binar.specs.declared.matrix_form.Formation.{Formation}
+use Rattle.binar.specs.declared.matrix_form.Formation.the-variants.{Rank, Misfit}
 use Rattle.bit_rows.specs.Row.{bit}
 use Rattle.bit_rows.specs.Words.{rowAt, matrix, image}
-use Rattle.binar.specs.Echelon.{Reduction, echelonize, besideIdentity, Row, EchelonForm, echelon, rank}
-use Rattle.binar.specs.Solve.{sweep, solved, transposeSolve}
-use Rattle.binar.specs.Layout.{laidOut, formStride, fits, formed, FormIs, formIn, Solvable, swept}
+use Rattle.row_reduction.specs.Echelon.{Reduction, echelonize, besideIdentity, Row, EchelonForm, echelon, rank}
+use Rattle.row_reduction.specs.Solve.{sweep, solved, transposeSolve}
+use Rattle.binar.specs.Layout.{formStride, fits, formed, FormIs, formIn, Solvable, swept}
+use Rattle.row_reduction.specs.Laid.{laidOut}
 use Rattle.binar.specs.Theorems.{FormLaw, SolutionLaw}
-use Rattle.binar.proofs.Lists.{All, all-by}
-use Rattle.binar.proofs.Span.{additive-zero}
+use Rattle.row_reduction.proofs.Lists.{All, all-by}
+use Rattle.row_reduction.proofs.Span.{additive-zero}
 use Rattle.binar.proofs.Linear.{narrowed, narrowed-additive, narrowed-same, narrowed-mod, narrowed-shr, sweep-map, beside-law}
-use Rattle.binar.proofs.Matrix.{matrix-image, drop-image}
+use Rattle.row_reduction.proofs.Matrix.{matrix-image, drop-image}
 use Rattle.binar.proofs.Formed.{fits-true, form-count, form-below}
 
 -- ---- the form

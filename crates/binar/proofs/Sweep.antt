@@ -12,14 +12,14 @@ use lib.Pow.{mod-mod-pow}
 use lib.Seq.{drop-cons, take-at, drop-at, drop-append-add, length-take-le, getD-take, getD-drop}
 use Rattle.bit_rows.specs.Row.{_⊕_, bit}
 use Rattle.bit_rows.specs.Words.{value, words, rowAt, putRow, matrix, TwoRows}
-use Rattle.binar.specs.Echelon.{clear}
-use Rattle.binar.specs.Solve.{sweep}
+use Rattle.row_reduction.specs.Echelon.{clear}
+use Rattle.row_reduction.specs.Solve.{sweep}
 use Rattle.binar.specs.Layout.{Solvable, swept, solution}
 use Rattle.bit_rows.proofs.Bits.{bit-lt, xor-lt}
 use Rattle.bit_rows.proofs.Slice.{AreWords, Outside, length-words, row-kept, put-none, put-first}
-use Rattle.binar.proofs.Matrix.{value-words, words-words, words-append, words-take, words-drop, row-lt, bit-row, length-matrix, matrix-row, matrix-lt, row-in}
+use Rattle.row_reduction.proofs.Matrix.{value-words, words-words, words-append, words-take, words-drop, row-lt, bit-row, length-matrix, matrix-row, matrix-lt, row-in}
 use Rattle.binar.proofs.Identity.{value-mod, put-same}
-use Rattle.binar.proofs.Search.{if-one, if-zero}
+use Rattle.row_reduction.proofs.Search.{if-one, if-zero}
 
 -- ---- a slice in which one row is written
 

@@ -1,14 +1,14 @@
 -- The theorems of specs/Theorems.antt, put together from their parts; the last two are proved in Reading.
 use mathlib.Core.List.{List}
 use Prim.Native.Nat.{ℕ}
-use Rattle.binar.specs.Echelon.{rank}
+use Rattle.row_reduction.specs.Echelon.{rank}
 use Rattle.binar.specs.Theorems.{TransformLaw, ReducedLaw, SpaceLaw, UniqueLaw, SolveLaw}
-use Rattle.binar.proofs.Span.{same-flip, same-join}
+use Rattle.row_reduction.proofs.Span.{same-flip, same-join}
 use Rattle.binar.proofs.Form.{to-form, from-form, form-narrow}
-use Rattle.binar.proofs.Unique.{unique}
-use Rattle.binar.proofs.Transform.{rows-count, T-square, T-product}
-use Rattle.binar.proofs.Space.{R-reduced, R-narrow, R-space, T-inverse, T-inverts, basis-independent, rank-dimension, rank-unique}
-use Rattle.binar.proofs.Solve.{solve-sound, solve-none, none-solves}
+use Rattle.row_reduction.proofs.Unique.{unique}
+use Rattle.row_reduction.proofs.Transform.{rows-count, T-square, T-product}
+use Rattle.row_reduction.proofs.Space.{R-reduced, R-narrow, R-space, T-inverse, T-inverts, basis-independent, rank-dimension, rank-unique}
+use Rattle.row_reduction.proofs.Solve.{solve-sound, solve-none, none-solves}
 pub use Rattle.binar.proofs.Reading.{form-law, solution-law}
 
 pub transform-law : (c : ℕ) (A : List ℕ) → TransformLaw c A

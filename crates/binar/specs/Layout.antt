@@ -1,26 +1,18 @@
 -- What the functions of the module echelon answer and leave in the slice lent.
 use mathlib.Core.Path.{_≡_}
 use mathlib.Core.Bool.{Bool, true, false}
-use mathlib.Core.List.{List, _++_, map}
+use mathlib.Core.List.{List, map}
 use Prim.Native.Nat.{ℕ, _+_, _*_, _/_, _%_, _^_, _≤_, _<_}
-use lib.Dec.{leb, eqb}
+use lib.Dec.{leb}
 use lib.ListN.{length, getD, take, drop}
-use Rattle.binar.specs.declared.echelon.Formation.{Formation}
-use Rattle.binar.specs.declared.echelon.Formation.the-variants.{Rank, Misfit}
-use Rattle.binar.specs.declared.echelon.Solution.{Solution}
-use Rattle.binar.specs.declared.echelon.Solution.the-variants.{Set, NoSet}
-use Rattle.bit_rows.specs.Words.{rowAt, matrix, image}
-use Rattle.binar.specs.Echelon.{Reduction, echelonize, besideIdentity, Row, EchelonForm}
-use Rattle.binar.specs.Solve.{sweep}
-
--- the rows of s words each, behind them the pivot columns, a word each, and then what was in the slice
-unfoldable pub laidOut : ℕ → Reduction → List ℕ → List ℕ
-laidOut s f l = image s (f .rows) (f .pivots ++ drop (length (f .rows) * s + length (f .pivots)) l)
-
--- n rows of s words, of which cols columns are searched, and room for the pivots behind them
-pub record Shape (l : List ℕ) (s n cols : ℕ) : Type 0 where
-  pub room : n * s + n ≤ length l
-  pub wide : cols ≤ 64 * s
+use Rattle.binar.specs.declared.matrix_form.Formation.{Formation}
+use Rattle.binar.specs.declared.matrix_form.Formation.the-variants.{Rank, Misfit}
+use Rattle.binar.specs.declared.matrix_form.Solution.{Solution}
+use Rattle.binar.specs.declared.matrix_form.Solution.the-variants.{Set, NoSet}
+use Rattle.bit_rows.specs.Words.{rowAt, matrix}
+use Rattle.row_reduction.specs.Echelon.{Reduction, echelonize, besideIdentity, EchelonForm}
+use Rattle.row_reduction.specs.Solve.{sweep}
+use Rattle.row_reduction.specs.Laid.{laidOut}
 
 -- ---- the echelon form of a matrix of any shape
 

@@ -6,9 +6,9 @@ use native.Mathlib.Omega.{arith}
 use borrow.Author.Tests.{lt-ltb, le-ltb}
 use Rattle.rolls.specs.declared.roll.Entry.{Entry as CodeEntry}
 use Rattle.rolls.specs.Answers.{toldEntry}
-use Rattle.supports.specs.Bytes.{u16At}
+use Rattle.refusals.specs.Bytes.{u16At}
 use Rattle.rolls.specs.Roll.{entryAt, countOf}
-use Rattle.supports.specs.Told.{answer, refused, mapTold}
+use Rattle.refusals.specs.Told.{answer, refused, mapTold}
 use Rattle.joined_lists.specs.Calls.{countsOf, bodyIn}
 use Rattle.joined_lists.proofs.JoinLaws.{Joining, accepted-count, entry-refused, entry-past, entry-left, entry-right, body-refused, body-past, body-left, body-right}
 use Rattle.answer_codes.specs.declared.answer.Answer.{Answer}

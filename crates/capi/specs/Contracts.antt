@@ -4,10 +4,11 @@ use mathlib.Core.List.{List}
 use mathlib.Core.Option.{Option}
 use Prim.Native.Nat.{ℕ}
 use lib.ListN.{length, take, drop}
-use Rattle.binar.specs.declared.echelon.Formation.the-variants.{Rank, Misfit}
-use Rattle.binar.specs.Layout.{laidOut, formStride, fits, formed, pick}
-use Rattle.supports.specs.Told.{Told}
-use Rattle.roll_paulis.specs.Writing.{toldBytes, leftIn}
+use Rattle.binar.specs.declared.matrix_form.Formation.the-variants.{Rank, Misfit}
+use Rattle.binar.specs.Layout.{formStride, fits, formed, pick}
+use Rattle.row_reduction.specs.Laid.{laidOut}
+use Rattle.refusals.specs.Told.{Told}
+use Rattle.roll_writer.specs.Writing.{toldBytes, leftIn}
 use Rattle.joined_lists.specs.Calls.{bodyOf}
 use Rattle.pauli_theory.specs.Membership.{Factorization}
 use Rattle.work_area.specs.Area.{areaAfter}

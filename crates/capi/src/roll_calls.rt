@@ -2,7 +2,7 @@
 ghost use mathlib.Core.Path.{_≡_};
 ghost use Prim.Native.Nat.{_<_};
 ghost use Rattle.rolls.specs.Roll.{countOf};
-ghost use Rattle.supports.specs.Told.{answer};
+ghost use Rattle.refusals.specs.Told.{answer};
 ghost use Rattle.joined_lists.specs.Calls.{productOf, joinOf, entryOf};
 ghost use Rattle.answer_codes.specs.Code.{codeNumber, codeLooked, codeBody};
 ghost use Rattle.capi.specs.Contracts.{Writing, Locating};
@@ -15,13 +15,13 @@ use answer_codes::answer::code_values;
 use answer_codes::answer::code_wrote;
 use joined_lists::joined::CountsFound;
 use joined_lists::joined::joined_counts;
-use joined_lists::lookup::joined_entry;
+use joined_lookup::lookup::joined_entry;
 use joining::join::join;
-use joining::product::product;
+use products::product::product;
+use refusals::refusal::Reason;
+use refusals::refusal::Refusal;
 use rolls::roll::check_roll;
 use rolls::roll::entry_at;
-use supports::refusal::Reason;
-use supports::refusal::Refusal;
 
 // How many Paulis a roll has.
 #[no_mangle]

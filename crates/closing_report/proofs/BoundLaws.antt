@@ -14,8 +14,8 @@ use Rattle.pauli.specs.Pauli.{Pauli, consIf, select, indexedProduct}
 use Rattle.rolls.specs.Roll.{mostPaulis, Sparse, read, countOf}
 use Rattle.supports.specs.Support.{All}
 use Rattle.roll_paulis.specs.Sets.{members, pauliOf}
-use Rattle.supports.specs.Told.{Told, answer, refused, mapTold}
-use Rattle.roll_paulis.specs.Writing.{putBytes}
+use Rattle.refusals.specs.Told.{Told, answer, refused, mapTold}
+use Rattle.roll_writer.specs.Writing.{putBytes}
 use Rattle.joined_lists.proofs.JoinLaws.{accepted-few}
 use Rattle.rolls.proofs.Told.{test-pass}
 use Rattle.pauli_theory.specs.Group.{Promise, none as noPromise}
@@ -31,8 +31,8 @@ use Rattle.indexed_factorization.proofs.QuestionLaws.{indexes-below}
 use Rattle.closing_report.specs.Bound.{mostText, AlwaysFits, NeverRefused}
 use Rattle.report_lines.specs.Decimal.{ascii, digits, digitsUpTo}
 use Rattle.report_lines.specs.Lines.{labelled, lineFeed, phasesText, abelianText, indexesText, firstLine, memberLine, memberLines, refusedLine}
-use Rattle.closing_report.specs.Listing.{rollsIn, report, orRefusedIn, listing}
-use Rattle.closing_report.specs.Stored.{Storable}
+use Rattle.report_parts.specs.Listing.{rollsIn, report, orRefusedIn, listing}
+use Rattle.report_parts.specs.Stored.{Storable}
 use Rattle.report_lines.proofs.DecimalLaws.{few-digits}
 use Rattle.pauli_theory.proofs.IndexSets.{members-upTo}
 use Rattle.closing_report.proofs.CallLaws.{call-told, call-put}

@@ -5,17 +5,17 @@ use mathlib.Core.Option.{Option}
 use Prim.Native.Nat.{ℕ, _≤_, _<_}
 use borrow.Author.Tests.{lt-ltb, le-ltb}
 use lib.ListN.{length, take, drop}
-use Rattle.supports.specs.declared.refusal.Refusal.{Refusal}
-use Rattle.roll_paulis.specs.declared.write.Wrote.{Wrote}
-use Rattle.roll_paulis.specs.declared.write.Wrote.the-variants.{Refused}
-use Rattle.supports.specs.Refusals.{toldRefusal}
-use Rattle.roll_paulis.specs.Answers.{toldWrote}
+use Rattle.refusals.specs.declared.refusal.Refusal.{Refusal}
+use Rattle.roll_writer.specs.declared.write.Wrote.{Wrote}
+use Rattle.roll_writer.specs.declared.write.Wrote.the-variants.{Refused}
+use Rattle.refusals.specs.Refusals.{toldRefusal}
+use Rattle.roll_writer.specs.Answers.{toldWrote}
 use Rattle.joined_lists.specs.Calls.{Lists, readBoth}
 use Rattle.roll_paulis.specs.Condense.{listOf}
 use Rattle.pauli.specs.Pauli.{Pauli}
 use Rattle.rolls.specs.Roll.{countOf}
-use Rattle.supports.specs.Told.{Told, answer, refused, refuseIf, andThen}
-use Rattle.roll_paulis.specs.Writing.{putBytes, toldBytes, leftIn}
+use Rattle.refusals.specs.Told.{Told, answer, refused, refuseIf, andThen}
+use Rattle.roll_writer.specs.Writing.{putBytes, toldBytes, leftIn}
 use Rattle.joined_lists.proofs.JoinLaws.{accepted, count-refused}
 use Rattle.pauli_theory.specs.Group.{none}
 use Rattle.pauli_theory.specs.Membership.{Factorization, factorizationOf}
@@ -25,7 +25,7 @@ use Rattle.group_form.specs.Groups.{paulis}
 use Rattle.group_form.proofs.GroupedLaws.{cleared-part}
 use Rattle.closing_report.specs.Contract.{ReportCall}
 use Rattle.report_lines.specs.Lines.{firstLine, memberLines, refusedLine}
-use Rattle.closing_report.specs.Listing.{Rolls, rollsIn, report, orRefusedIn, listing, asked}
+use Rattle.report_parts.specs.Listing.{Rolls, rollsIn, report, orRefusedIn, listing, asked}
 use Rattle.report_lines.proofs.PutLaws.{text-told, text-left}
 
 module _ (input : List ℕ) (words : ℕ) where

@@ -2,14 +2,14 @@
 use mathlib.Core.Path.{refl, sym, ap, _∙_}
 use lib.Count.{ones}
 use Rattle.bit_rows.specs.Row.{_⊕_, bit, dot, ifBit}
-use Rattle.binar.specs.Echelon.{inColumn, byColumns, pivotOf, swapRows, clear, unless, addToOthers, placePivot, withPivot, onFound, echelonizeFrom, echelonize, besideIdentity, echelon, rank as echelonRank}
-use Rattle.binar.specs.Solve.{sweep, solved, transposeSolve}
-use Rattle.supports.specs.Bytes.{u16At, u32At, le16, le32, numbersAt, le32s}
+use Rattle.row_reduction.specs.Echelon.{inColumn, byColumns, pivotOf, swapRows, clear, unless, addToOthers, placePivot, withPivot, onFound, echelonizeFrom, echelonize, besideIdentity, echelon, rank as echelonRank}
+use Rattle.row_reduction.specs.Solve.{sweep, solved, transposeSolve}
+use Rattle.refusals.specs.Bytes.{u16At, u32At, le16, le32, numbersAt, le32s}
 use Rattle.pauli.specs.Pauli.{I, times, anticommute, orderFour, productFrom, product, consIf, select, indexedProduct}
 use Rattle.rolls.specs.Roll.{mostPaulis, highestQubit, entryAt, entriesAt, paulisAt, checkEntries, checkSet, checkSets, numbers, support, read, entry, table, bodies, encode}
 use Rattle.supports.specs.Support.{mostQubits, insert, insertAll}
 use Rattle.roll_paulis.specs.Sets.{setOf, membersFrom, members, pauliOf, condense, expand, rowOf, pauliOfRow}
-use Rattle.supports.specs.Told.{Told, refuseIf, andThen}
+use Rattle.refusals.specs.Told.{Told, refuseIf, andThen}
 use Rattle.joined_lists.specs.Calls.{Lists, readBoth}
 use Rattle.pauli_theory.specs.Standard.{usedBy, supportOf, formOf, rank, phaseOf, ifZero, zeroRows, nonzeroRows, modulusOf, modulus, rowGenerators, someOrderFour, anticommutesWithSome, someAnticommute, phase, appended, exponentMod, standard, nonabelian, bare, someImaginary, someMinus, phaseStep}
 use Rattle.pauli_theory.specs.Membership.{outside, exponentLeft, withPhase, factorizationOf}
@@ -17,7 +17,7 @@ use Rattle.work_area.specs.Area.{enough, areaAfter}
 use Rattle.group_form.specs.Groups.{paulis}
 use Rattle.report_lines.specs.Decimal.{ascii, digitsUpTo, digits}
 use Rattle.report_lines.specs.Lines.{lineFeed, labelled, phasesText, abelianText, firstLine, indexesText, memberLine, memberLines, refusedLine}
-use Rattle.closing_report.specs.Listing.{rollsIn, report, orRefusedIn, listing, asked}
+use Rattle.report_parts.specs.Listing.{rollsIn, report, orRefusedIn, listing, asked}
 use Rattle.closing_report.specs.Example.{inputOf, generators, elements, text, Example}
 use Rattle.closing_report.proofs.CallLaws.{call-told, call-put}
 

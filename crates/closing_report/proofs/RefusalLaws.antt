@@ -6,9 +6,9 @@ use Prim.Native.Nat.{ℕ, suc, _+_, _*_, _≤_, _<_}
 use native.Mathlib.Omega.{arith}
 use borrow.Author.Tests.{ltb-false}
 use lib.ListN.{length}
-use Rattle.supports.specs.Bytes.{u16At}
+use Rattle.refusals.specs.Bytes.{u16At}
 use Rattle.rolls.specs.Roll.{mostPaulis, Sparse, Entry, entriesAt, paulisAt, checkEntries, checkSet, checkSets, read}
-use Rattle.supports.specs.Told.{Told, answer, refused, refuseIf, andThen}
+use Rattle.refusals.specs.Told.{Told, answer, refused, refuseIf, andThen}
 use Rattle.rolls.proofs.Entries.{length-entries}
 use Rattle.rolls.proofs.Paulis.{length-paulis}
 

@@ -15,8 +15,8 @@ use Rattle.group_form.specs.Groups.{paulis, Grouped}
 use Rattle.membership.specs.Members.{Asked}
 use Rattle.work_area.proofs.AreaLaws.{form-room}
 use Rattle.group_form.proofs.KeptLaws.{grouped-target, grouped-spare}
-use Rattle.closing_report.specs.Stored.{storedIn, Stored}
-use Rattle.closing_report.proofs.StoredLaws.{stored-kept, results-next}
+use Rattle.report_parts.specs.Stored.{storedIn, Stored}
+use Rattle.report_parts.proofs.StoredLaws.{stored-kept, results-next}
 
 module _ {known first : List ℕ} {n places r total step : ℕ} (g : Asked known first n places r total step) (es : List Sparse) where
   -- the results of the first k elements are in the area w, and the group still is

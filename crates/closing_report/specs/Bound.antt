@@ -3,12 +3,12 @@ use mathlib.Core.Path.{_≡_}
 use mathlib.Core.List.{List}
 use Prim.Native.Nat.{ℕ, _≤_}
 use lib.ListN.{length, take}
-use Rattle.roll_paulis.specs.Answers.{toldWrote}
-use Rattle.supports.specs.Told.{answer}
-use Rattle.roll_paulis.specs.declared.write.Wrote.{Wrote}
+use Rattle.roll_writer.specs.Answers.{toldWrote}
+use Rattle.refusals.specs.Told.{answer}
+use Rattle.roll_writer.specs.declared.write.Wrote.{Wrote}
 use Rattle.work_area.specs.Area.{workWords}
 use Rattle.closing_report.specs.Contract.{ReportCall}
-use Rattle.closing_report.specs.Listing.{listing}
+use Rattle.report_parts.specs.Listing.{listing}
 
 -- a first line of 36 bytes and 128 lines of 421, in which all of 128 indexes stand
 abbrev pub mostText : ℕ

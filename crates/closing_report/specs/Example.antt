@@ -3,16 +3,16 @@ use mathlib.Core.Path.{_≡_}
 use mathlib.Core.List.{List, [], _∷_, _++_}
 use Prim.Native.Nat.{ℕ, _≤_}
 use lib.ListN.{length}
-use Rattle.supports.specs.Bytes.{le32}
+use Rattle.refusals.specs.Bytes.{le32}
 use Rattle.rolls.specs.Roll.{Sparse, encode}
-use Rattle.supports.specs.Told.{answer}
-use Rattle.roll_paulis.specs.Answers.{toldWrote}
-use Rattle.roll_paulis.specs.Writing.{putBytes}
-use Rattle.roll_paulis.specs.declared.write.Wrote.{Wrote}
+use Rattle.refusals.specs.Told.{answer}
+use Rattle.roll_writer.specs.Answers.{toldWrote}
+use Rattle.roll_writer.specs.Writing.{putBytes}
+use Rattle.roll_writer.specs.declared.write.Wrote.{Wrote}
 use Rattle.work_area.specs.Area.{workWords, cleared}
 use Rattle.closing_report.specs.Contract.{ReportCall}
 use Rattle.report_lines.specs.Decimal.{ascii}
-use Rattle.closing_report.specs.Listing.{listing}
+use Rattle.report_parts.specs.Listing.{listing}
 
 -- a length, a generator roll of that length, and an element roll
 unfoldable pub inputOf : List Sparse → List Sparse → List ℕ

@@ -5,10 +5,10 @@ use Prim.Native.Nat.{ℕ, _+_, _-_, _*_, _^_, _≤_, _<_}
 use native.Mathlib.Omega.{arith}
 use lib.ListN.{length, getD, take, drop, length-drop, length-map}
 use lib.Seq.{take-all}
-use Rattle.binar.specs.Echelon.{Row, EchelonForm, rank as echelonRank}
+use Rattle.row_reduction.specs.Echelon.{Row, EchelonForm, rank as echelonRank}
 use Rattle.binar.specs.Layout.{formIn}
-use Rattle.binar.proofs.Bounds.{rank-rows}
-use Rattle.binar.proofs.Lists.{all-of, all-map, all-join, map-same}
+use Rattle.row_reduction.proofs.Bounds.{rank-rows}
+use Rattle.row_reduction.proofs.Lists.{all-of, all-map, all-join, map-same}
 use Rattle.binar.proofs.Theorems.{transform-law}
 use Rattle.rolls.specs.Roll.{Sparse, support}
 use Rattle.supports.specs.Support.{mostQubits, All, Rising}
@@ -17,9 +17,9 @@ use Rattle.supports.proofs.Lists.{in-getD}
 use Rattle.roll_paulis.specs.Condense.{condensed}
 use Rattle.pauli.specs.Pauli.{Pauli, normal, indexedProduct}
 use Rattle.pauli.specs.Signed.{listIn}
-use Rattle.roll_paulis.specs.Writing.{OnPlaces}
+use Rattle.roll_writer.specs.Writing.{OnPlaces}
 use Rattle.pauli.proofs.Algebra.{normal-lt}
-use Rattle.roll_paulis.proofs.Writers.{length-list}
+use Rattle.roll_writer.proofs.Writers.{length-list}
 use Rattle.pauli_theory.specs.Standard.{supportOf, standard}
 use Rattle.pauli_theory.specs.CommonPlaces.{formOfPlaces, dependencyProducts, basisProducts, commonProducts}
 use Rattle.pauli_theory.specs.ModuloPlaces.{movedPauli}
@@ -38,7 +38,7 @@ use Rattle.work_area.proofs.AreaLaws.{form-room-more}
 use Rattle.group_form.proofs.BuildLaws.{products-rows}
 use Rattle.group_form.proofs.GroupLaws.{known-is, places-are, places-few, paulis-append}
 use Rattle.work_area.proofs.ListLaws.{list-append, list-kept, list-kept-after}
-use Rattle.group_modulo.specs.Moved.{Movable, MovablePauli}
+use Rattle.moved_paulis.specs.Moved.{Movable, MovablePauli}
 use Rattle.common_part.specs.Shared.{Joint, standardOver, Stack, basisOver}
 
 -- ---- the joint support

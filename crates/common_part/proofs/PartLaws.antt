@@ -5,16 +5,16 @@ use mathlib.Core.Option.{Option, some, none}
 use Prim.Native.Nat.{ℕ, _+_, _*_, _/_, _%_, _^_, _≤_, _<_}
 use native.Mathlib.Omega.{arith}
 use lib.ListN.{length, getD, take}
-use Rattle.binar.proofs.Lists.{all-map, all-over, all-under}
+use Rattle.row_reduction.proofs.Lists.{all-map, all-over, all-under}
 use Rattle.rolls.specs.Roll.{countOf}
 use Rattle.supports.specs.Support.{All, Rising}
-use Rattle.supports.specs.Told.{Told, answer, refused, mapTold}
+use Rattle.refusals.specs.Told.{Told, answer, refused, mapTold}
 use Rattle.roll_paulis.specs.Condense.{listOf, condensed}
 use Rattle.pauli.specs.Pauli.{Pauli}
 use Rattle.roll_paulis.specs.PauliTheorems.{On, PauliOn}
 use Rattle.roll_paulis.specs.Sets.{condense}
 use Rattle.pauli.specs.Signed.{listIn}
-use Rattle.roll_paulis.specs.Writing.{OnPlaces, rollOver, toldBytes, leftIn}
+use Rattle.roll_writer.specs.Writing.{OnPlaces, rollOver, toldBytes, leftIn}
 use Rattle.roll_paulis.proofs.Places.{condense-bit}
 use Rattle.pauli_theory.specs.Group.{Promise}
 use Rattle.pauli_theory.specs.Standard.{supportOf, phaseStep}
@@ -36,7 +36,7 @@ use Rattle.group_form.proofs.GroupedLaws.{list-length}
 use Rattle.comparison.specs.Calls.{Pair, twoLists}
 use Rattle.common_part.specs.Calls.{listBytes, commonBytes, commonCall}
 use Rattle.comparison.proofs.OrderLaws.{pair-long}
-use Rattle.group_modulo.specs.Moved.{Movable, MovablePauli}
+use Rattle.moved_paulis.specs.Moved.{Movable, MovablePauli}
 use Rattle.common_part.specs.Shared.{Joint, standardOver, basisOver, exponentFor, noted, sharedNoted}
 
 pub lists-few : (l r : List ℕ) (nl nr : ℕ) → countOf l ≡ answer nl → countOf r ≡ answer nr → nl + nr ≤ 128

@@ -10,16 +10,16 @@ use borrow.Author.Tests.{lt-ltb, le-ltb}
 use lib.ListN.{length, getD, set, take, length-set}
 use lib.Seq.{sets, length-take-le, getD-set-same, getD-set-other}
 use Rattle.binar.specs.Layout.{formIn}
-use Rattle.binar.specs.Solve.{transposeSolve}
+use Rattle.row_reduction.specs.Solve.{transposeSolve}
 use Rattle.pauli.specs.declared.signed.Pauli.{Pauli as Held}
 use Rattle.pauli.specs.Pauli.{Pauli, I, normal, indexedProduct}
-use Rattle.roll_paulis.specs.Writing.{OnPlaces, rollOver}
+use Rattle.roll_writer.specs.Writing.{OnPlaces, rollOver}
 use Rattle.roll_paulis.specs.Condense.{listOf}
 use Rattle.rolls.specs.Roll.{countOf}
-use Rattle.supports.specs.Told.{answer}
-use Rattle.roll_paulis.proofs.Writers.{length-list}
+use Rattle.refusals.specs.Told.{answer}
+use Rattle.roll_writer.proofs.Writers.{length-list}
 use Rattle.supports.specs.Support.{All}
-use Rattle.binar.proofs.Lists.{all-get}
+use Rattle.row_reduction.proofs.Lists.{all-get}
 use Rattle.pauli.specs.Signed.{held, pauliIn, pauliWords, listIn}
 use Rattle.pauli.proofs.Algebra.{pauli-path}
 use Rattle.roll_paulis.proofs.Places.{condense-lt}
@@ -40,7 +40,7 @@ use Rattle.work_area.proofs.AreaLaws.{form-room}
 use Rattle.work_area.proofs.ListLaws.{pauli-same, list-same, list-at, on-places-at, list-append, list-snoc, list-kept, list-kept-after, pauli-kept-after, outside-refl, list-store, store-further}
 use Rattle.membership.proofs.SolveLaws.{solvable-kept, form-kept}
 use Rattle.common_part.specs.Calls.{listBytes}
-use Rattle.group_modulo.specs.Moved.{MovablePauli}
+use Rattle.moved_paulis.specs.Moved.{MovablePauli}
 use Rattle.common_part.specs.Shared.{Solving, exponentOver, exponentFor, noted, sharedNoted, exponentFound}
 
 pub mod-le : (n m : ℕ) → n % m ≤ n

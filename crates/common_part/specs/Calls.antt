@@ -2,7 +2,7 @@
 use mathlib.Core.List.{List, map}
 use Prim.Native.Nat.{ℕ}
 use Rattle.rolls.specs.Roll.{write}
-use Rattle.supports.specs.Told.{Told, mapTold}
+use Rattle.refusals.specs.Told.{Told, mapTold}
 use Rattle.pauli.specs.Pauli.{Pauli}
 use Rattle.roll_paulis.specs.Sets.{sparseOf}
 use Rattle.pauli_theory.specs.Common.{bitand}

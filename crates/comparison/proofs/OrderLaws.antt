@@ -13,7 +13,7 @@ use Rattle.pauli.specs.Pauli.{Pauli}
 use Rattle.rolls.specs.Roll.{mostPaulis, Sparse, support}
 use Rattle.supports.specs.Support.{mostQubits}
 use Rattle.roll_paulis.specs.Sets.{pauliOf}
-use Rattle.supports.specs.Told.{Told, answer, refused, refuseIf, andThen, mapTold}
+use Rattle.refusals.specs.Told.{Told, answer, refused, refuseIf, andThen, mapTold}
 use Rattle.joined_lists.proofs.JoinLaws.{accepted, Joining, counts-joining, limits-refused}
 use Rattle.rolls.proofs.Told.{test-pass, test-refuses}
 use Rattle.pauli_theory.specs.Group.{Promise, none}

@@ -1,6 +1,6 @@
 -- What the answers of the calls on two lists tell.
-use Rattle.supports.specs.Refusals.{toldRefusal}
-use Rattle.supports.specs.Told.{Told, answer}
+use Rattle.refusals.specs.Refusals.{toldRefusal}
+use Rattle.refusals.specs.Told.{Told, answer}
 use Rattle.pauli_theory.specs.Order.{Order as Compared, equal, less, greater, noOrder}
 use Rattle.comparison.specs.declared.answers.Order.{Order}
 use Rattle.comparison.specs.declared.answers.Order.the-variants.{Equal, Less, Greater, NoOrder}

@@ -5,7 +5,7 @@ use Prim.Native.Nat.{ℕ, _+_}
 use lib.Dec.{ltb}
 use lib.ListN.{length}
 use Rattle.rolls.specs.Roll.{mostPaulis, write}
-use Rattle.supports.specs.Told.{Told, answer, refused, refuseIf, andThen, mapTold}
+use Rattle.refusals.specs.Told.{Told, answer, refused, refuseIf, andThen, mapTold}
 use Rattle.pauli.specs.Pauli.{Pauli}
 use Rattle.roll_paulis.specs.Sets.{sparseOf}
 use Rattle.joined_lists.specs.Calls.{readBoth, fewQubits}

@@ -3,9 +3,9 @@ use mathlib.Core.Path.{_≡_}
 use mathlib.Core.List.{List}
 use Prim.Native.Nat.{ℕ}
 use lib.ListN.{length}
-use Rattle.roll_paulis.specs.declared.write.Wrote.{Wrote}
-use Rattle.roll_paulis.specs.Answers.{toldWrote}
-use Rattle.roll_paulis.specs.Writing.{toldBytes, leftIn}
+use Rattle.roll_writer.specs.declared.write.Wrote.{Wrote}
+use Rattle.roll_writer.specs.Answers.{toldWrote}
+use Rattle.roll_writer.specs.Writing.{toldBytes, leftIn}
 use Rattle.pauli_theory.specs.Group.{Promise}
 use Rattle.work_area.specs.Area.{areaAfter}
 use Rattle.comparison.specs.declared.answers.OrderFound.{OrderFound}

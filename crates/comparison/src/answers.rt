@@ -1,5 +1,5 @@
 // What the calls on two lists answer.
-use supports::refusal::Refusal;
+use refusals::refusal::Refusal;
 
 // How two groups compare: the left one is the same, inside the right one or around it, or none of these.
 pub enum Order {

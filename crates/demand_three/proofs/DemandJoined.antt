@@ -7,15 +7,15 @@ use native.Mathlib.Omega.{arith}
 use borrow.Author.Tests.{ltb-false, le-ltb}
 use lib.Dec.{ltb}
 use lib.ListN.{length, take, length-map, length-append, List·getD-map}
-use Rattle.binar.proofs.Lists.{all-join, all-get, all-by}
-use Rattle.roll_paulis.specs.Answers.{toldWrote}
+use Rattle.row_reduction.proofs.Lists.{all-join, all-get, all-by}
+use Rattle.roll_writer.specs.Answers.{toldWrote}
 use Rattle.joined_lists.specs.Calls.{readBoth, fewQubits, joinedOf, joinOf}
 use Rattle.roll_paulis.specs.Condense.{nothing}
 use Rattle.rolls.specs.Roll.{mostPaulis, numbers, support, read, byValue, write}
 use Rattle.supports.specs.Support.{mostQubits, All}
 use Rattle.roll_paulis.specs.Sets.{pauliOf}
-use Rattle.supports.specs.Told.{answer, refuseIf, andThen, mapTold}
-use Rattle.roll_paulis.specs.Writing.{toldBytes}
+use Rattle.refusals.specs.Told.{answer, refuseIf, andThen, mapTold}
+use Rattle.roll_writer.specs.Writing.{toldBytes}
 use Rattle.joining.proofs.JoinedLists.{join-is, joined-law as join-law}
 use Rattle.rolls.proofs.RollLaws.{answer-parts}
 use Rattle.rolls.proofs.ListSupport.{numbers-append, numbers-byValue, support-length}

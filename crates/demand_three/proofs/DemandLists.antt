@@ -5,14 +5,14 @@ use Prim.Native.Nat.{ℕ, zero, suc, _+_, _*_, _/_, _%_, _^_, _<_}
 use native.Mathlib.Omega.{arith}
 use lib.ListN.{length, getD, take, drop, length-map, List·getD-map}
 use lib.Seq.{take-at, ext-getD}
-use Rattle.binar.proofs.Lists.{all-map, all-over, all-under}
-use Rattle.supports.specs.Bytes.{u16At, le16}
+use Rattle.row_reduction.proofs.Lists.{all-map, all-over, all-under}
+use Rattle.refusals.specs.Bytes.{u16At, le16}
 use Rattle.pauli.specs.Pauli.{Pauli, I, normal, consIf, select}
 use Rattle.rolls.specs.Roll.{Sparse, read, byValue}
 use Rattle.supports.specs.Support.{All}
 use Rattle.roll_paulis.specs.Sets.{members, pauliOf}
-use Rattle.supports.specs.Told.{Told, answer, refused}
-use Rattle.roll_paulis.specs.Writing.{putBytes, toldBytes, leftIn}
+use Rattle.refusals.specs.Told.{Told, answer, refused}
+use Rattle.roll_writer.specs.Writing.{putBytes, toldBytes, leftIn}
 use Rattle.rolls.proofs.BytesLaws.{length-le16, u16-read}
 use Rattle.rolls.proofs.Items.{itemsAt, itemsBytes, length-itemsAt, length-itemsBytes, items-read}
 use Rattle.rolls.proofs.Told.{refused-none, test-passed}

@@ -9,13 +9,13 @@ use borrow.Author.Tests.{ltb-false, le-ltb, lt-leb}
 use lib.Dec.{ltb}
 use lib.ListN.{length, replicate, length-replicate, length-map}
 use Rattle.bit_rows.specs.Row.{weight}
-use Rattle.binar.proofs.Lists.{all-map}
+use Rattle.row_reduction.proofs.Lists.{all-map}
 use Rattle.joined_lists.specs.Calls.{readBoth, within}
 use Rattle.pauli.specs.Pauli.{indexedProduct}
 use Rattle.rolls.specs.Roll.{mostPaulis}
 use Rattle.roll_paulis.specs.Sets.{members, pauliOf}
-use Rattle.supports.specs.Told.{answer, refuseIf, andThen, mapTold}
-use Rattle.roll_paulis.specs.Writing.{putBytes}
+use Rattle.refusals.specs.Told.{answer, refuseIf, andThen, mapTold}
+use Rattle.roll_writer.specs.Writing.{putBytes}
 use Rattle.rolls.proofs.RollLaws.{answer-parts, parts-count}
 use Rattle.roll_paulis.proofs.Sets.{members-rise, members-count}
 use Rattle.supports.proofs.SupportLaws.{rising-bound}

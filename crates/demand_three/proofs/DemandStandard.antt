@@ -8,16 +8,16 @@ use native.Mathlib.Nat.{mod-eq-of-lt}
 use native.Mathlib.Omega.{arith}
 use lib.Dec.{ltb}
 use lib.ListN.{length, take, length-map}
-use Rattle.binar.proofs.Lists.{all-map, all-over}
-use Rattle.roll_paulis.specs.Answers.{toldWrote}
+use Rattle.row_reduction.proofs.Lists.{all-map, all-over}
+use Rattle.roll_writer.specs.Answers.{toldWrote}
 use Rattle.roll_paulis.specs.Sets.{sparseOf, setOf, members}
 use Rattle.pauli.specs.Pauli.{Pauli}
 use Rattle.roll_paulis.specs.PauliTheorems.{On, PauliOn}
 use Rattle.rolls.specs.Roll.{mostPaulis, highestQubit, Sparse, numbers, support, read, byValue, write}
 use Rattle.supports.specs.Support.{mostQubits, All}
 use Rattle.rolls.specs.RollTheorems.{AllowedSet}
-use Rattle.supports.specs.Told.{answer, refuseIf, andThen, mapTold}
-use Rattle.roll_paulis.specs.Writing.{toldBytes}
+use Rattle.refusals.specs.Told.{answer, refuseIf, andThen, mapTold}
+use Rattle.roll_writer.specs.Writing.{toldBytes}
 use Rattle.rolls.proofs.Checks.{AllowedSets}
 use Rattle.supports.proofs.Lists.{all-in, all-mem}
 use Rattle.rolls.proofs.RollLaws.{answer-parts}

@@ -8,15 +8,15 @@ use mathlib.Core.Option.{Option, some, none}
 use Prim.Native.Nat.{ℕ, zero, suc, _+_, _*_, _≤_, _<_}
 use lib.Dec.{ltb}
 use lib.ListN.{length, getD, take}
-use Rattle.roll_paulis.specs.declared.write.Wrote.{Wrote}
-use Rattle.roll_paulis.specs.Answers.{toldWrote}
-use Rattle.supports.specs.Bytes.{u16At}
+use Rattle.roll_writer.specs.declared.write.Wrote.{Wrote}
+use Rattle.roll_writer.specs.Answers.{toldWrote}
+use Rattle.refusals.specs.Bytes.{u16At}
 use Rattle.roll_paulis.specs.Condense.{nothing}
 use Rattle.pauli.specs.Pauli.{Pauli, I, Same, turned, product}
 use Rattle.rolls.specs.Roll.{Sparse, support, read, byValue, write}
 use Rattle.supports.specs.Support.{All, Rising}
 use Rattle.roll_paulis.specs.Sets.{pauliOf}
-use Rattle.supports.specs.Told.{Told, answer, refuseIf}
+use Rattle.refusals.specs.Told.{Told, answer, refuseIf}
 use Rattle.pauli_theory.specs.Group.{Generated, SameGroup, Promise, Honest}
 use Rattle.pauli_theory.specs.Order.{Order, equal, less}
 use Rattle.pauli_group.specs.declared.answers.MemberFound.{MemberFound}

@@ -8,23 +8,23 @@ use lib.Dec.{ltb}
 use lib.ListN.{length, getD, take, drop, length-map, length-take}
 use lib.Seq.{sets, ext-getD, getD-take, getD-drop}
 use Rattle.bit_rows.specs.Row.{ifBit}
-use Rattle.binar.proofs.Lists.{all-by}
-use Rattle.binar.proofs.Span.{ifBit-case}
+use Rattle.row_reduction.proofs.Lists.{all-by}
+use Rattle.row_reduction.proofs.Span.{ifBit-case}
 use Rattle.pauli.specs.declared.signed.Pauli.{Pauli as Held}
 use Rattle.roll_paulis.specs.Condense.{condensed}
 use Rattle.pauli.specs.Pauli.{Pauli, I, normal, times, turned, select, product, indexedProduct}
 use Rattle.roll_paulis.specs.PauliTheorems.{PauliOn}
 use Rattle.supports.specs.Support.{All, Rising}
 use Rattle.pauli.specs.Signed.{held, listIn, pauliWords}
-use Rattle.supports.specs.Told.{Told, answer, refused, refuseIf, andThen}
-use Rattle.roll_paulis.specs.Writing.{OnPlaces, rollOver}
+use Rattle.refusals.specs.Told.{Told, answer, refused, refuseIf, andThen}
+use Rattle.roll_writer.specs.Writing.{OnPlaces, rollOver}
 use Rattle.pauli.proofs.Algebra.{pauli-path}
-use Rattle.roll_paulis.proofs.Condensed.{condensed-times}
+use Rattle.roll_writer.proofs.Condensed.{condensed-times}
 use Rattle.pauli.proofs.Products.{product-none, indexed-cons}
 use Rattle.roll_paulis.proofs.Rows.{on-I}
 use Rattle.pauli.proofs.SignedLaws.{byte-value}
 use Rattle.rolls.proofs.Told.{test-pass, test-refuses}
-use Rattle.roll_paulis.proofs.Writers.{length-list}
+use Rattle.roll_writer.proofs.Writers.{length-list}
 use Rattle.pauli_theory.specs.Group.{Promise}
 use Rattle.pauli_theory.specs.Listing.{countFrom, subsetAt, phaseCount, elementsOf, pageSize, page}
 use Rattle.pauli_theory.specs.Standard.{supportOf, standard, rank, phaseStep}

@@ -5,12 +5,12 @@ use Prim.Native.Nat.{ℕ, zero, suc, _+_, _-_, _*_, _/_, _%_, _^_, _≤_}
 use native.Mathlib.Omega.{arith}
 use lib.ListN.{length, take, drop, length-map}
 use lib.Seq.{take-all}
-use Rattle.binar.specs.Echelon.{Row, rank as echelonRank}
+use Rattle.row_reduction.specs.Echelon.{Row, rank as echelonRank}
 use Rattle.binar.specs.Layout.{formIn}
 use Rattle.bit_rows.specs.Words.{matrix}
-use Rattle.binar.proofs.Lists.{map-drop}
-use Rattle.binar.proofs.Matrix.{length-matrix}
-use Rattle.binar.proofs.Bounds.{rank-rows}
+use Rattle.row_reduction.proofs.Lists.{map-drop}
+use Rattle.row_reduction.proofs.Matrix.{length-matrix}
+use Rattle.row_reduction.proofs.Bounds.{rank-rows}
 use Rattle.pauli.specs.Pauli.{Pauli, indexedProduct}
 use Rattle.pauli.specs.Signed.{listIn}
 use Rattle.pauli_theory.proofs.Form.{map-take}

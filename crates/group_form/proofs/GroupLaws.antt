@@ -4,8 +4,8 @@ use mathlib.Core.List.{List, [], _∷_, _++_, map, map-append, List·Memᴰ as M
 use Prim.Native.Nat.{ℕ, zero, suc, _+_, _-_, _*_, _≤_, _<_, min}
 use native.Mathlib.Omega.{arith}
 use lib.ListN.{length, take, length-map, length-append}
-use Rattle.binar.specs.Echelon.{EchelonForm, rank as echelonRank}
-use Rattle.supports.specs.Bytes.{numbersAt}
+use Rattle.row_reduction.specs.Echelon.{EchelonForm, rank as echelonRank}
+use Rattle.refusals.specs.Bytes.{numbersAt}
 use Rattle.roll_paulis.specs.Condense.{listOf, condensed, Readable}
 use Rattle.supports.specs.Known.{Gathered}
 use Rattle.pauli.specs.Pauli.{Pauli, normal}
@@ -13,8 +13,8 @@ use Rattle.rolls.specs.Roll.{Sparse, numbers, support, countOf}
 use Rattle.supports.specs.Support.{mostQubits, insertAll}
 use Rattle.roll_paulis.specs.Sets.{pauliOf}
 use Rattle.pauli.specs.Signed.{listIn}
-use Rattle.supports.specs.Told.{answer}
-use Rattle.roll_paulis.specs.Writing.{OnPlaces}
+use Rattle.refusals.specs.Told.{answer}
+use Rattle.roll_writer.specs.Writing.{OnPlaces}
 use Rattle.joined_lists.proofs.JoinLaws.{accepted, accepted-joined}
 use Rattle.joining.proofs.ProductLaws.{Accepted, count-accepted, readable}
 use Rattle.rolls.proofs.RollLaws.{answer-parts}

@@ -12,8 +12,8 @@ use Rattle.rolls.specs.Roll.{mostPaulis, countOf}
 use Rattle.supports.specs.Support.{mostQubits}
 use Rattle.roll_paulis.specs.Sets.{pauliOf}
 use Rattle.pauli.specs.Signed.{listIn}
-use Rattle.supports.specs.Told.{answer}
-use Rattle.roll_paulis.specs.Writing.{OnPlaces}
+use Rattle.refusals.specs.Told.{answer}
+use Rattle.roll_writer.specs.Writing.{OnPlaces}
 use Rattle.joined_lists.proofs.JoinLaws.{accepted, accepted-few}
 use Rattle.rolls.proofs.RollLaws.{answer-parts}
 use Rattle.pauli_theory.specs.Group.{Promise, none, abelian, notAbelian}

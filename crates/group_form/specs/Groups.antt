@@ -3,7 +3,7 @@ use mathlib.Core.Path.{_≡_}
 use mathlib.Core.List.{List, map}
 use Prim.Native.Nat.{ℕ, _+_, _*_, _≤_}
 use lib.ListN.{length, take}
-use Rattle.binar.specs.Echelon.{EchelonForm, rank as echelonRank}
+use Rattle.row_reduction.specs.Echelon.{EchelonForm, rank as echelonRank}
 use Rattle.binar.specs.Layout.{formIn}
 use Rattle.roll_paulis.specs.Condense.{condensed}
 use Rattle.pauli.specs.Pauli.{Pauli, normal, indexedProduct}

@@ -1,4 +1,3 @@
 pub mod PairLaws
-pub mod MoveLaws
 pub mod RemainderLaws
 pub mod ModuloLaws

@@ -5,9 +5,9 @@ use Prim.Native.Nat.{ℕ, _+_, _*_, _%_, _^_, _≤_, _<_}
 use native.Mathlib.Omega.{arith}
 use lib.ListN.{length, getD, take, drop, length-map}
 use lib.Seq.{length-take-le}
-use Rattle.binar.specs.Echelon.{EchelonForm, rank as echelonRank}
+use Rattle.row_reduction.specs.Echelon.{EchelonForm, rank as echelonRank}
 use Rattle.binar.specs.Layout.{formIn}
-use Rattle.binar.proofs.Lists.{all-of, all-map, all-over, map-same}
+use Rattle.row_reduction.proofs.Lists.{all-of, all-map, all-over, map-same}
 use Rattle.supports.specs.Known.{Gathered}
 use Rattle.rolls.specs.Roll.{Sparse, support, write}
 use Rattle.supports.specs.Support.{mostQubits, All, Rising}
@@ -16,9 +16,9 @@ use Rattle.roll_paulis.specs.Condense.{listOf, condensed}
 use Rattle.pauli.specs.Pauli.{Pauli, normal}
 use Rattle.pauli.specs.Signed.{listIn}
 use Rattle.roll_paulis.specs.Sets.{pauliOf, sparseOf}
-use Rattle.roll_paulis.specs.Writing.{OnPlaces, rollOver}
+use Rattle.roll_writer.specs.Writing.{OnPlaces, rollOver}
 use Rattle.pauli.proofs.Algebra.{normal-lt}
-use Rattle.roll_paulis.proofs.Writers.{length-list}
+use Rattle.roll_writer.proofs.Writers.{length-list}
 use Rattle.pauli_theory.specs.Group.{Promise}
 use Rattle.pauli_theory.specs.Modulo.{modulo}
 use Rattle.pauli_theory.specs.ModuloPlaces.{movedPauli, multipliedByAllOver}
@@ -34,7 +34,7 @@ use Rattle.group_form.specs.Groups.{paulis, overSupport, Grouped}
 use Rattle.membership.proofs.FactorLaws.{grouped-solvable}
 use Rattle.group_form.proofs.GroupLaws.{known-is, places-are, places-few}
 use Rattle.work_area.proofs.ListLaws.{list-kept-after}
-use Rattle.group_modulo.specs.Moved.{Movable, MovablePauli}
+use Rattle.moved_paulis.specs.Moved.{Movable, MovablePauli}
 use Rattle.group_modulo.specs.Remainder.{Other, remainderBy, Remainder}
 use Rattle.group_modulo.proofs.RemainderLaws.{normal-low}
 

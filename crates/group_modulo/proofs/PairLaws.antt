@@ -3,9 +3,9 @@ use mathlib.Core.Path.{_≡_, refl, sym, ap, _∙_}
 use mathlib.Core.List.{List, _++_}
 use Prim.Native.Nat.{ℕ, _≤_}
 use lib.ListN.{length, take, drop}
-use Rattle.supports.specs.Told.{Told, answer, refused}
+use Rattle.refusals.specs.Told.{Told, answer, refused}
 use Rattle.roll_paulis.specs.Condense.{listOf}
-use Rattle.roll_paulis.specs.Writing.{toldBytes, leftIn}
+use Rattle.roll_writer.specs.Writing.{toldBytes, leftIn}
 use Rattle.joined_lists.proofs.JoinLaws.{Joining}
 use Rattle.work_area.specs.Area.{workWords, cleared, areaAfter}
 use Rattle.group_form.specs.Groups.{paulis}

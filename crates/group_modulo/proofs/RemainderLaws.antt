@@ -11,7 +11,7 @@ use lib.ListN.{length, getD, take, drop, length-map, length-drop}
 use lib.Seq.{getD-take, getD-drop, length-take-le}
 use Rattle.bit_rows.specs.Row.{bit, ifBit}
 use Rattle.bit_rows.proofs.Bits.{bit-lt}
-use Rattle.binar.proofs.Lists.{all-map, all-over, all-get, map-same}
+use Rattle.row_reduction.proofs.Lists.{all-map, all-over, all-get, map-same}
 use Rattle.supports.specs.Known.{placeOf}
 use Rattle.supports.specs.Support.{All}
 use Rattle.supports.proofs.Lists.{in-getD}
@@ -20,15 +20,15 @@ use Rattle.pauli.specs.Pauli.{Pauli, I, normal, times}
 use Rattle.pauli.specs.Signed.{held, pauliIn, listIn}
 use Rattle.pauli.proofs.Algebra.{pauli-path, normal-lt, normal-times, times-normal-l, times-normal-r}
 use Rattle.pauli.proofs.SignedLaws.{zero-bit}
-use Rattle.roll_paulis.proofs.Writers.{length-list}
+use Rattle.roll_writer.proofs.Writers.{length-list}
 use Rattle.pauli_theory.specs.ModuloPlaces.{movedSet, movedPauli, pivotPlace, multipliedAt, multipliedOver, multipliedByAllOver}
 use Rattle.pauli_theory.proofs.ModuloPlaces.{over-next, over-end, pivot-place}
 use Rattle.work_area.specs.Area.{standardAt, spareAt, strideOf, Outside}
 use Rattle.work_area.proofs.AreaLaws.{form-room}
 use Rattle.work_area.proofs.ListLaws.{list-map-at, on-places-at, pauli-kept, outside-refl, outside-join}
-use Rattle.group_modulo.specs.Moved.{Movable, MovablePauli}
+use Rattle.moved_paulis.specs.Moved.{Movable, MovablePauli}
 use Rattle.group_modulo.specs.Remainder.{Other, remainderBy}
-use Rattle.group_modulo.proofs.MoveLaws.{loaded-movable, moved-value}
+use Rattle.moved_paulis.proofs.MoveLaws.{loaded-movable, moved-value}
 
 -- ---- one Pauli at one place
 

@@ -7,7 +7,7 @@ use Rattle.supports.specs.Support.{Rising}
 use Rattle.roll_paulis.specs.Condense.{condensed}
 use Rattle.pauli.specs.Pauli.{Pauli}
 use Rattle.pauli.specs.Signed.{listIn}
-use Rattle.roll_paulis.specs.Writing.{OnPlaces}
+use Rattle.roll_writer.specs.Writing.{OnPlaces}
 use Rattle.pauli_theory.specs.Group.{Promise}
 use Rattle.pauli_theory.specs.Modulo.{modulo}
 use Rattle.pauli_theory.specs.ModuloPlaces.{movedPauli, multipliedByAllOver}

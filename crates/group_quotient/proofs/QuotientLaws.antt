@@ -8,7 +8,7 @@ use Prim.Native.Nat.{ℕ, _≤_}
 use native.Mathlib.Omega.{arith}
 use lib.ListN.{length}
 use Rattle.rolls.specs.Roll.{Sparse, numbers, support, write}
-use Rattle.supports.specs.Told.{answer, refused}
+use Rattle.refusals.specs.Told.{answer, refused}
 use Rattle.rolls.proofs.ListSupport.{numbers-append, support-length}
 use Rattle.pauli.specs.Pauli.{Pauli}
 use Rattle.roll_paulis.specs.Sets.{sparseOf}

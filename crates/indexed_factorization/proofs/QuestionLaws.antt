@@ -13,17 +13,17 @@ use Rattle.binar.proofs.Theorems.{solve-law}
 use Rattle.joined_lists.specs.declared.joined.CountsFound.{CountsFound}
 use Rattle.joined_lists.specs.declared.joined.CountsFound.the-variants.{Counts as CountsTold, Refused as CountsRefused}
 use Rattle.joined_lists.specs.declared.joined.JoinedCounts.{JoinedCounts}
-use Rattle.supports.specs.declared.refusal.Reason.the-variants.{Output}
-use Rattle.supports.specs.declared.refusal.Refusal.{Refusal}
-use Rattle.supports.specs.Refusals.{toldRefusal}
+use Rattle.refusals.specs.declared.refusal.Reason.the-variants.{Output}
+use Rattle.refusals.specs.declared.refusal.Refusal.{Refusal}
+use Rattle.refusals.specs.Refusals.{toldRefusal}
 use Rattle.joined_lists.specs.Answers.{toldCounts}
 use Rattle.joined_lists.specs.Calls.{Lists, readBoth, within, Counts}
 use Rattle.roll_paulis.specs.Condense.{listOf, nothing}
 use Rattle.pauli.specs.Pauli.{Pauli, indexedProduct}
 use Rattle.rolls.specs.Roll.{mostPaulis, read, countOf}
 use Rattle.roll_paulis.specs.Sets.{members, rowOf, pauliOf}
-use Rattle.supports.specs.Told.{Told, answer, refused, refuseIf, andThen, mapTold}
-use Rattle.roll_paulis.specs.Writing.{putBytes}
+use Rattle.refusals.specs.Told.{Told, answer, refused, refuseIf, andThen, mapTold}
+use Rattle.roll_writer.specs.Writing.{putBytes}
 use Rattle.joined_lists.proofs.JoinLaws.{accepted, accepted-few}
 use Rattle.rolls.proofs.Told.{refused-none, test-pass, test-refuses, test-passed, map-refused}
 use Rattle.pauli_theory.specs.Group.{Promise}

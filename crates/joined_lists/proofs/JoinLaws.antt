@@ -10,17 +10,17 @@ use borrow.Author.Tests.{lt-ltb, le-ltb, ltb-false, le-leb, lt-leb}
 use lib.Dec.{ltb}
 use lib.ListN.{length, getD, set, take, drop, length-set, length-append, length-map, drop-of-length-le, List·getD-append}
 use lib.Seq.{drop-cons, drop-length, getD-append-add}
-use Rattle.binar.proofs.Lists.{all-by}
+use Rattle.row_reduction.proofs.Lists.{all-by}
 use Rattle.rolls.specs.declared.roll.Entry.{Entry as CodeEntry}
-use Rattle.supports.specs.Told.{Told, answer, refused, refuseIf, andThen, mapTold}
+use Rattle.refusals.specs.Told.{Told, answer, refused, refuseIf, andThen, mapTold}
 use Rattle.rolls.specs.Answers.{toldEntry}
-use Rattle.supports.specs.Bytes.{u16At, numbersAt, le16, le32s}
+use Rattle.refusals.specs.Bytes.{u16At, numbersAt, le16, le32s}
 use Rattle.rolls.specs.Roll.{mostPaulis, Sparse, Entry, entryAt, entriesAt, numbers, support, read, countOf, entry, table, bodies, encode, byValue, write}
 use Rattle.supports.specs.Support.{mostQubits, insertAll}
 use Rattle.supports.specs.Known.{Gathered}
 use Rattle.roll_paulis.specs.Condense.{listOf, nothing}
 use Rattle.joined_lists.specs.Calls.{Lists, readBoth, fewQubits, within, joinedOf, Counts, countsOf, joinOf, Looked, lookedUp, entryOf, bodyIn, orEmpty, bodyOf}
-use Rattle.roll_paulis.specs.Writing.{putBytes, entryBytes, toldBytes, leftIn}
+use Rattle.roll_writer.specs.Writing.{putBytes, entryBytes, toldBytes, leftIn}
 use Rattle.rolls.proofs.Told.{refused-none, test-pass, test-refuses, test-passed, answered}
 use Rattle.supports.proofs.Lists.{AllBytes, drop-one}
 use Rattle.rolls.proofs.BytesLaws.{length-numbers, length-le16, le32s-append, numbers-written}
@@ -31,8 +31,8 @@ use Rattle.rolls.proofs.Entries.{length-entriesBytes}
 use Rattle.rolls.proofs.RollLaws.{answer-parts, length-encode}
 use Rattle.rolls.proofs.ReaderLaws.{count-read, counted-bound, read-numbers, read-length, read-joined, gathered-all}
 use Rattle.roll_paulis.proofs.BodyLaws.{read-count, entry-room, body-room, exponent-is, xs-is, zs-is}
-use Rattle.roll_paulis.proofs.Puts.{put-byte, put-nothing, Left, left-start, left-same, left-step, left-room, left-done}
-use Rattle.roll_paulis.proofs.Writers.{length-entryBytes}
+use Rattle.roll_writer.proofs.Puts.{put-byte, put-nothing, Left, left-start, left-same, left-step, left-room, left-done}
+use Rattle.roll_writer.proofs.Writers.{length-entryBytes}
 
 -- ---- an accepted roll
 

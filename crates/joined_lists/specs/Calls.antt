@@ -4,8 +4,8 @@ use mathlib.Core.List.{List, [], _∷_, _++_, map}
 use Prim.Native.Nat.{ℕ, _+_, _-_, _*_, _%_}
 use lib.Dec.{leb, ltb}
 use lib.ListN.{length, getD, take, drop}
-use Rattle.supports.specs.Told.{Told, answer, refused, refuseIf, andThen, mapTold}
-use Rattle.supports.specs.Bytes.{u16At}
+use Rattle.refusals.specs.Told.{Told, answer, refused, refuseIf, andThen, mapTold}
+use Rattle.refusals.specs.Bytes.{u16At}
 use Rattle.rolls.specs.Roll.{mostPaulis, Sparse, Entry, entryAt, support, read, write}
 use Rattle.supports.specs.Support.{mostQubits}
 use Rattle.pauli.specs.Pauli.{Pauli, times}

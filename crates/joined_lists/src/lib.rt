@@ -1,6 +1,4 @@
-// Two rolls as one joined list: its limits, its support and the lookups of its generators.
+// Two rolls as one joined list: its limits and its support.
 
 // Two rolls joined.
 pub mod joined;
-// The lookups of a generator of a joined list.
-pub mod lookup;

@@ -6,8 +6,8 @@ use native.Mathlib.Omega.{arith}
 use borrow.Author.Tests.{ltb-false}
 use lib.Dec.{ltb}
 use lib.ListN.{length, length-map, length-append}
-use Rattle.binar.proofs.Lists.{all-join, all-map, all-over}
-use Rattle.supports.specs.Told.{answer, refuseIf, andThen, mapTold}
+use Rattle.row_reduction.proofs.Lists.{all-join, all-map, all-over}
+use Rattle.refusals.specs.Told.{answer, refuseIf, andThen, mapTold}
 use Rattle.rolls.specs.Roll.{mostPaulis, Sparse, support, read, write, byValue}
 use Rattle.supports.specs.Support.{mostQubits, All}
 use Rattle.rolls.specs.RollTheorems.{Allowed}

@@ -9,19 +9,20 @@ use lib.Dec.{ltb, leb}
 use lib.ListN.{length, getD, take, drop}
 use lib.Seq.{sets}
 use Rattle.bit_rows.specs.Row.{_⊕_, dot}
-use Rattle.binar.proofs.Lists.{all-get}
-use Rattle.supports.specs.Told.{Told, answer, refused, refuseIf, andThen, mapTold}
-use Rattle.supports.specs.Bytes.{u16At, numbersAt}
+use Rattle.row_reduction.proofs.Lists.{all-get}
+use Rattle.refusals.specs.Told.{Told, answer, refused, refuseIf, andThen, mapTold}
+use Rattle.refusals.specs.Bytes.{u16At, numbersAt}
 use Rattle.rolls.specs.Roll.{Sparse, support, numbers, read, countOf, byValue, encode, write}
 use Rattle.supports.specs.Support.{mostQubits, insertAll, All, Rising}
 use Rattle.rolls.specs.RollTheorems.{AllowedSet}
 use Rattle.pauli.specs.declared.signed.Pauli.{Pauli as Held}
 use Rattle.pauli.specs.Pauli.{Pauli, times, normal, select}
-use Rattle.pauli.specs.Signed.{held, setIn, pauliIn, pauliWords, listIn}
+use Rattle.pauli.specs.Signed.{held, pauliIn, pauliWords, listIn}
+use Rattle.places.specs.PlaceSet.{setIn}
 use Rattle.roll_paulis.specs.Sets.{members, condense, expand, pauliOf, setOf, sparseOf}
 use Rattle.roll_paulis.specs.PauliTheorems.{On, PauliOn}
 use Rattle.supports.specs.Known.{Gathered}
-use Rattle.roll_paulis.specs.Writing.{sparseOver, rollOver, toldBytes, leftIn, OnPlaces}
+use Rattle.roll_writer.specs.Writing.{sparseOver, rollOver, toldBytes, leftIn, OnPlaces}
 use Rattle.roll_paulis.specs.Condense.{listOf, nothing, condensed, Covered, Readable}
 use Rattle.joining.specs.Product.{productOver, productBytes}
 use Rattle.joined_lists.specs.Calls.{Lists, readBoth, fewQubits, within, productOf}
@@ -30,7 +31,7 @@ use Rattle.rolls.proofs.Checks.{AllowedSets}
 use Rattle.supports.proofs.Lists.{in-getD, all-in}
 use Rattle.rolls.proofs.ListSupport.{support-rises, sets-in-support}
 use Rattle.joined_lists.proofs.JoinLaws.{accepted, count-refused}
-use Rattle.roll_paulis.proofs.Condensed.{condensed-times, sparse-over}
+use Rattle.roll_writer.proofs.Condensed.{condensed-times, sparse-over}
 use Rattle.roll_paulis.proofs.Places.{select-rises, condense-lt, condense-sum, condense-dot, expand-condense}
 use Rattle.roll_paulis.proofs.Rows.{on-times}
 use Rattle.roll_paulis.proofs.PauliTheorems.{support-law}

@@ -2,7 +2,7 @@
 use mathlib.Core.Path.{_≡_}
 use mathlib.Core.List.{List, _++_, map}
 use Prim.Native.Nat.{ℕ}
-use Rattle.supports.specs.Told.{answer}
+use Rattle.refusals.specs.Told.{answer}
 use Rattle.rolls.specs.Roll.{Sparse, read, write, byValue}
 use Rattle.joined_lists.specs.Calls.{joinOf}
 

@@ -5,7 +5,7 @@ use lib.ListN.{getD}
 use Rattle.rolls.specs.Roll.{Sparse}
 use Rattle.pauli.specs.Pauli.{Pauli, times}
 use Rattle.roll_paulis.specs.Sets.{pauliOf}
-use Rattle.roll_paulis.specs.Writing.{rollOver}
+use Rattle.roll_writer.specs.Writing.{rollOver}
 use Rattle.roll_paulis.specs.Condense.{nothing, condensed}
 
 -- Pauli i of one list times Pauli j of another, over the places of qs

@@ -4,20 +4,20 @@ ghost use mathlib.Core.List.{_++_, map};
 ghost use Prim.Native.Nat.{_+_, _*_, _≤_, _<_};
 ghost use lib.ListN.{length};
 ghost use Rattle.rolls.specs.Roll.{numbers, byValue, table, bodies, write, countOf};
-ghost use Rattle.supports.specs.Told.{answer};
-ghost use Rattle.roll_paulis.specs.Answers.{toldWrote};
+ghost use Rattle.refusals.specs.Told.{answer};
+ghost use Rattle.roll_writer.specs.Answers.{toldWrote};
 ghost use Rattle.roll_paulis.specs.Condense.{listOf};
 ghost use Rattle.joined_lists.specs.Calls.{joinOf};
-ghost use Rattle.roll_paulis.specs.Writing.{putBytes, toldBytes, leftIn};
+ghost use Rattle.roll_writer.specs.Writing.{putBytes, toldBytes, leftIn};
 use joined_lists::joined::CountsFound;
 use joined_lists::joined::joined_counts;
 use joined_lists::joined::numbers_of;
-use roll_paulis::write::Wrote;
-use roll_paulis::write::put_entry;
-use roll_paulis::write::put_u16;
+use refusals::refusal::Reason;
+use refusals::refusal::Refusal;
+use roll_writer::write::Wrote;
+use roll_writer::write::put_entry;
+use roll_writer::write::put_u16;
 use rolls::roll::entry_at;
-use supports::refusal::Reason;
-use supports::refusal::Refusal;
 
 // Writes the entries of an accepted roll of n Paulis from byte at on, where `before` qubit numbers stand in earlier bodies.
 fn copy_entries(out: &mut [u8], at: usize, b: &[u8], n: usize, before: usize)

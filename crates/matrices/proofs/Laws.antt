@@ -6,13 +6,13 @@ use Prim.Native.Nat.{ℕ, _+_, _*_, _≤_, _<_}
 use native.Mathlib.Omega.{arith}
 use lib.ListN.{length, getD, take, drop}
 use lib.Seq.{getD-take, getD-drop}
-use Rattle.binar.specs.declared.echelon.Formation.{Formation}
-use Rattle.binar.specs.declared.echelon.Formation.the-variants.{Rank}
+use Rattle.binar.specs.declared.matrix_form.Formation.{Formation}
+use Rattle.binar.specs.declared.matrix_form.Formation.the-variants.{Rank}
 use Rattle.bit_rows.specs.Words.{matrix, putRow}
-use Rattle.binar.specs.Echelon.{echelon, rank}
+use Rattle.row_reduction.specs.Echelon.{echelon, rank}
 use Rattle.binar.specs.Layout.{formStride, fits, FormIs, formIn, Solvable}
-use Rattle.binar.proofs.Bounds.{rank-rows}
-use Rattle.binar.proofs.Matrix.{length-matrix}
+use Rattle.row_reduction.proofs.Bounds.{rank-rows}
+use Rattle.row_reduction.proofs.Matrix.{length-matrix}
 use Rattle.bit_rows.proofs.Slice.{length-put}
 use Rattle.binar.proofs.Sweep.{get-put-before}
 use Rattle.binar.proofs.Formed.{fits-true}

@@ -7,14 +7,14 @@ ghost use Prim.Native.Nat.{_+_, _*_, _/_, _^_, _≤_, _<_};
 ghost use lib.ListN.{length};
 ghost use Rattle.binar.specs.Layout.{Solvable};
 ghost use Rattle.matrices.specs.Room.{Room, SameBefore};
-use binar::echelon::Formation;
-use binar::echelon::Solution;
-use binar::echelon::echelon_form;
-use binar::echelon::transpose_solve;
-use bit_rows::row::bitxor_assign;
+use binar::matrix_form::Formation;
+use binar::matrix_form::Solution;
+use binar::matrix_form::echelon_form;
+use binar::matrix_form::transpose_solve;
 use bit_rows::row::clear_bits;
 use bit_rows::row::index;
 use libc::STDOUT_FILENO;
+use row_sums::sum::bitxor_assign;
 
 // ---- lines. A line that is longer than its buffer is cut.
 

@@ -13,11 +13,11 @@ use lib.Dec.{ltb}
 use lib.ListN.{length, getD, take, drop, length-take, length-map}
 use lib.Pow.{mod-mod-pow}
 use lib.Seq.{getD-take, getD-drop}
-use Rattle.binar.specs.Echelon.{EchelonForm, rank as echelonRank}
+use Rattle.row_reduction.specs.Echelon.{EchelonForm, rank as echelonRank}
 use Rattle.binar.specs.Layout.{formStride, formIn, Solvable}
-use Rattle.binar.specs.Solve.{transposeSolve}
-use Rattle.binar.proofs.Bounds.{rank-rows}
-use Rattle.binar.proofs.Lists.{all-get}
+use Rattle.row_reduction.specs.Solve.{transposeSolve}
+use Rattle.row_reduction.proofs.Bounds.{rank-rows}
+use Rattle.row_reduction.proofs.Lists.{all-get}
 use Rattle.binar.proofs.Theorems.{reduced-law}
 use Rattle.pauli.specs.declared.signed.Pauli.{Pauli as Held}
 use Rattle.roll_paulis.specs.Condense.{listOf, nothing, condensed, Readable}
@@ -28,7 +28,7 @@ use Rattle.supports.specs.Support.{Rising}
 use Rattle.supports.specs.Known.{placeOf}
 use Rattle.roll_paulis.specs.Sets.{rowOf, pauliOf}
 use Rattle.pauli.specs.Signed.{held, listIn}
-use Rattle.supports.specs.Told.{answer}
+use Rattle.refusals.specs.Told.{answer}
 use Rattle.rolls.proofs.Checks.{AllowedSets}
 use Rattle.joined_lists.proofs.JoinLaws.{accepted}
 use Rattle.supports.proofs.Lists.{all-in}

@@ -10,19 +10,19 @@ use lib.ListN.{length, getD, length-append}
 use Rattle.bit_rows.specs.Row.{bit, weight}
 use Rattle.rolls.specs.declared.roll.Entry.{Entry}
 use Rattle.rolls.specs.Answers.{toldEntry}
-use Rattle.supports.specs.Bytes.{u32At, numbersAt, le16}
+use Rattle.refusals.specs.Bytes.{u32At, numbersAt, le16}
 use Rattle.roll_paulis.specs.Condense.{listOf, nothing}
 use Rattle.rolls.specs.Roll.{entryAt, countOf}
 use Rattle.supports.specs.Support.{insert, Rising}
 use Rattle.supports.specs.Known.{placeOf, lower}
 use Rattle.roll_paulis.specs.Sets.{members}
-use Rattle.supports.specs.Told.{answer}
-use Rattle.roll_paulis.specs.Writing.{putBytes}
+use Rattle.refusals.specs.Told.{answer}
+use Rattle.roll_writer.specs.Writing.{putBytes}
 use Rattle.roll_paulis.proofs.BodyLaws.{xs-is, zs-is}
 use Rattle.rolls.proofs.BytesLaws.{length-le16}
 use Rattle.joined_lists.proofs.JoinLaws.{accepted}
-use Rattle.pauli.proofs.Firsts.{First}
-use Rattle.roll_paulis.proofs.Puts.{chosenFrom, chosen-start, chosen-end, chosen-hit, chosen-skip, Left, left-start, left-done, left-same, left-room, left-step}
+use Rattle.places.proofs.Firsts.{First}
+use Rattle.roll_writer.proofs.Puts.{chosenFrom, chosen-start, chosen-end, chosen-hit, chosen-skip, Left, left-start, left-done, left-same, left-room, left-step}
 use Rattle.roll_paulis.proofs.Sets.{members-count}
 use Rattle.roll_paulis.proofs.Places.{place-in, qubit-at-place, no-place}
 use Rattle.supports.proofs.Lists.{in-getD}

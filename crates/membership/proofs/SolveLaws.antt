@@ -8,13 +8,13 @@ use native.Mathlib.Omega.{arith}
 use lib.Dec.{eqb, eqb·suc-zero}
 use lib.ListN.{length, take, drop}
 use lib.Pow.{pow-mono}
-use Rattle.binar.specs.declared.echelon.Solution.the-variants.{Set, NoSet}
+use Rattle.binar.specs.declared.matrix_form.Solution.the-variants.{Set, NoSet}
 use Rattle.binar.specs.Layout.{formStride, formIn, Solvable, swept, solution}
-use Rattle.binar.specs.Solve.{solved, transposeSolve}
+use Rattle.row_reduction.specs.Solve.{solved, transposeSolve}
 use Rattle.bit_rows.specs.Words.{rowAt, putRow, matrix}
-use Rattle.binar.proofs.Bounds.{sweep-lt}
-use Rattle.binar.proofs.Lists.{all-by}
-use Rattle.binar.proofs.Matrix.{matrix-lt}
+use Rattle.row_reduction.proofs.Bounds.{sweep-lt}
+use Rattle.row_reduction.proofs.Lists.{all-by}
+use Rattle.row_reduction.proofs.Matrix.{matrix-lt}
 use Rattle.bit_rows.proofs.Slice.{AreWords}
 use Rattle.binar.proofs.Sweep.{row-put, put-put, words-put}
 use Rattle.binar.proofs.Theorems.{solution-law}

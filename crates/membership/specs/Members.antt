@@ -6,10 +6,10 @@ use mathlib.Core.Option.{Option, some, none}
 use Prim.Native.Nat.{ℕ}
 use lib.Dec.{ltb}
 use lib.ListN.{length}
-use Rattle.supports.specs.Bytes.{le16}
+use Rattle.refusals.specs.Bytes.{le16}
 use Rattle.pauli.specs.Pauli.{Pauli}
 use Rattle.supports.specs.Known.{placeOf}
-use Rattle.pauli.specs.Signed.{setIn}
+use Rattle.places.specs.PlaceSet.{setIn}
 use Rattle.pauli_theory.specs.Group.{Promise}
 use Rattle.pauli_theory.specs.Membership.{Factorization}
 use Rattle.pauli_theory.specs.Standard.{phaseStep}

@@ -4,7 +4,7 @@ use mathlib.Core.List.{List, [], _∷_, _++_, map}
 use Prim.Native.Nat.{ℕ, zero, suc, _/_, _%_, _<_}
 use native.Mathlib.Omega.{arith}
 use Rattle.bit_rows.specs.Row.{_⊕_, ifBit, rowSum}
-use Rattle.binar.proofs.Span.{ifBit-map}
+use Rattle.row_reduction.proofs.Span.{ifBit-map}
 use Rattle.pauli.specs.Pauli.{Pauli, I, normal, times, productFrom, product, consIf, select, indexedProduct}
 use Rattle.pauli.proofs.Algebra.{times-assoc, I-times, times-I, times-lt, normal-times, times-normal-l}
 

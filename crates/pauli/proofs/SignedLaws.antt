@@ -16,7 +16,7 @@ use Rattle.bit_rows.specs.Row.{bit, ifBit}
 use Rattle.pauli.specs.Pauli.{Pauli, I, normal, times, productFrom, product, consIf, select, indexedProduct}
 use Rattle.pauli.specs.Signed.{pauliIn, listIn}
 use Rattle.pauli.proofs.Algebra.{times-normal-l}
-use Rattle.pauli.proofs.Firsts.{First, skip}
+use Rattle.places.proofs.Firsts.{First, skip}
 use Rattle.pauli.proofs.Products.{product-normal}
 
 -- ---- exponents

@@ -1,24 +1,10 @@
 -- Paulis over the places of a support, as the code holds them: a set of at most 128 places in two words.
 use mathlib.Core.List.{List, [], _∷_}
-use Prim.Native.Nat.{ℕ, zero, suc, _+_, _-_, _*_, _%_, _^_}
+use Prim.Native.Nat.{ℕ, zero, suc, _+_, _*_, _%_, _^_}
 use lib.ListN.{getD}
-use Rattle.bit_rows.specs.Row.{bit, ifBit}
-use Rattle.pauli.specs.declared.signed.Places.{Places}
 use Rattle.pauli.specs.declared.signed.Pauli.{Pauli as Held}
 use Rattle.pauli.specs.Pauli.{Pauli}
-
--- the set, as a number
-unfoldable pub setIn : Places → ℕ
-setIn s = s .high * 2 ^ 64 + s .low
-
--- the first of the n places from p on that is in the set s, or the place past them
-unfoldable pub firstOf : ℕ → ℕ → ℕ → ℕ
-firstOf zero s p = p
-firstOf (suc n) s p = ifBit (bit s p) p (firstOf n s (p + 1))
-
--- the first place from p on that is in the set s, or 128
-unfoldable pub firstFrom : ℕ → ℕ → ℕ
-firstFrom s p = firstOf (128 - p) s p
+use Rattle.places.specs.PlaceSet.{setIn}
 
 -- the Pauli that is held, over places
 unfoldable pub held : Held → Pauli

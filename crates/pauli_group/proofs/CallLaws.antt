@@ -6,17 +6,17 @@ use native.Mathlib.Omega.{arith}
 use borrow.Author.Tests.{lt-ltb, le-ltb, ltb-false}
 use lib.Dec.{ltb}
 use lib.ListN.{length, take, drop}
-use Rattle.supports.specs.declared.refusal.Refusal.{Refusal}
+use Rattle.refusals.specs.declared.refusal.Refusal.{Refusal}
 use Rattle.rolls.specs.declared.roll.Checked.{Checked}
 use Rattle.rolls.specs.declared.roll.Checked.the-variants.{Count, Refused}
 use Rattle.rolls.specs.Answers.{toldCount}
-use Rattle.supports.specs.Refusals.{toldRefusal}
+use Rattle.refusals.specs.Refusals.{toldRefusal}
 use Rattle.roll_paulis.specs.Condense.{listOf}
 use Rattle.pauli.specs.Pauli.{Pauli}
 use Rattle.rolls.specs.Roll.{read, countOf}
 use Rattle.pauli.specs.Signed.{listIn}
-use Rattle.supports.specs.Told.{Told, answer, refused, refuseIf, andThen, mapTold}
-use Rattle.roll_paulis.specs.Writing.{rollOver}
+use Rattle.refusals.specs.Told.{Told, answer, refused, refuseIf, andThen, mapTold}
+use Rattle.roll_writer.specs.Writing.{rollOver}
 use Rattle.joined_lists.proofs.JoinLaws.{accepted}
 use Rattle.rolls.proofs.Told.{refused-none, test-pass, test-refuses, test-passed, map-refused, map-answer}
 use Rattle.pauli_theory.specs.Group.{Promise}

@@ -1,8 +1,8 @@
 -- What the answers of the group calls tell: document 01's numbers and values for each of their cases.
 use Prim.Native.Nat.{ℕ}
 use mathlib.Core.Option.{Option, some, none as nothing}
-use Rattle.supports.specs.Refusals.{toldRefusal}
-use Rattle.supports.specs.Told.{Told, answer}
+use Rattle.refusals.specs.Refusals.{toldRefusal}
+use Rattle.refusals.specs.Told.{Told, answer}
 use Rattle.pauli_group.specs.declared.answers.Phases.{Phases}
 use Rattle.pauli_group.specs.declared.answers.Phases.the-variants.{Zero, ZeroTwo, All}
 use Rattle.pauli_group.specs.declared.answers.RankFound.{RankFound}

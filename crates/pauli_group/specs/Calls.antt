@@ -11,8 +11,8 @@ use Rattle.roll_paulis.specs.Sets.{sparseOf, members, pauliOf}
 use Rattle.roll_paulis.specs.Condense.{nothing}
 use Rattle.pauli.specs.Pauli.{Pauli}
 use Rattle.rolls.specs.Roll.{read, write}
-use Rattle.supports.specs.Told.{Told, answer, refused, refuseIf, andThen, mapTold}
-use Rattle.roll_paulis.specs.Writing.{putBytes}
+use Rattle.refusals.specs.Told.{Told, answer, refused, refuseIf, andThen, mapTold}
+use Rattle.roll_writer.specs.Writing.{putBytes}
 use Rattle.pauli_theory.specs.Group.{Promise}
 use Rattle.pauli_theory.specs.Standard.{ifZero, standard, rank, nonabelian, phaseStep, log2Size, stabilizer}
 use Rattle.pauli_theory.specs.Membership.{Factorization, factorizationOf}

@@ -1,5 +1,5 @@
 // What the calls on one list answer.
-use supports::refusal::Refusal;
+use refusals::refusal::Refusal;
 
 // The phases of a group.
 pub enum Phases {

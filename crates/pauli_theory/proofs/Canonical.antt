@@ -6,10 +6,10 @@ use native.Mathlib.Nat.{mod-eq-of-lt}
 use native.Mathlib.Decide.{decLt}
 use native.Mathlib.Omega.{arith}
 use lib.ListN.{length, take}
-use Rattle.binar.specs.Echelon.{echelon, R, rank as echelonRank}
-use Rattle.binar.specs.Space.{RowSpace, SameSpace}
-use Rattle.binar.proofs.Lists.{all-map, all-zip, all-over}
-use Rattle.binar.proofs.Span.{same-space}
+use Rattle.row_reduction.specs.Echelon.{echelon, R, rank as echelonRank}
+use Rattle.row_reduction.specs.Space.{RowSpace, SameSpace}
+use Rattle.row_reduction.proofs.Lists.{all-map, all-zip, all-over}
+use Rattle.row_reduction.proofs.Span.{same-space}
 use Rattle.binar.proofs.Theorems.{unique-law}
 use Rattle.supports.specs.Support.{All}
 use Rattle.pauli.specs.Pauli.{Pauli}

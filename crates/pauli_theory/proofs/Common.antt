@@ -7,9 +7,9 @@ use Prim.Native.Nat.{ℕ, zero, suc, _+_, _*_, _/_, _%_, _^_, _≤_, _<_, min, m
 use native.Mathlib.Omega.{arith}
 use native.Mathlib.Decide.{ℕ-discrete}
 use lib.ListN.{length, length-append, length-map}
-use Rattle.binar.specs.Space.{RowSpace}
-use Rattle.binar.proofs.Lists.{all-map, all-join, all-left, all-right, all-over, all-of, map-same}
-use Rattle.binar.proofs.Span.{below-subspace, space-rows, space-in}
+use Rattle.row_reduction.specs.Space.{RowSpace}
+use Rattle.row_reduction.proofs.Lists.{all-map, all-join, all-left, all-right, all-over, all-of, map-same}
+use Rattle.row_reduction.proofs.Span.{below-subspace, space-rows, space-in}
 use Rattle.rolls.specs.Roll.{mostPaulis}
 use Rattle.supports.specs.Support.{All}
 use Rattle.pauli.specs.Pauli.{Pauli, I}

@@ -5,7 +5,7 @@ use mathlib.Core.List.{List, _++_, map, map-append}
 use Prim.Native.Nat.{ℕ, _+_, _*_, _%_, _^_, _≤_}
 use native.Mathlib.Omega.{arith}
 use lib.ListN.{length, length-append}
-use Rattle.binar.specs.Echelon.{echelon, rank as echelonRank}
+use Rattle.row_reduction.specs.Echelon.{echelon, rank as echelonRank}
 use Rattle.pauli.specs.Pauli.{Pauli}
 use Rattle.roll_paulis.specs.Sets.{rowOf}
 use Rattle.pauli_theory.specs.Group.{Inside}

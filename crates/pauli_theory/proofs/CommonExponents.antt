@@ -7,10 +7,10 @@ use Prim.Native.Nat.{ℕ, zero, suc, _+_, _-_, _*_, _%_, _≤_, _<_, max}
 use native.Mathlib.Nat.{mod-eq-of-lt}
 use native.Mathlib.Omega.{arith}
 use lib.ListN.{length}
-use Rattle.binar.specs.Solve.{transposeSolve}
-use Rattle.binar.specs.Space.{RowSpace}
-use Rattle.binar.proofs.Lists.{all-zip, all-under}
-use Rattle.binar.proofs.Span.{space-rows}
+use Rattle.row_reduction.specs.Solve.{transposeSolve}
+use Rattle.row_reduction.specs.Space.{RowSpace}
+use Rattle.row_reduction.proofs.Lists.{all-zip, all-under}
+use Rattle.row_reduction.proofs.Span.{space-rows}
 use Rattle.supports.specs.Support.{All}
 use Rattle.pauli.specs.Pauli.{Pauli, indexedProduct}
 use Rattle.roll_paulis.specs.Sets.{rowOf}

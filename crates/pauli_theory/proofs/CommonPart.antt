@@ -6,8 +6,8 @@ use mathlib.Core.Option.{Option, some, none}
 use Prim.Native.Nat.{ℕ, _+_, _%_}
 use native.Mathlib.Nat.{mod-mod}
 use native.Mathlib.Omega.{arith}
-use Rattle.binar.specs.Space.{RowSpace}
-use Rattle.binar.proofs.Lists.{all-of, all-left, all-right}
+use Rattle.row_reduction.specs.Space.{RowSpace}
+use Rattle.row_reduction.proofs.Lists.{all-of, all-left, all-right}
 use Rattle.supports.specs.Support.{All}
 use Rattle.pauli.specs.Pauli.{Pauli, turned, indexedProduct}
 use Rattle.roll_paulis.specs.Sets.{rowOf}

@@ -9,12 +9,12 @@ use lib.Arith.{digits-lt}
 use lib.ListN.{length, length-append}
 use lib.Pow.{pow-pos, pow-add}
 use Rattle.bit_rows.specs.Row.{_⊕_, rowSum}
-use Rattle.binar.specs.Echelon.{echelon}
-use Rattle.binar.specs.Space.{RowSpace}
+use Rattle.row_reduction.specs.Echelon.{echelon}
+use Rattle.row_reduction.specs.Space.{RowSpace}
 use Rattle.bit_rows.proofs.Bits.{xor-self, xor-eq-zero, xor-mod, beside-mod, beside-shr}
-use Rattle.binar.proofs.Dimension.{independent-le}
-use Rattle.binar.proofs.Lists.{all-map, all-join, all-over, all-under}
-use Rattle.binar.proofs.Span.{Additive, sum-in, below-subspace, under-subspace, rowSum-xor, rowSum-mod, space-subspace, space-rows, space-in}
+use Rattle.row_reduction.proofs.Dimension.{independent-le}
+use Rattle.row_reduction.proofs.Lists.{all-map, all-join, all-over, all-under}
+use Rattle.row_reduction.proofs.Span.{Additive, sum-in, below-subspace, under-subspace, rowSum-xor, rowSum-mod, space-subspace, space-rows, space-in}
 use Rattle.supports.specs.Support.{All}
 use Rattle.pauli_theory.specs.Standard.{zeroRows}
 use Rattle.pauli_theory.specs.Common.{dependencies, commonSums, commonRows}

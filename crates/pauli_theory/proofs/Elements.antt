@@ -7,10 +7,10 @@ use native.Mathlib.Nat.{mod-lt}
 use lib.ListN.{length, getD, length-map}
 use lib.Pow.{pow-pos, pow-lt}
 use Rattle.bit_rows.specs.Row.{_⊕_, rowSum}
-use Rattle.binar.specs.Space.{Independent}
+use Rattle.row_reduction.specs.Space.{Independent}
 use Rattle.bit_rows.proofs.Bits.{xor-self, xor-cancel, xor-lt}
-use Rattle.binar.proofs.Lists.{all-of, all-by, map-same}
-use Rattle.binar.proofs.Span.{rowSum-xor, rowSum-mod}
+use Rattle.row_reduction.proofs.Lists.{all-of, all-by, map-same}
+use Rattle.row_reduction.proofs.Span.{rowSum-xor, rowSum-mod}
 use Rattle.supports.specs.Support.{All}
 use Rattle.pauli.specs.Pauli.{Pauli, I, indexedProduct}
 use Rattle.roll_paulis.specs.Sets.{rowOf}

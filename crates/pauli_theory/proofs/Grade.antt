@@ -7,7 +7,7 @@ use native.Mathlib.Nat.{zero-mod}
 use native.Mathlib.Omega.{arith}
 use lib.ListN.{length}
 use Rattle.bit_rows.specs.Row.{rowSum}
-use Rattle.binar.proofs.Lists.{all-of, all-map, all-zip, all-over, all-under}
+use Rattle.row_reduction.proofs.Lists.{all-of, all-map, all-zip, all-over, all-under}
 use Rattle.supports.specs.Support.{All}
 use Rattle.pauli.specs.Pauli.{Pauli, I, anticommute, orderFour, indexedProduct}
 use Rattle.roll_paulis.specs.Sets.{rowOf}

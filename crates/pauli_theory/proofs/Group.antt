@@ -3,7 +3,7 @@ use mathlib.Core.Path.{ap, _∙_}
 use mathlib.Core.List.{List, [], _∷_, _++_, map, map-append}
 use Prim.Native.Nat.{ℕ, _<_}
 use lib.ListN.{length, getD}
-use Rattle.binar.proofs.Lists.{all-join, all-left, all-right, all-get, all-by, all-over, all-map}
+use Rattle.row_reduction.proofs.Lists.{all-join, all-left, all-right, all-get, all-by, all-over, all-map}
 use Rattle.supports.specs.Support.{All}
 use Rattle.pauli.specs.Pauli.{Pauli, I, times, product, indexedProduct}
 use Rattle.pauli.proofs.Algebra.{times-I}

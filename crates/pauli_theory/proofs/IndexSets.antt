@@ -11,7 +11,7 @@ use Rattle.supports.proofs.Lists.{all-in, in-getD}
 use Rattle.pauli.specs.Pauli.{select}
 use Rattle.roll_paulis.specs.PauliTheorems.{On}
 use Rattle.roll_paulis.specs.Sets.{members}
-use Rattle.roll_paulis.proofs.Condensed.{select-members}
+use Rattle.roll_writer.proofs.Condensed.{select-members}
 use Rattle.roll_paulis.proofs.Sets.{members-only}
 use Rattle.pauli_theory.proofs.OverPlaces.{upTo, upTo-length, upTo-rises, upTo-at, condense-upTo}
 

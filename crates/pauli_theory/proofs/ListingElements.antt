@@ -12,7 +12,7 @@ use lib.Pow.{pow-add}
 use lib.Seq.{getD-append-add, take-at}
 use Rattle.bit_rows.specs.Row.{weight}
 use Rattle.bit_rows.proofs.Bits.{ones-zero}
-use Rattle.binar.proofs.Lists.{all-map, all-by}
+use Rattle.row_reduction.proofs.Lists.{all-map, all-by}
 use Rattle.supports.specs.Support.{All}
 use Rattle.pauli.specs.Pauli.{Pauli, I, turned, pauliWeight, product, consIf, select, indexedProduct}
 use Rattle.roll_paulis.specs.PauliTheorems.{PauliOn}

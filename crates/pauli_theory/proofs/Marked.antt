@@ -2,8 +2,8 @@
 use mathlib.Core.Path.{refl}
 use lib.Count.{ones}
 use Rattle.bit_rows.specs.Row.{_⊕_, bit, dot, ifBit, rowSum}
-use Rattle.binar.specs.Echelon.{inColumn, byColumns, pivotOf, swapRows, clear, unless, addToOthers, placePivot, withPivot, onFound, echelonizeFrom, echelonize, besideIdentity, echelon, rank as echelonRank}
-use Rattle.binar.specs.Solve.{sweep, solved, transposeSolve}
+use Rattle.row_reduction.specs.Echelon.{inColumn, byColumns, pivotOf, swapRows, clear, unless, addToOthers, placePivot, withPivot, onFound, echelonizeFrom, echelonize, besideIdentity, echelon, rank as echelonRank}
+use Rattle.row_reduction.specs.Solve.{sweep, solved, transposeSolve}
 use Rattle.pauli.specs.Pauli.{I, times, anticommute, orderFour, productFrom, product, consIf, select, indexedProduct}
 use Rattle.roll_paulis.specs.Sets.{setOf, membersFrom, members, condense, expand, rowOf, pauliOfRow}
 use Rattle.pauli_theory.specs.Standard.{usedBy, supportOf, formOf, rank, phaseOf, ifZero, zeroRows, nonzeroRows, modulusOf, modulus, rowGenerators, someOrderFour, anticommutesWithSome, someAnticommute, phase, appended, exponentMod, standard, nonabelian, bare, someImaginary, someMinus, phaseStep, log2Size}

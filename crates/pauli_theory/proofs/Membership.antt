@@ -9,8 +9,8 @@ use native.Mathlib.Omega.{arith}
 use lib.Bits.{bitOr}
 use lib.ListN.{length, length-map}
 use Rattle.bit_rows.specs.Row.{_⊕_, bit, rowSum}
-use Rattle.binar.specs.Solve.{transposeSolve}
-use Rattle.binar.specs.Space.{RowSpace}
+use Rattle.row_reduction.specs.Solve.{transposeSolve}
+use Rattle.row_reduction.specs.Space.{RowSpace}
 use Rattle.bit_rows.proofs.Bits.{bit-lt, xor-self, xor-eq-zero}
 use Rattle.binar.proofs.Theorems.{solve-law}
 use Rattle.pauli.specs.Pauli.{Pauli, Same, turned, indexedProduct}

@@ -9,13 +9,13 @@ use lib.Dec.{ltb}
 use lib.ListN.{length, getD, take, drop, length-map, take-append-drop}
 use borrow.Author.Tests.{ltb-true, ltb-false}
 use Rattle.bit_rows.specs.Row.{bit, ifBit}
-use Rattle.binar.specs.Echelon.{clear, R, rank as echelonRank}
-use Rattle.binar.specs.Solve.{sweep}
-use Rattle.binar.proofs.Lists.{all-of, all-map, all-zip, all-join, all-over, all-under}
-use Rattle.binar.proofs.Span.{ifBit-case, ifBit-map}
-use Rattle.binar.proofs.Reduced.{pivots-in}
-use Rattle.binar.proofs.Solve.{sweep-clears}
-use Rattle.binar.proofs.Space.{R-reduced}
+use Rattle.row_reduction.specs.Echelon.{clear, R, rank as echelonRank}
+use Rattle.row_reduction.specs.Solve.{sweep}
+use Rattle.row_reduction.proofs.Lists.{all-of, all-map, all-zip, all-join, all-over, all-under}
+use Rattle.row_reduction.proofs.Span.{ifBit-case, ifBit-map}
+use Rattle.row_reduction.proofs.Reduced.{pivots-in}
+use Rattle.row_reduction.proofs.Solve.{sweep-clears}
+use Rattle.row_reduction.proofs.Space.{R-reduced}
 use Rattle.supports.specs.Support.{All}
 use Rattle.pauli.specs.Pauli.{Pauli, I, times}
 use Rattle.roll_paulis.specs.Sets.{rowOf}

@@ -9,16 +9,16 @@ use native.Mathlib.Decide.{decLt}
 use lib.Bits.{bitOr}
 use lib.ListN.{length, getD, take, drop, take-append-drop}
 use Rattle.bit_rows.specs.Row.{bit}
-use Rattle.binar.specs.Echelon.{echelon, rank as echelonRank}
-use Rattle.binar.specs.Solve.{transposeSolve}
+use Rattle.row_reduction.specs.Echelon.{echelon, rank as echelonRank}
+use Rattle.row_reduction.specs.Solve.{transposeSolve}
 use Rattle.bit_rows.proofs.Bits.{bit-past}
-use Rattle.binar.proofs.Lists.{all-of, all-map, all-over, all-left, map-drop, map-same}
+use Rattle.row_reduction.proofs.Lists.{all-of, all-map, all-over, all-left, map-drop, map-same}
 use Rattle.supports.specs.Support.{All, Rising}
 use Rattle.pauli.specs.Pauli.{Pauli, normal, indexedProduct}
 use Rattle.roll_paulis.specs.Sets.{members, condense, rowOf}
 use Rattle.roll_paulis.specs.PauliTheorems.{PauliOn}
 use Rattle.roll_paulis.specs.Condense.{condensed}
-use Rattle.roll_paulis.specs.Writing.{OnPlaces}
+use Rattle.roll_writer.specs.Writing.{OnPlaces}
 use Rattle.supports.proofs.Lists.{in-getD}
 use Rattle.roll_paulis.proofs.MoreBits.{ext-below}
 use Rattle.supports.proofs.SupportLaws.{rising-ext}

@@ -8,10 +8,10 @@ use lib.Bits.{bitOr}
 use lib.ListN.{length, getD, length-map, List·getD-map}
 use lib.Pow.{pow-pos, pow-lt}
 use Rattle.bit_rows.specs.Row.{bit}
-use Rattle.binar.specs.Space.{Independent}
+use Rattle.row_reduction.specs.Space.{Independent}
 use Rattle.bit_rows.proofs.Bits.{no-bits, bit-of-zero, dot-zero-l}
-use Rattle.binar.proofs.Lists.{all-map, all-by}
-use Rattle.binar.proofs.Span.{rowSum-unit}
+use Rattle.row_reduction.proofs.Lists.{all-map, all-by}
+use Rattle.row_reduction.proofs.Span.{rowSum-unit}
 use Rattle.supports.specs.Support.{All}
 use Rattle.pauli.specs.Pauli.{Pauli, I, turned, orderFour}
 use Rattle.roll_paulis.specs.Sets.{rowOf}

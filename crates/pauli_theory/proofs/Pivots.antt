@@ -7,10 +7,10 @@ use native.Mathlib.Omega.{arith}
 use lib.ListN.{length, getD, length-map}
 use lib.Pow.{pow-lt}
 use Rattle.bit_rows.specs.Row.{dot, rowSum}
-use Rattle.binar.specs.Space.{RowSpace, Independent}
+use Rattle.row_reduction.specs.Space.{RowSpace, Independent}
 use Rattle.bit_rows.proofs.Bits.{dot-zero-l}
-use Rattle.binar.proofs.Lists.{all-map, all-zip, all-join, all-left, all-right, all-get, all-by, all-under, map-same}
-use Rattle.binar.proofs.Span.{Subspace}
+use Rattle.row_reduction.proofs.Lists.{all-map, all-zip, all-join, all-left, all-right, all-get, all-by, all-under, map-same}
+use Rattle.row_reduction.proofs.Span.{Subspace}
 use Rattle.supports.specs.Support.{All}
 use Rattle.pauli.specs.Pauli.{Pauli, I, anticommute, orderFour, indexedProduct}
 use Rattle.roll_paulis.specs.Sets.{rowOf, pauliOfRow}

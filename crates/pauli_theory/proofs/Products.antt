@@ -6,8 +6,8 @@ use native.Mathlib.Omega.{arith}
 use lib.ListN.{getD}
 use Rattle.bit_rows.specs.Row.{_⊕_, ifBit}
 use Rattle.bit_rows.proofs.Bits.{xor-low, xor-half}
-use Rattle.binar.proofs.Lists.{all-map, all-get, all-by}
-use Rattle.binar.proofs.Span.{ifBit-case, Subspace}
+use Rattle.row_reduction.proofs.Lists.{all-map, all-get, all-by}
+use Rattle.row_reduction.proofs.Span.{ifBit-case, Subspace}
 use Rattle.supports.specs.Support.{All}
 use Rattle.pauli.specs.Pauli.{Pauli, I, normal, times, turned, anticommute, orderFour, product, productFrom, consIf, select, indexedProduct}
 use Rattle.pauli.proofs.Algebra.{times-assoc, I-times, times-I, times-swap, times-self, turned-times-l, turned-times-r, anticommute-comm, anticommute-times-r, anticommute-I}

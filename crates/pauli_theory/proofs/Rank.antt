@@ -5,9 +5,9 @@ use Prim.Native.Nat.{ℕ, _*_, _≤_}
 use native.Mathlib.Omega.{arith}
 use lib.ListN.{length, length-map}
 use Rattle.bit_rows.specs.Row.{rowSum}
-use Rattle.binar.specs.Space.{RowSpace, Independent}
-use Rattle.binar.proofs.Dimension.{independent-le}
-use Rattle.binar.proofs.Lists.{all-map, all-over}
+use Rattle.row_reduction.specs.Space.{RowSpace, Independent}
+use Rattle.row_reduction.proofs.Dimension.{independent-le}
+use Rattle.row_reduction.proofs.Lists.{all-map, all-over}
 use Rattle.binar.proofs.Theorems.{space-law}
 use Rattle.supports.specs.Support.{All}
 use Rattle.pauli.specs.Pauli.{Pauli, indexedProduct}

@@ -7,10 +7,10 @@ use native.Mathlib.Omega.{arith}
 use lib.Bits.{bitOr}
 use lib.ListN.{length}
 use Rattle.bit_rows.specs.Row.{bit, rowSum}
-use Rattle.binar.specs.Space.{RowSpace}
+use Rattle.row_reduction.specs.Space.{RowSpace}
 use Rattle.bit_rows.proofs.Bits.{xor-self, bit-lt, bit-of-zero}
-use Rattle.binar.proofs.Lists.{all-of, all-map, all-over, all-under}
-use Rattle.binar.proofs.Span.{space-subspace, space-rows, space-in}
+use Rattle.row_reduction.proofs.Lists.{all-of, all-map, all-over, all-under}
+use Rattle.row_reduction.proofs.Span.{space-subspace, space-rows, space-in}
 use Rattle.supports.specs.Support.{All, Rising}
 use Rattle.pauli.specs.Pauli.{Pauli, I, normal, indexedProduct}
 use Rattle.roll_paulis.specs.Sets.{members, rowOf, pauliOfRow}

@@ -8,13 +8,13 @@ use native.Mathlib.Omega.{arith}
 use lib.ListN.{length}
 use lib.Pow.{pow-pos, shr-shr, shr-lt}
 use Rattle.bit_rows.specs.Row.{_⊕_, ifBit, columns, rowSum}
-use Rattle.binar.specs.Echelon.{echelon}
-use Rattle.binar.specs.Solve.{transposeSolve}
-use Rattle.binar.specs.Space.{RowSpace, Independent}
+use Rattle.row_reduction.specs.Echelon.{echelon}
+use Rattle.row_reduction.specs.Solve.{transposeSolve}
+use Rattle.row_reduction.specs.Space.{RowSpace, Independent}
 use Rattle.bit_rows.proofs.Bits.{xor-self, xor-zero-l, xor-zero-r, xor-assoc, xor-eq-zero, xor-lt, xor-beside, beside-parts}
-use Rattle.binar.proofs.Dimension.{independent-le}
-use Rattle.binar.proofs.Lists.{all-map, map-same}
-use Rattle.binar.proofs.Span.{ifBit-case, Subspace, sum-in, rowSum-xor, rowSum-mod, rowSum-zero}
+use Rattle.row_reduction.proofs.Dimension.{independent-le}
+use Rattle.row_reduction.proofs.Lists.{all-map, map-same}
+use Rattle.row_reduction.proofs.Span.{ifBit-case, Subspace, sum-in, rowSum-xor, rowSum-mod, rowSum-zero}
 use Rattle.binar.proofs.Theorems.{solve-law}
 use Rattle.supports.specs.Support.{All}
 

@@ -5,9 +5,9 @@ use Prim.Native.Nat.{ℕ, zero, suc, _+_, _*_, _%_, _≤_, _<_, max}
 use native.Mathlib.Nat.{mod-lt}
 use native.Mathlib.Omega.{arith}
 use lib.ListN.{length, length-append, length-map}
-use Rattle.binar.specs.Echelon.{Row}
-use Rattle.binar.proofs.Lists.{all-of, all-map, all-join, all-over}
-use Rattle.binar.proofs.Transform.{rows-count}
+use Rattle.row_reduction.specs.Echelon.{Row}
+use Rattle.row_reduction.proofs.Lists.{all-of, all-map, all-join, all-over}
+use Rattle.row_reduction.proofs.Transform.{rows-count}
 use Rattle.supports.specs.Support.{All}
 use Rattle.pauli.specs.Pauli.{Pauli}
 use Rattle.roll_paulis.specs.Sets.{rowOf}

@@ -4,7 +4,7 @@ use mathlib.Core.List.{List, [], _∷_, _++_, map}
 use Prim.Native.Nat.{ℕ, zero, suc, _/_, _%_, _<_, max}
 use native.Mathlib.Omega.{arith}
 use Rattle.bit_rows.proofs.Bits.{dot-comm}
-use Rattle.binar.proofs.Lists.{all-map, all-zip}
+use Rattle.row_reduction.proofs.Lists.{all-map, all-zip}
 use Rattle.supports.specs.Support.{All}
 use Rattle.pauli.specs.Pauli.{Pauli, anticommute, orderFour}
 use Rattle.pauli.proofs.Algebra.{anticommute-lt, anticommute-comm}

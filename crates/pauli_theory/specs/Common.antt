@@ -4,7 +4,7 @@ use mathlib.Core.Option.{Option, some, none}
 use Prim.Native.Nat.{ℕ, zero, suc, _*_, _%_, _^_, max}
 use lib.ListN.{length}
 use Rattle.bit_rows.specs.Row.{rowSum}
-use Rattle.binar.specs.Echelon.{echelon}
+use Rattle.row_reduction.specs.Echelon.{echelon}
 use Rattle.pauli.specs.Pauli.{Pauli}
 use Rattle.roll_paulis.specs.Sets.{rowOf, pauliOfRow}
 use Rattle.pauli_theory.specs.Group.{Promise}

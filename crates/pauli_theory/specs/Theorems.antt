@@ -4,7 +4,7 @@ use mathlib.Core.List.{List, _++_, map}
 use mathlib.Core.Option.{some, none}
 use Prim.Native.Nat.{ℕ, _+_, _-_, _*_, _%_, _^_, _≤_, _<_, min, max}
 use lib.ListN.{length, getD}
-use Rattle.binar.specs.Space.{RowSpace, Independent, Dimension}
+use Rattle.row_reduction.specs.Space.{RowSpace, Independent, Dimension}
 use Rattle.rolls.specs.Roll.{mostPaulis}
 use Rattle.supports.specs.Support.{All}
 use Rattle.pauli.specs.Pauli.{Pauli, I, Same, times, turned, anticommute, indexedProduct}

@@ -6,7 +6,7 @@ use native.Mathlib.Omega.{arith}
 use native.Mathlib.Decide.{decLt}
 use borrow.Author.Tests.{lt-ltb, le-ltb}
 use lib.ListN.{length, getD, length-append, List·getD-append}
-use Rattle.binar.proofs.Lists.{all-join}
+use Rattle.row_reduction.proofs.Lists.{all-join}
 use Rattle.supports.specs.Support.{All}
 use Rattle.report_lines.specs.Decimal.{digitsUpTo, digits, valueFrom, DecimalLaw}
 

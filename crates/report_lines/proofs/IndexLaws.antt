@@ -6,12 +6,12 @@ use native.Mathlib.Omega.{arith}
 use lib.Arith.{digits-lt}
 use lib.ListN.{length, length-append}
 use Rattle.bit_rows.specs.Row.{bit}
-use Rattle.pauli.specs.declared.signed.Places.{Places}
+use Rattle.places.specs.declared.places.Places.{Places}
 use Rattle.roll_paulis.specs.Sets.{members}
-use Rattle.pauli.specs.Signed.{setIn}
-use Rattle.pauli.proofs.Halves.{Words}
-use Rattle.pauli.proofs.Firsts.{First}
-use Rattle.roll_paulis.proofs.Puts.{chosenFrom, chosen-start, chosen-end, chosen-hit, chosen-skip, Left, left-done, left-same, left-room, left-step}
+use Rattle.places.specs.PlaceSet.{setIn}
+use Rattle.places.proofs.Halves.{Words}
+use Rattle.places.proofs.Firsts.{First}
+use Rattle.roll_writer.proofs.Puts.{chosenFrom, chosen-start, chosen-end, chosen-hit, chosen-skip, Left, left-done, left-same, left-room, left-step}
 use Rattle.pauli_theory.proofs.OverPlaces.{upTo, upTo-length, upTo-at}
 use Rattle.pauli_theory.proofs.IndexSets.{members-upTo}
 use Rattle.report_lines.specs.Decimal.{ascii, digits}

@@ -10,9 +10,9 @@ use borrow.Author.Tests.{lt-ltb, le-ltb}
 use lib.Dec.{ltb}
 use lib.ListN.{length, getD, set, take, length-append, length-set}
 use lib.Seq.{length-take-le, take-suc, take-all, set-comm}
-use Rattle.supports.specs.Told.{answer, refused, refuseIf}
-use Rattle.roll_paulis.specs.Writing.{putBytes, toldBytes, leftIn}
-use Rattle.roll_paulis.proofs.Puts.{put-nothing, put-byte, length-put, put-append}
+use Rattle.refusals.specs.Told.{answer, refused, refuseIf}
+use Rattle.roll_writer.specs.Writing.{putBytes, toldBytes, leftIn}
+use Rattle.roll_writer.proofs.Puts.{put-nothing, put-byte, length-put, put-append}
 use Rattle.report_lines.specs.Decimal.{digits}
 use Rattle.report_lines.specs.Put.{Put}
 use Rattle.report_lines.proofs.DecimalLaws.{lastDigits, length-last, digits-last}

@@ -3,18 +3,18 @@ ghost use mathlib.Core.Path.{_≡_};
 ghost use mathlib.Core.Option.{some, none};
 ghost use Prim.Native.Nat.{_+_, _≤_};
 ghost use lib.ListN.{length};
-ghost use Rattle.supports.specs.Refusals.{numberOf};
+ghost use Rattle.refusals.specs.Refusals.{numberOf};
 ghost use Rattle.roll_paulis.specs.Sets.{members};
-ghost use Rattle.pauli.specs.Signed.{setIn};
+ghost use Rattle.places.specs.PlaceSet.{setIn};
 ghost use Rattle.report_lines.specs.Lines.{phasesText, abelianText, firstLine, indexesText, memberLine, refusedLine};
 ghost use Rattle.report_lines.specs.Put.{Put};
 use crate::text::number_length;
 use crate::text::put_labelled;
 use crate::text::put_number;
 use crate::text::put_text;
-use pauli::signed::Places;
-use supports::refusal::Refusal;
-use supports::refusal::number_of;
+use places::places::Places;
+use refusals::refusal::Refusal;
+use refusals::refusal::number_of;
 
 // ---- the first line
 

@@ -6,8 +6,8 @@ use native.Mathlib.Omega.{arith}
 use lib.ListN.{length, getD}
 use Rattle.rolls.specs.declared.roll.Entry.{Entry as CodeEntry}
 use Rattle.rolls.specs.Answers.{toldEntry}
-use Rattle.supports.specs.Told.{answer}
-use Rattle.supports.specs.Bytes.{u16At, numbersAt}
+use Rattle.refusals.specs.Told.{answer}
+use Rattle.refusals.specs.Bytes.{u16At, numbersAt}
 use Rattle.rolls.specs.Roll.{Sparse, Entry, entryAt, entriesAt, read}
 use Rattle.roll_paulis.specs.Condense.{listOf, nothing}
 use Rattle.rolls.proofs.Entries.{length-entries, getD-entries}

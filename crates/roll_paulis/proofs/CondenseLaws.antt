@@ -10,14 +10,14 @@ use lib.Pow.{pow-add, pow-lt}
 use Rattle.bit_rows.specs.Row.{bit}
 use Rattle.bit_rows.proofs.Bits.{bit-of-zero, ext}
 use Rattle.bit_rows.proofs.Scan.{one-shifted}
-use Rattle.pauli.specs.declared.signed.Places.{Places}
-use Rattle.supports.specs.Bytes.{u32At, numbersAt}
+use Rattle.places.specs.declared.places.Places.{Places}
+use Rattle.refusals.specs.Bytes.{u32At, numbersAt}
 use Rattle.supports.specs.Support.{All, Rising}
 use Rattle.supports.specs.Known.{lower}
 use Rattle.roll_paulis.specs.Sets.{setOf, condense}
-use Rattle.pauli.specs.Signed.{setIn}
+use Rattle.places.specs.PlaceSet.{setIn}
 use Rattle.roll_paulis.specs.Condense.{Covered}
-use Rattle.pauli.proofs.Halves.{Words}
+use Rattle.places.proofs.Halves.{Words}
 use Rattle.roll_paulis.proofs.MoreBits.{bit-or, bit-unit, bit-unit-other}
 use Rattle.roll_paulis.proofs.Places.{condense-or}
 use Rattle.supports.proofs.SupportLaws.{rising-least, insert-known}

@@ -4,8 +4,5 @@ pub mod Sets
 pub mod Places
 pub mod Rows
 pub mod PauliTheorems
-pub mod Condensed
-pub mod Puts
-pub mod Writers
 pub mod CondenseLaws
 pub mod BodyLaws

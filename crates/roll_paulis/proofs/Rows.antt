@@ -11,7 +11,7 @@ use lib.ListN.{length, getD}
 use lib.Pow.{pow-pos, pow-add, shr-lt}
 use Rattle.bit_rows.specs.Row.{_⊕_, bit, weight}
 use Rattle.bit_rows.proofs.Bits.{bit-of-zero, bit-beside, bit-beside-past, beside-mod, beside-shr, beside-parts, xor-beside}
-use Rattle.binar.proofs.Lists.{all-map, all-by}
+use Rattle.row_reduction.proofs.Lists.{all-map, all-by}
 use Rattle.supports.specs.Support.{All, Rising}
 use Rattle.pauli.specs.Pauli.{Pauli, I, times, pauliWeight}
 use Rattle.roll_paulis.specs.Sets.{condense, expand, rowOf, pauliOfRow}

@@ -3,8 +3,8 @@ use mathlib.Core.Path.{_≡_}
 use mathlib.Core.List.{List, [], _∷_, List·Memᴰ as Mem}
 use Prim.Native.Nat.{ℕ, _+_, _*_, _<_}
 use lib.ListN.{length, getD}
-use Rattle.supports.specs.Told.{answer}
-use Rattle.supports.specs.Bytes.{u16At}
+use Rattle.refusals.specs.Told.{answer}
+use Rattle.refusals.specs.Bytes.{u16At}
 use Rattle.rolls.specs.Roll.{Sparse, entriesAt, paulisAt, read}
 use Rattle.supports.specs.Support.{All, Rising}
 use Rattle.pauli.specs.Pauli.{Pauli}

@@ -1,5 +1,3 @@
 pub mod Sets
-pub mod Writing
-pub mod Answers
 pub mod Condense
 pub mod PauliTheorems

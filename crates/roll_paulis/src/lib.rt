@@ -1,6 +1,4 @@
-// Paulis of a roll over the places of a support, and rolls written from them.
+// Paulis of a roll over the places of a support.
 
-// Written rolls.
-pub mod write;
 // Paulis of a roll over the places of a support.
 pub mod condense;

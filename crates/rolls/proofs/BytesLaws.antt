@@ -6,7 +6,7 @@ use Prim.Native.Nat.{ℕ, zero, suc, _+_, _*_, _/_, _%_, _^_, _≤_, _<_}
 use native.Mathlib.Nat.{add-zero, add-assoc, div-div-eq-div-mul}
 use native.Mathlib.Omega.{arith}
 use lib.ListN.{length, getD, drop}
-use Rattle.supports.specs.Bytes.{u16At, u32At, le16, le32, numbersAt, le32s}
+use Rattle.refusals.specs.Bytes.{u16At, u32At, le16, le32, numbersAt, le32s}
 use Rattle.supports.specs.Support.{All}
 use Rattle.rolls.proofs.Items.{itemsAt, itemsBytes, length-itemsAt, getD-itemsAt, length-itemsBytes, all-bytes-items, items-read, items-written}
 use Rattle.supports.proofs.Lists.{AllBytes, byte-at, drop-past, getD-front, drop-one}

@@ -6,7 +6,7 @@ use Prim.Native.Nat.{ℕ, suc, _+_}
 use native.Mathlib.Nat.{add-zero}
 use native.Mathlib.Omega.{arith}
 use borrow.Author.Tests.{ltb-false, eqb-true, eqb-false, not-false, le-ltb, eq-eqb, ne-eqb}
-use Rattle.supports.specs.Told.{answer, andThen}
+use Rattle.refusals.specs.Told.{answer, andThen}
 use Rattle.rolls.specs.Roll.{Sparse, Entry, checkEntries, checkSet, checkSets}
 use Rattle.rolls.specs.RollTheorems.{AllowedSet}
 use Rattle.supports.specs.Support.{All}

@@ -5,7 +5,7 @@ use Prim.Native.Nat.{ℕ, zero, suc, _+_, _*_, _^_, _≤_, _<_}
 use native.Mathlib.Nat.{add-assoc}
 use native.Mathlib.Omega.{arith}
 use lib.ListN.{length, getD, drop, length-append}
-use Rattle.supports.specs.Bytes.{le16, le32}
+use Rattle.refusals.specs.Bytes.{le16, le32}
 use Rattle.rolls.specs.Roll.{Entry, entryAt, entriesAt}
 use Rattle.supports.specs.Support.{All}
 use Rattle.supports.proofs.Lists.{AllBytes, all-bytes-append, drop-past, getD-front, drop-one}

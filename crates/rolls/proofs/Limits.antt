@@ -3,7 +3,7 @@ use mathlib.Core.List.{List, [], _∷_, _++_, List·Memᴰ as Mem, Memᴰ·appen
 use Prim.Native.Nat.{ℕ, _+_, _*_, _^_, _≤_, _<_}
 use native.Mathlib.Omega.{arith}
 use lib.ListN.{length, length-append}
-use Rattle.binar.proofs.Lists.{all-map, all-join}
+use Rattle.row_reduction.proofs.Lists.{all-map, all-join}
 use Rattle.rolls.specs.Roll.{mostPaulis, highestQubit, Sparse, numbers, support}
 use Rattle.supports.specs.Support.{mostQubits, All}
 use Rattle.rolls.specs.RollTheorems.{Allowed, Within}

@@ -5,8 +5,8 @@ use Prim.Native.Nat.{ℕ, zero, suc, _+_, _*_, _≤_, _<_}
 use native.Mathlib.Nat.{add-zero}
 use native.Mathlib.Omega.{arith}
 use lib.ListN.{length, getD, drop, length-append}
-use Rattle.binar.proofs.Lists.{all-map}
-use Rattle.supports.specs.Bytes.{numbersAt, le32s}
+use Rattle.row_reduction.proofs.Lists.{all-map}
+use Rattle.refusals.specs.Bytes.{numbersAt, le32s}
 use Rattle.rolls.specs.Roll.{highestQubit, Sparse, Entry, paulisAt, entry, table, numbers, bodies}
 use Rattle.rolls.specs.RollTheorems.{Allowed}
 use Rattle.supports.specs.Support.{All}

@@ -10,8 +10,8 @@ use borrow.Author.Tests.{lt-ltb, le-ltb, eq-eqb, ne-eqb}
 use lib.Dec.{eqb, ltb}
 use lib.ListN.{length, getD, take}
 use Rattle.rolls.specs.declared.roll.Entry.{Entry as CodeEntry}
-use Rattle.supports.specs.Told.{Told, answer, refused, refuseIf, andThen, mapTold}
-use Rattle.supports.specs.Bytes.{u16At, u32At, numbersAt}
+use Rattle.refusals.specs.Told.{Told, answer, refused, refuseIf, andThen, mapTold}
+use Rattle.refusals.specs.Bytes.{u16At, u32At, numbersAt}
 use Rattle.rolls.specs.Roll.{mostPaulis, highestQubit, Sparse, Entry, entryAt, entriesAt, paulisAt, checkEntries, checkSet, checkSets, numbers, support, read, countOf}
 use Rattle.supports.specs.Support.{mostQubits, insertAll}
 use Rattle.rolls.specs.Answers.{toldEntry}

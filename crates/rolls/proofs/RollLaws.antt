@@ -8,9 +8,9 @@ use native.Mathlib.Omega.{arith}
 use lib.ListN.{length, getD, drop, length-append, length-map}
 use lib.Seq.{drop-length}
 use borrow.Author.Tests.{ltb-false, eqb-true, not-false, le-ltb, eq-eqb}
-use Rattle.binar.proofs.Lists.{all-map, all-zip, all-over}
-use Rattle.supports.specs.Told.{answer, andThen}
-use Rattle.supports.specs.Bytes.{u16At, le16}
+use Rattle.row_reduction.proofs.Lists.{all-map, all-zip, all-over}
+use Rattle.refusals.specs.Told.{answer, andThen}
+use Rattle.refusals.specs.Bytes.{u16At, le16}
 use Rattle.rolls.specs.Roll.{mostPaulis, Sparse, Entry, entryAt, entriesAt, paulisAt, numbers, support, read, table, bodies, encode, byValue, write}
 use Rattle.supports.specs.Support.{mostQubits, All}
 use Rattle.rolls.specs.RollTheorems.{Allowed, Within, ReadLaw}

@@ -4,7 +4,7 @@ use mathlib.Core.Path.{_≡_, refl, sym}
 use mathlib.Core.Bool.{Bool, true, false}
 use Prim.Native.Nat.{ℕ}
 use native.Mathlib.Omega.{arith}
-use Rattle.supports.specs.Told.{Told, answer, refused, refuseIf, andThen, mapTold}
+use Rattle.refusals.specs.Told.{Told, answer, refused, refuseIf, andThen, mapTold}
 
 pub refused-none : {A : Type 0} (n p : ℕ) (a : A) → refused n p ≡ answer a → ⊥
 refused-none n p a e = let z : _≡_ {A = ℕ} 0 1 = cc in omega arith

@@ -7,9 +7,9 @@ use Rattle.rolls.specs.declared.roll.SetsChecked.{SetsChecked}
 use Rattle.rolls.specs.declared.roll.SetsChecked.the-variants.{Passed, Refused as SetsRefused}
 use Rattle.rolls.specs.declared.roll.Checked.{Checked}
 use Rattle.rolls.specs.declared.roll.Checked.the-variants.{Count, Refused}
-use Rattle.supports.specs.Told.{Told, answer}
+use Rattle.refusals.specs.Told.{Told, answer}
 use Rattle.rolls.specs.Roll.{Entry as RollEntry}
-use Rattle.supports.specs.Refusals.{toldRefusal}
+use Rattle.refusals.specs.Refusals.{toldRefusal}
 
 -- the entry that the code holds
 abbrev pub toldEntry : CodeEntry → RollEntry

@@ -4,8 +4,8 @@ use mathlib.Core.List.{List, [], _∷_, _++_, map}
 use Prim.Native.Nat.{ℕ, zero, suc, _+_, _*_, _%_}
 use lib.Dec.{eqb, ltb}
 use lib.ListN.{length, getD}
-use Rattle.supports.specs.Told.{Told, answer, refuseIf, andThen, mapTold}
-use Rattle.supports.specs.Bytes.{u16At, u32At, le16, le32, numbersAt, le32s}
+use Rattle.refusals.specs.Told.{Told, answer, refuseIf, andThen, mapTold}
+use Rattle.refusals.specs.Bytes.{u16At, u32At, le16, le32, numbersAt, le32s}
 use Rattle.supports.specs.Support.{mostQubits, insertAll}
 
 -- "At most 128 Paulis, 128 distinct qubits, qubit number 65,535"; mostQubits is in Support

@@ -3,7 +3,7 @@ use mathlib.Core.Path.{_≡_}
 use mathlib.Core.List.{List, map}
 use Prim.Native.Nat.{ℕ, _≤_, _<_}
 use lib.ListN.{length}
-use Rattle.supports.specs.Told.{answer}
+use Rattle.refusals.specs.Told.{answer}
 use Rattle.rolls.specs.Roll.{mostPaulis, highestQubit, Sparse, support, read, encode, write, byValue}
 use Rattle.supports.specs.Support.{mostQubits, All, Rising}
 

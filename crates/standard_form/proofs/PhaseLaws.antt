@@ -7,10 +7,11 @@ use lib.ListN.{length, getD, set, length-append}
 use lib.Seq.{sets, getD-set-same}
 use Rattle.pauli.specs.declared.signed.Pauli.{Pauli as Held}
 use Rattle.pauli.specs.Pauli.{Pauli, normal}
-use Rattle.pauli.specs.Signed.{setIn, held, pauliIn, pauliWords, listIn}
+use Rattle.pauli.specs.Signed.{held, pauliIn, pauliWords, listIn}
+use Rattle.places.specs.PlaceSet.{setIn}
 use Rattle.pauli.proofs.Algebra.{pauli-path}
 use Rattle.pauli.proofs.SignedLaws.{zero-bit}
-use Rattle.roll_paulis.proofs.Writers.{listFrom, list-start, list-next, list-end, length-list}
+use Rattle.roll_writer.proofs.Writers.{listFrom, list-start, list-next, list-end, length-list}
 use Rattle.pauli_theory.specs.Standard.{ifZero, modulusOf, exponentMod, phase, appended}
 use Rattle.pauli_theory.proofs.IfZero.{ifZero-zero, ifZero-more}
 use Rattle.work_area.specs.Area.{Outside}

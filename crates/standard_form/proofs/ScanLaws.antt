@@ -13,7 +13,7 @@ use Rattle.pauli.specs.Pauli.{Pauli, normal, anticommute, orderFour, pauliWeigh
 use Rattle.pauli.specs.Signed.{held, pauliIn, listIn}
 use Rattle.pauli.proofs.Algebra.{anticommute-lt}
 use Rattle.pauli.proofs.SignedLaws.{zero-bit}
-use Rattle.roll_paulis.proofs.Writers.{listFrom, list-start, list-next, list-end}
+use Rattle.roll_writer.proofs.Writers.{listFrom, list-start, list-next, list-end}
 use Rattle.pauli_theory.specs.Standard.{ifZero, someOrderFour, anticommutesWithSome, someAnticommute, bare, someImaginary, someMinus}
 use Rattle.pauli_theory.proofs.IfZero.{ifZero-zero, ifZero-more}
 use Rattle.pauli_theory.proofs.Tests.{imaginary, minus}

@@ -8,7 +8,7 @@ use lib.Seq.{take-at, drop-at}
 use Rattle.pauli.specs.Pauli.{Pauli}
 use Rattle.pauli.specs.Signed.{listIn}
 use Rattle.pauli.proofs.SignedLaws.{zero-bit}
-use Rattle.roll_paulis.proofs.Writers.{length-list}
+use Rattle.roll_writer.proofs.Writers.{length-list}
 use Rattle.pauli_theory.specs.Standard.{ifZero, exponentMod, appended, someOrderFour, someAnticommute, someImaginary, someMinus}
 use Rattle.pauli_theory.proofs.IfZero.{ifZero-zero, ifZero-more}
 use Rattle.work_area.specs.Area.{standardAt, Outside}

@@ -8,9 +8,9 @@ ghost use Rattle.pauli.specs.Pauli.{Pauli as PauliOf};
 ghost use Rattle.pauli_theory.specs.Standard.{modulusOf, exponentMod, someOrderFour, anticommutesWithSome, someAnticommute, appended, someImaginary, someMinus, phase};
 ghost use Rattle.work_area.specs.Area.{Outside};
 use pauli::signed::Pauli;
-use pauli::signed::Places;
 use pauli::signed::load;
 use pauli::signed::store;
+use places::places::Places;
 
 // The modulus of the n Paulis from word base on, which are powers of i: 4; 2 if one is -I; 1 if one is odd.
 pub fn modulus_of(w: &[u64], base: usize, n: usize) -> u64

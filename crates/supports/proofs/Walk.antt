@@ -11,7 +11,7 @@ use lib.Dec.{eqb, ltb}
 use lib.ListN.{length, getD, set, take, drop, length-append, length-drop}
 use lib.Seq.{drop-cons, length-take-le, take-all, drop-length, take-at, drop-append-add, drop-drop, append-snoc, getD-take, set-split, take-set-lt, take-suc-set, drop-set-lt}
 use borrow.Author.Tests.{lt-ltb, le-ltb, eq-eqb, ne-eqb}
-use Rattle.supports.specs.Bytes.{u32At, numbersAt}
+use Rattle.refusals.specs.Bytes.{u32At, numbersAt}
 use Rattle.supports.specs.Support.{mostQubits, insert, insertAll, Rising}
 use Rattle.supports.specs.Known.{placeOf, firstPlace, lower, putAt, insertedAt, Noted, Gathered}
 use Rattle.supports.proofs.Lists.{in-getD}

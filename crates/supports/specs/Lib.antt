@@ -1,5 +1,2 @@
-pub mod Told
-pub mod Refusals
-pub mod Bytes
 pub mod Support
 pub mod Known

@@ -4,10 +4,10 @@ ghost use mathlib.Core.Bool.{cond};
 ghost use Prim.Native.Nat.{suc, _+_, _*_, _≤_, _<_};
 ghost use lib.Dec.{ltb};
 ghost use lib.ListN.{length, getD, take};
-ghost use Rattle.supports.specs.Bytes.{numbersAt};
+ghost use Rattle.refusals.specs.Bytes.{numbersAt};
 ghost use Rattle.supports.specs.Support.{mostQubits, insertAll, Rising};
 ghost use Rattle.supports.specs.Known.{placeOf, lower, insertedAt, Noted, Gathered};
-use crate::bytes::u32_at;
+use refusals::bytes::u32_at;
 
 // The most distinct qubits of a list.
 pub const MOST_QUBITS: usize = 128;

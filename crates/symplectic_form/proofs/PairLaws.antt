@@ -8,17 +8,17 @@ use native.Mathlib.Nat.{mod-mod}
 use lib.ListN.{length, getD, set, take, drop, length-append, length-set, length-take}
 use lib.Seq.{sets, take-at, getD-at}
 use Rattle.bit_rows.specs.Row.{ifBit}
-use Rattle.binar.proofs.Lists.{map-drop, map-set}
+use Rattle.row_reduction.proofs.Lists.{map-drop, map-set}
 use Rattle.pauli.specs.declared.signed.Pauli.{Pauli as Held}
 use Rattle.pauli.specs.Pauli.{Pauli, I, normal, times, anticommute}
 use Rattle.pauli.specs.Signed.{held, pauliIn, pauliWords, listIn}
 use Rattle.roll_paulis.specs.Condense.{listOf}
 use Rattle.supports.specs.Known.{Gathered}
 use Rattle.rolls.specs.Roll.{support, countOf}
-use Rattle.supports.specs.Told.{answer}
-use Rattle.roll_paulis.specs.Writing.{OnPlaces, rollOver}
+use Rattle.refusals.specs.Told.{answer}
+use Rattle.roll_writer.specs.Writing.{OnPlaces, rollOver}
 use Rattle.pauli.proofs.Algebra.{pauli-path, normal-times, times-normal-l, times-normal-r}
-use Rattle.roll_paulis.proofs.Writers.{listFrom, list-start, list-next, list-end, length-list}
+use Rattle.roll_writer.proofs.Writers.{listFrom, list-start, list-next, list-end, length-list}
 use Rattle.pauli_theory.specs.Symplectic.{position, swapRemove, timesIf, cleared, onPosition, pairedFrom, symplecticForm}
 use Rattle.pauli_theory.proofs.Form.{map-take}
 use Rattle.pauli_theory.proofs.Symplectic.{cleared-length, removed-length}

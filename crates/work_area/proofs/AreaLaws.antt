@@ -6,7 +6,7 @@ use native.Mathlib.Nat.{mul-le-mul-left}
 use native.Mathlib.Omega.{arith}
 use lib.ListN.{length, getD, take, drop, length-drop}
 use lib.Seq.{ext-getD, length-take-le, getD-take, getD-drop}
-use Rattle.binar.specs.Echelon.{Row, EchelonForm}
+use Rattle.row_reduction.specs.Echelon.{Row, EchelonForm}
 use Rattle.binar.specs.Layout.{formStride, formIn}
 use Rattle.bit_rows.specs.Words.{value, rowAt, matrix}
 use Rattle.work_area.specs.Area.{rowWords, strideOf, Outside}

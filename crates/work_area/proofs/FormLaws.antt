@@ -13,11 +13,11 @@ use Rattle.binar.specs.Layout.{formStride}
 use Rattle.bit_rows.specs.Words.{value, rowAt, matrix}
 use Rattle.pauli_theory.specs.Standard.{ifZero}
 use Rattle.pauli_theory.proofs.CommonPlaces.{product-mod}
-use Rattle.binar.proofs.Matrix.{length-matrix, matrix-row, row-in, row-lt}
+use Rattle.row_reduction.proofs.Matrix.{length-matrix, matrix-row, row-in, row-lt}
 use Rattle.pauli.specs.declared.signed.Pauli.{Pauli as Held}
 use Rattle.pauli.specs.Pauli.{Pauli, normal, indexedProduct}
 use Rattle.pauli.specs.Signed.{held, listIn}
-use Rattle.roll_paulis.proofs.Writers.{length-list}
+use Rattle.roll_writer.proofs.Writers.{length-list}
 use Rattle.work_area.specs.Area.{targetAt, rowWords, strideOf, Outside}
 use Rattle.work_area.proofs.AreaLaws.{row-alike, form-room-more}
 use Rattle.work_area.proofs.ListLaws.{list-kept, list-kept-after}

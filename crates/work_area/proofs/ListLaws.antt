@@ -10,8 +10,9 @@ use Rattle.bit_rows.specs.Words.{putRow}
 use Rattle.bit_rows.proofs.Slice.{put-none, put-first}
 use Rattle.pauli.specs.declared.signed.Pauli.{Pauli as Held}
 use Rattle.pauli.specs.Pauli.{Pauli, normal}
-use Rattle.roll_paulis.specs.Writing.{OnPlaces}
-use Rattle.pauli.specs.Signed.{setIn, held, pauliIn, pauliWords, listIn}
+use Rattle.roll_writer.specs.Writing.{OnPlaces}
+use Rattle.pauli.specs.Signed.{held, pauliIn, pauliWords, listIn}
+use Rattle.places.specs.PlaceSet.{setIn}
 use Rattle.work_area.specs.Area.{Outside}
 
 -- ---- Paulis of slices that agree on their words

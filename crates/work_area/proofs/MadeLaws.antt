@@ -10,19 +10,20 @@ use borrow.Author.Tests.{le-leb}
 use lib.ListN.{length, getD, take, drop, length-map, length-drop, length-append, List·getD-eq-default}
 use lib.Pow.{pow-pos, pow-mono}
 use lib.Seq.{getD-drop, getD-append-add}
-use Rattle.binar.specs.declared.echelon.Formation.{Formation}
-use Rattle.binar.specs.declared.echelon.Formation.the-variants.{Rank, Misfit}
-use Rattle.binar.specs.Echelon.{Reduction, EchelonForm, echelon, echelonize, besideIdentity, rank as echelonRank}
-use Rattle.binar.specs.Layout.{formStride, fits, formed, laidOut, FormIs, formIn, pick}
+use Rattle.binar.specs.declared.matrix_form.Formation.{Formation}
+use Rattle.binar.specs.declared.matrix_form.Formation.the-variants.{Rank, Misfit}
+use Rattle.row_reduction.specs.Echelon.{Reduction, EchelonForm, echelon, echelonize, besideIdentity, rank as echelonRank}
+use Rattle.binar.specs.Layout.{formStride, fits, formed, FormIs, formIn, pick}
+use Rattle.row_reduction.specs.Laid.{laidOut}
 use Rattle.bit_rows.specs.Words.{matrix, image}
-use Rattle.binar.proofs.Bounds.{rank-rows}
+use Rattle.row_reduction.proofs.Bounds.{rank-rows}
 use Rattle.binar.proofs.Formed.{form-count}
-use Rattle.binar.proofs.Matrix.{length-image, drop-image, matrix-image, length-matrix}
+use Rattle.row_reduction.proofs.Matrix.{length-image, drop-image, matrix-image, length-matrix}
 use Rattle.binar.proofs.Reading.{rank-back}
 use Rattle.binar.proofs.Theorems.{form-law}
 use Rattle.pauli.specs.Pauli.{Pauli}
 use Rattle.pauli.specs.Signed.{listIn, pauliIn}
-use Rattle.roll_paulis.specs.Writing.{OnPlaces}
+use Rattle.roll_writer.specs.Writing.{OnPlaces}
 use Rattle.work_area.specs.Area.{rowWords, strideOf, Outside}
 use Rattle.work_area.specs.Lists.{rowOver, formOver}
 use Rattle.work_area.proofs.AreaLaws.{form-room-more}

@@ -9,15 +9,16 @@ use lib.ListN.{length, getD, set, take, drop, length-set, length-map}
 use lib.Pow.{pow-pos, pow-add, pow-mono, shl-lt, shr-lt, split, high, low, mod-mod-pow}
 use lib.Seq.{length-take-le, take-append-le, take-take, drop-at}
 use Rattle.bit_rows.specs.Words.{words, putRow, image}
-use Rattle.binar.proofs.Matrix.{row-in}
-use Rattle.binar.proofs.RowByRow.{rewritten, rewritten-none, rewritten-all, rewritten-row}
+use Rattle.row_reduction.proofs.Matrix.{row-in}
+use Rattle.row_reduction.proofs.RowByRow.{rewritten, rewritten-none, rewritten-all, rewritten-row}
 use Rattle.bit_rows.proofs.Slice.{AreWords, put-none, put-next, length-put}
 use Rattle.pauli.specs.declared.signed.Pauli.{Pauli as Held}
 use Rattle.pauli.specs.Pauli.{Pauli, normal}
-use Rattle.pauli.specs.Signed.{setIn, held, pauliIn, listIn}
-use Rattle.roll_paulis.specs.Writing.{OnPlaces}
+use Rattle.pauli.specs.Signed.{held, pauliIn, listIn}
+use Rattle.places.specs.PlaceSet.{setIn}
+use Rattle.roll_writer.specs.Writing.{OnPlaces}
 use Rattle.work_area.specs.declared.rows.TwoWords.{TwoWords}
-use Rattle.roll_paulis.proofs.Writers.{length-list}
+use Rattle.roll_writer.proofs.Writers.{length-list}
 use Rattle.work_area.specs.Area.{Outside}
 use Rattle.work_area.specs.Lists.{rowOver}
 use Rattle.work_area.proofs.ListLaws.{list-map-at, on-places-at, outside-refl, outside-join, outside-wider, pauli-kept-after, put-outside}

@@ -4,11 +4,11 @@ use mathlib.Core.List.{List, map}
 use Prim.Native.Nat.{ℕ, _+_, _*_, _/_, _^_, _≤_, _<_}
 use lib.Dec.{ltb}
 use lib.ListN.{length, getD}
-use Rattle.binar.specs.Echelon.{EchelonForm, echelon}
+use Rattle.row_reduction.specs.Echelon.{EchelonForm, echelon}
 use Rattle.binar.specs.Layout.{formStride}
 use Rattle.bit_rows.specs.Words.{putRow}
 use Rattle.pauli.specs.Pauli.{Pauli}
-use Rattle.supports.specs.Told.{Told, answer, refused, refuseIf}
+use Rattle.refusals.specs.Told.{Told, answer, refused, refuseIf}
 
 -- "work area under 4,096 64-bit words"
 abbrev pub workWords : ℕ

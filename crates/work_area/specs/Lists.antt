@@ -3,7 +3,7 @@ use mathlib.Core.Path.{_≡_}
 use mathlib.Core.List.{List, _++_, map}
 use Prim.Native.Nat.{ℕ, _+_, _*_, _/_, _%_, _^_, _<_, max}
 use lib.ListN.{length, take, drop}
-use Rattle.binar.specs.Echelon.{EchelonForm, echelon}
+use Rattle.row_reduction.specs.Echelon.{EchelonForm, echelon}
 use Rattle.bit_rows.specs.Words.{matrix}
 use Rattle.roll_paulis.specs.Condense.{Readable, listOf, condensed}
 use Rattle.pauli.specs.Pauli.{Pauli, normal, indexedProduct}

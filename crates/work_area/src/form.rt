@@ -3,20 +3,21 @@ ghost use mathlib.Core.Path.{_≡_};
 ghost use mathlib.Core.Logic.{_⊎_};
 ghost use Prim.Native.Nat.{_+_, _*_, _/_, _%_, _^_, _≤_, _<_};
 ghost use lib.ListN.{length};
-ghost use Rattle.binar.specs.Echelon.{rank as echelonRank};
+ghost use Rattle.row_reduction.specs.Echelon.{rank as echelonRank};
 ghost use Rattle.binar.specs.Layout.{formIn};
 ghost use Rattle.bit_rows.specs.Words.{rowAt};
-ghost use Rattle.pauli.specs.Signed.{setIn, listIn};
-ghost use Rattle.roll_paulis.specs.Writing.{OnPlaces};
+ghost use Rattle.pauli.specs.Signed.{listIn};
+ghost use Rattle.places.specs.PlaceSet.{setIn};
+ghost use Rattle.roll_writer.specs.Writing.{OnPlaces};
 ghost use Rattle.work_area.specs.Area.{targetAt, rowWords, strideOf, Outside};
 ghost use Rattle.work_area.specs.Lists.{formOver, productsBy};
 use crate::area::ROW_WORDS;
 use crate::rows::put_rows;
-use binar::echelon::Formation;
-use binar::echelon::echelon_form;
-use pauli::signed::Places;
+use binar::matrix_form::Formation;
+use binar::matrix_form::echelon_form;
 use pauli::signed::indexed_product;
 use pauli::signed::store;
+use places::places::Places;
 
 // The words of a row of a form of n rows.
 pub fn stride_of(n: usize) -> usize

@@ -5,7 +5,7 @@ ghost use Prim.Native.Nat.{_+_, _*_, _%_, _^_, _≤_, _<_};
 ghost use lib.ListN.{length, drop};
 ghost use Rattle.bit_rows.specs.Words.{putRow, image};
 ghost use Rattle.pauli.specs.Signed.{held, listIn};
-ghost use Rattle.roll_paulis.specs.Writing.{OnPlaces};
+ghost use Rattle.roll_writer.specs.Writing.{OnPlaces};
 ghost use Rattle.work_area.specs.Lists.{rowOver};
 use crate::area::ROW_WORDS;
 use bit_rows::row::clear_bits;

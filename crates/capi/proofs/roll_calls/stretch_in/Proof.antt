@@ -1,6 +1,6 @@
 use mathlib.Core.Path.{_≡_, refl, sym, ap, _∙_}
 use native.Mathlib.Omega.{arith}
-use Rattle.supports.specs.Told.{answer}
+use Rattle.refusals.specs.Told.{answer}
 use Rattle.joined_lists.proofs.JoinLaws.{accepted-table, accepted-room}
 use Rattle.answer_codes.specs.Code.{codeBody}
 use Rattle.answer_codes.specs.Stretch.{Stretch}

@@ -2,8 +2,8 @@
 use mathlib.Core.Path.{sym, ap, _∙_}
 use lib.Seq.{length-take-le}
 use Rattle.rolls.specs.Answers.{toldCount}
-use Rattle.closing_report.specs.Split.{rollsTold}
-use Rattle.closing_report.proofs.InputLaws.{parted}
+use Rattle.report_parts.specs.Split.{rollsTold}
+use Rattle.report_parts.proofs.InputLaws.{parted}
 use Rattle.closing_report.proofs.CallLaws.{input-refused, generators-refused, elements-refused, work-short, work-enough}
 use Rattle.closing_report.proofs.CallLaws.{call-line, call-short, call-done}
 use borrow.Author.Needs.{needs}

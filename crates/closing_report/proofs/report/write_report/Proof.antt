@@ -5,9 +5,9 @@ use Prim.Native.Nat.{ℕ}
 use native.Mathlib.Omega.{arith}
 use Rattle.rolls.specs.Roll.{mostPaulis}
 use Rattle.supports.specs.Support.{mostQubits}
-use Rattle.supports.specs.Told.{answer}
+use Rattle.refusals.specs.Told.{answer}
 use Rattle.joined_lists.proofs.JoinLaws.{accepted-few}
-use Rattle.roll_paulis.specs.Writing.{toldBytes, leftIn}
+use Rattle.roll_writer.specs.Writing.{toldBytes, leftIn}
 use Rattle.pauli_theory.specs.Group.{none}
 use Rattle.membership.proofs.FactorLaws.{asked-of}
 use Rattle.group_form.proofs.GroupLaws.{described}

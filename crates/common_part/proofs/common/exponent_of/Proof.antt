@@ -2,7 +2,7 @@ use native.Mathlib.Omega.{arith}
 use borrow.Author.Needs.{needs}
 use mathlib.Core.Path.{sym, ap, _∙_}
 use Rattle.membership.specs.Members.{setTold}
-use Rattle.group_modulo.proofs.MoveLaws.{loaded-movable}
+use Rattle.moved_paulis.proofs.MoveLaws.{loaded-movable}
 use Rattle.common_part.proofs.SharedLaws.{target-low, exponent-none, exponent-set}
 use borrow.Author.Needs.{needs}
 use Rattle.common_part.proofs.common.exponent_of.Statement.{statement}

@@ -2,8 +2,8 @@ use mathlib.Core.List.{List}
 use mathlib.Core.Path.{ap, _∙_}
 use Prim.Native.Nat.{ℕ}
 use borrow.Author.Needs.{needs}
-use Rattle.roll_paulis.specs.Writing.{toldBytes, leftIn}
-use Rattle.supports.specs.Told.{answer}
+use Rattle.roll_writer.specs.Writing.{toldBytes, leftIn}
+use Rattle.refusals.specs.Told.{answer}
 use Rattle.group_form.proofs.GroupedLaws.{cleared-whole}
 use Rattle.common_part.proofs.PartLaws.{lesser-bytes}
 use borrow.Author.Needs.{needs}

@@ -4,10 +4,10 @@ use Prim.Native.Nat.{ℕ}
 use native.Mathlib.Omega.{arith}
 use borrow.Author.Needs.{needs}
 use Rattle.joined_lists.proofs.JoinLaws.{accepted-few}
-use Rattle.roll_paulis.specs.Writing.{toldBytes, leftIn}
+use Rattle.roll_writer.specs.Writing.{toldBytes, leftIn}
 use Rattle.rolls.specs.Roll.{mostPaulis}
 use Rattle.supports.specs.Support.{mostQubits}
-use Rattle.supports.specs.Told.{answer}
+use Rattle.refusals.specs.Told.{answer}
 use Rattle.membership.proofs.FactorLaws.{places-known}
 use Rattle.group_form.proofs.GroupedLaws.{group-places}
 use Rattle.common_part.proofs.SharedLaws.{list-on, list-written}

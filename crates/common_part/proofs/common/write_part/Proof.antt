@@ -3,9 +3,9 @@ use mathlib.Core.Path.{ap, _∙_}
 use Prim.Native.Nat.{ℕ}
 use native.Mathlib.Omega.{arith}
 use borrow.Author.Needs.{needs}
-use Rattle.roll_paulis.specs.Writing.{toldBytes, leftIn}
+use Rattle.roll_writer.specs.Writing.{toldBytes, leftIn}
 use Rattle.supports.specs.Support.{mostQubits}
-use Rattle.supports.specs.Told.{answer}
+use Rattle.refusals.specs.Told.{answer}
 use Rattle.group_form.proofs.GroupedLaws.{step-kinds}
 use Rattle.common_part.proofs.BasisLaws.{joint-is}
 use Rattle.common_part.proofs.PartLaws.{part-on, part-left, once-on, once-right, part-places, part-written}

@@ -3,7 +3,7 @@ use Prim.Native.Nat.{ℕ, _+_, _-_, _*_, _^_, _≤_, _<_}
 use native.Mathlib.Omega.{arith}
 use mathlib.Core.Path.{_≡_, ap, _∙_}
 use Rattle.pauli_theory.specs.Listing.{chosenAt}
-use Rattle.pauli.specs.Signed.{setIn}
+use Rattle.places.specs.PlaceSet.{setIn}
 use Rattle.element_listing.proofs.ListingLaws.{choice-start, choice-end, choice-next}
 use Rattle.element_listing.proofs.listing.chosen_at.Statement.{statement}
 use Rattle.element_listing.proofs.listing.chosen_at.Tie as tie

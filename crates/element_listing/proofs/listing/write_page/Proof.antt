@@ -7,8 +7,8 @@ use Rattle.roll_paulis.specs.Condense.{listOf}
 use Rattle.standard_form.specs.Promises.{promiseOf}
 use Rattle.group_form.specs.Groups.{paulis}
 use Rattle.supports.specs.Support.{mostQubits}
-use Rattle.supports.specs.Told.{Told, answer}
-use Rattle.roll_paulis.specs.Writing.{toldBytes, leftIn}
+use Rattle.refusals.specs.Told.{Told, answer}
+use Rattle.roll_writer.specs.Writing.{toldBytes, leftIn}
 use Rattle.group_form.proofs.GroupedLaws.{cleared-whole, group-total, group-places}
 use Rattle.element_listing.proofs.PageLaws.{total-is, total-small, signs-step, signs-some, signs-few, page-places, page-written, page-refused, page-answered}
 use borrow.Author.Needs.{needs}

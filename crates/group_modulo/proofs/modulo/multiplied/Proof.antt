@@ -1,7 +1,8 @@
 use mathlib.Core.Logic.{⊎-elim}
 use mathlib.Core.Path.{_≡_, sym, ap, _∙_}
 use Rattle.pauli.specs.Pauli.{normal}
-use Rattle.pauli.specs.Signed.{setIn, held}
+use Rattle.pauli.specs.Signed.{held}
+use Rattle.places.specs.PlaceSet.{setIn}
 use Rattle.group_modulo.proofs.RemainderLaws.{oneAt, one-x, one-z, multiplied-hit, multiplied-miss}
 use borrow.Author.Needs.{needs}
 use Rattle.group_modulo.proofs.modulo.multiplied.Statement.{statement}

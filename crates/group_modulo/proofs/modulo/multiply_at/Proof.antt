@@ -5,7 +5,7 @@ use mathlib.Core.Path.{_∙_, sym, ap}
 use Prim.Native.Nat.{_-_, _*_, _≤_}
 use Rattle.pauli.specs.Pauli.{I, normal}
 use Rattle.pauli.specs.Signed.{held, listIn}
-use Rattle.roll_paulis.proofs.Writers.{length-list}
+use Rattle.roll_writer.proofs.Writers.{length-list}
 use Rattle.pauli_theory.specs.ModuloPlaces.{multipliedAt}
 use Rattle.work_area.specs.Area.{Outside}
 use Rattle.work_area.proofs.ListLaws.{StoredUpTo, stored-none, stored-step, stored-all, list-at, pauli-kept-after, outside-refl, store-further}

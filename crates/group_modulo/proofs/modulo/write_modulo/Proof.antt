@@ -2,9 +2,9 @@ use native.Mathlib.Omega.{arith}
 use mathlib.Core.Path.{_≡_, sym, ap, _∙_}
 use lib.ListN.{length}
 use Rattle.supports.specs.Support.{mostQubits}
-use Rattle.supports.specs.Told.{answer}
+use Rattle.refusals.specs.Told.{answer}
 use Rattle.roll_paulis.specs.Condense.{listOf}
-use Rattle.roll_paulis.specs.Writing.{toldBytes, leftIn}
+use Rattle.roll_writer.specs.Writing.{toldBytes, leftIn}
 use Rattle.group_form.specs.Groups.{paulis}
 use Rattle.group_form.proofs.GroupedLaws.{cleared-whole}
 use Rattle.group_modulo.proofs.ModuloLaws.{joined-places, joined-support, joined-size, remainder-on, remainder-written}

@@ -2,9 +2,9 @@ use native.Mathlib.Omega.{arith}
 use mathlib.Core.Path.{_≡_, sym, ap, _∙_}
 use Prim.Native.Nat.{_+_, _≤_}
 use Rattle.supports.specs.Support.{mostQubits}
-use Rattle.supports.specs.Told.{refused}
+use Rattle.refusals.specs.Told.{refused}
 use Rattle.roll_paulis.specs.Condense.{listOf}
-use Rattle.roll_paulis.specs.Writing.{toldBytes, leftIn}
+use Rattle.roll_writer.specs.Writing.{toldBytes, leftIn}
 use Rattle.work_area.specs.Area.{cleared}
 use Rattle.group_form.proofs.GroupedLaws.{cleared-whole}
 use Rattle.comparison.specs.Answers.{orderOf}

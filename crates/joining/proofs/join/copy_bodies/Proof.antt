@@ -1,7 +1,7 @@
 -- Invariant: the bytes from byte k on are left to write.
 use Prim.Native.Nat.{ℕ, _+_, _-_, _*_, _≤_, _<_}
 use Rattle.joined_lists.proofs.JoinLaws.{accepted-length, accepted-bodies, byte-fits, byte-copied}
-use Rattle.roll_paulis.proofs.Puts.{Left, left-start, left-done}
+use Rattle.roll_writer.proofs.Puts.{Left, left-start, left-done}
 use Rattle.rolls.proofs.Paulis.{length-bodies}
 use Rattle.rolls.specs.Roll.{bodies}
 use Rattle.roll_paulis.specs.Condense.{listOf}

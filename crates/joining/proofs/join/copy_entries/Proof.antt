@@ -1,7 +1,7 @@
 -- Invariant: the entries of the Paulis from number i on are left to write.
 use Prim.Native.Nat.{ℕ, _+_, _-_, _*_, _≤_, _<_}
 use Rattle.joined_lists.proofs.JoinLaws.{accepted-few, accepted-table, entry-fits, entry-copied, entries-start, entries-done}
-use Rattle.roll_paulis.proofs.Puts.{Left, left-done}
+use Rattle.roll_writer.proofs.Puts.{Left, left-done}
 use Rattle.rolls.specs.Roll.{mostPaulis, byValue, table}
 use Rattle.roll_paulis.specs.Condense.{listOf}
 use lib.ListN.{drop}

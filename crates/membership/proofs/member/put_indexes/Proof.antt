@@ -3,10 +3,10 @@ use mathlib.Core.Path.{_≡_}
 use Prim.Native.Nat.{_-_, _<_}
 use native.Mathlib.Omega.{arith}
 use Rattle.bit_rows.specs.Row.{bit}
-use Rattle.pauli.proofs.Firsts.{first-told}
-use Rattle.roll_paulis.proofs.Puts.{chosenFrom, Left}
+use Rattle.places.proofs.Firsts.{first-told}
+use Rattle.roll_writer.proofs.Puts.{chosenFrom, Left}
 use Rattle.roll_paulis.specs.Sets.{members}
-use Rattle.pauli.specs.Signed.{setIn}
+use Rattle.places.specs.PlaceSet.{setIn}
 use Rattle.pauli_theory.proofs.OverPlaces.{upTo}
 use Rattle.membership.proofs.MemberLaws.{indexes-start, indexes-done, indexes-skip, indexes-room, indexes-hit}
 use Rattle.membership.specs.Members.{le16s}

@@ -3,10 +3,10 @@ use Prim.Native.Nat.{ℕ, _+_, _-_, _*_, _/_, _%_, _^_, _≤_, _<_}
 use Rattle.pauli.proofs.Algebra.{pauli-path}
 use Rattle.pauli.proofs.SignedLaws.{byte-value}
 use Rattle.pauli.specs.Pauli.{normal}
-use Rattle.pauli.specs.Signed.{held, pauliIn, setIn}
+use Rattle.pauli.specs.Signed.{held, pauliIn}
+use Rattle.places.specs.PlaceSet.{setIn}
 use borrow.Author.Needs.{needs}
 use mathlib.Core.Path.{_≡_, refl, sym, ap, ap₂, _∙_}
-use borrow.Author.Needs.{needs}
 use Rattle.pauli.proofs.signed.load.Statement.{statement}
 use Rattle.pauli.proofs.signed.load.Tie as tie
 

@@ -3,8 +3,8 @@ use mathlib.Core.List.{List}
 use mathlib.Core.Path.{refl, sym, ap, _∙_}
 use Prim.Native.Nat.{ℕ}
 use lib.Seq.{length-take-le}
-use Rattle.supports.specs.Told.{Told}
-use Rattle.roll_paulis.specs.Writing.{toldBytes, leftIn}
+use Rattle.refusals.specs.Told.{Told}
+use Rattle.roll_writer.specs.Writing.{toldBytes, leftIn}
 use Rattle.pauli_group.specs.Calls.{standardBytes, standardGenerators}
 use Rattle.pauli_group.proofs.CallLaws.{list-given, list-none, answers, area-cleared, refuses, area-kept}
 use borrow.Author.Needs.{needs}

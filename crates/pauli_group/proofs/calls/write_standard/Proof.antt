@@ -4,8 +4,8 @@ use mathlib.Core.Path.{ap, _∙_}
 use Prim.Native.Nat.{ℕ}
 use native.Mathlib.Omega.{arith}
 use Rattle.supports.specs.Support.{mostQubits}
-use Rattle.supports.specs.Told.{answer}
-use Rattle.roll_paulis.specs.Writing.{toldBytes, leftIn}
+use Rattle.refusals.specs.Told.{answer}
+use Rattle.roll_writer.specs.Writing.{toldBytes, leftIn}
 use Rattle.group_form.proofs.GroupedLaws.{cleared-whole, group-total, group-places, group-on}
 use Rattle.pauli_group.proofs.CallLaws.{group-written}
 use borrow.Author.Needs.{needs}

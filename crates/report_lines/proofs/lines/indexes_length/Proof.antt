@@ -3,8 +3,8 @@ use mathlib.Core.Path.{_≡_}
 use Prim.Native.Nat.{_-_, _<_}
 use native.Mathlib.Omega.{arith}
 use Rattle.bit_rows.specs.Row.{bit}
-use Rattle.pauli.proofs.Firsts.{first-told}
-use Rattle.pauli.specs.Signed.{setIn}
+use Rattle.places.proofs.Firsts.{first-told}
+use Rattle.places.specs.PlaceSet.{setIn}
 use Rattle.report_lines.proofs.IndexLaws.{two-words, Counted, counted-start, counted-end, counted-skip, counted-hit}
 use Rattle.report_lines.proofs.lines.indexes_length.Statement.{statement}
 use Rattle.report_lines.proofs.lines.indexes_length.Tie as tie

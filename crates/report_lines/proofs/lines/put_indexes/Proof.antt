@@ -3,10 +3,10 @@ use mathlib.Core.Path.{_≡_, refl}
 use Prim.Native.Nat.{_-_, _<_}
 use native.Mathlib.Omega.{arith}
 use Rattle.bit_rows.specs.Row.{bit}
-use Rattle.pauli.proofs.Firsts.{first-told}
-use Rattle.roll_paulis.proofs.Puts.{Left, left-start}
+use Rattle.places.proofs.Firsts.{first-told}
+use Rattle.roll_writer.proofs.Puts.{Left, left-start}
 use Rattle.roll_paulis.specs.Sets.{members}
-use Rattle.pauli.specs.Signed.{setIn}
+use Rattle.places.specs.PlaceSet.{setIn}
 use Rattle.report_lines.specs.Decimal.{ascii}
 use Rattle.report_lines.specs.Lines.{indexesText}
 use Rattle.report_lines.proofs.IndexLaws.{two-words, textFrom, text-start, put-end, put-skip, put-fits, put-hit}

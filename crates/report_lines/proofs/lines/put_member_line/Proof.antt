@@ -1,6 +1,6 @@
 -- The pieces are put one behind the other.
 use borrow.Author.Needs.{needs}
-use Rattle.pauli.specs.Signed.{setIn}
+use Rattle.places.specs.PlaceSet.{setIn}
 use Rattle.report_lines.specs.Decimal.{ascii, digits}
 use Rattle.report_lines.specs.Lines.{memberLine, lineFeed}
 use Rattle.report_lines.proofs.LineLaws.{memberPieces}

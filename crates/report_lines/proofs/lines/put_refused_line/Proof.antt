@@ -1,6 +1,6 @@
 -- The pieces are put one behind the other.
 use borrow.Author.Needs.{needs}
-use Rattle.supports.specs.Refusals.{numberOf}
+use Rattle.refusals.specs.Refusals.{numberOf}
 use Rattle.report_lines.specs.Decimal.{ascii}
 use Rattle.report_lines.specs.Lines.{refusedLine, labelled, lineFeed}
 use Rattle.report_lines.proofs.LineLaws.{refusedPieces}

@@ -1,9 +1,9 @@
 -- Invariant: the numbers from number k on are left to place.
 use Prim.Native.Nat.{ℕ, _+_, _-_, _*_, _/_, _%_, _^_, _≤_, _<_}
 use Rattle.roll_paulis.proofs.CondenseLaws.{Placing, bytes-start, bytes-end, bytes-from, bytes-in, bytes-next}
-use Rattle.supports.specs.Bytes.{numbersAt}
+use Rattle.refusals.specs.Bytes.{numbersAt}
 use Rattle.roll_paulis.specs.Sets.{setOf, condense}
-use Rattle.pauli.specs.Signed.{setIn}
+use Rattle.places.specs.PlaceSet.{setIn}
 use borrow.Author.Needs.{needs}
 use lib.ListN.{length, take}
 use lib.Seq.{length-take-le}

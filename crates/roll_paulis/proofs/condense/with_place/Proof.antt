@@ -1,10 +1,9 @@
 -- The place is in the low word or in the high one.
 use Rattle.roll_paulis.proofs.CondenseLaws.{with-low, with-high}
-use Rattle.pauli.specs.Signed.{setIn}
+use Rattle.places.specs.PlaceSet.{setIn}
 use borrow.Author.Needs.{needs}
 use mathlib.Core.Path.{_≡_, refl, sym, ap, ap₂, _∙_}
 use native.Mathlib.Omega.{arith}
-use borrow.Author.Needs.{needs}
 use Rattle.roll_paulis.proofs.condense.with_place.Statement.{statement}
 use Rattle.roll_paulis.proofs.condense.with_place.Tie as tie
 

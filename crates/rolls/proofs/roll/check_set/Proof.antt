@@ -1,7 +1,7 @@
 -- Invariant: the numbers left give what was to be told at the start.
 use Prim.Native.Nat.{_+_, _*_, _-_, _≤_}
 use Rattle.rolls.proofs.ReaderLaws.{set-start, set-high, set-falls, set-rises, set-end}
-use Rattle.supports.specs.Bytes.{numbersAt}
+use Rattle.refusals.specs.Bytes.{numbersAt}
 use Rattle.rolls.specs.Roll.{highestQubit, checkSet}
 use mathlib.Core.Path.{_≡_, sym, _∙_}
 use native.Mathlib.Omega.{arith}

@@ -4,7 +4,7 @@ use Prim.Native.Nat.{_+_, _-_}
 use native.Mathlib.Omega.{arith}
 use Rattle.pauli.specs.Signed.{held}
 use Rattle.pauli.proofs.SignedLaws.{zero-bit}
-use Rattle.roll_paulis.proofs.Writers.{listFrom}
+use Rattle.roll_writer.proofs.Writers.{listFrom}
 use Rattle.pauli_theory.specs.Standard.{anticommutesWithSome, someAnticommute}
 use Rattle.standard_form.proofs.ScanLaws.{From, from-start, from-hit, from-miss, from-end, search-lt, with-some, two-anticommute, list-behind}
 use Rattle.standard_form.proofs.scan.some_anticommute.Statement.{statement}

@@ -5,7 +5,7 @@ use Prim.Native.Nat.{_≤_, _-_, _*_}
 use native.Mathlib.Omega.{arith}
 use Rattle.pauli.specs.Pauli.{normal, I}
 use Rattle.pauli.specs.Signed.{held, listIn}
-use Rattle.roll_paulis.proofs.Writers.{length-list}
+use Rattle.roll_writer.proofs.Writers.{length-list}
 use Rattle.pauli_theory.specs.Symplectic.{cleared}
 use Rattle.pauli_theory.proofs.Symplectic.{cleared-length}
 use Rattle.work_area.specs.Area.{Outside}

@@ -5,7 +5,7 @@ use native.Mathlib.Omega.{arith}
 use Rattle.pauli.specs.Pauli.{normal, I}
 use Rattle.pauli.specs.Signed.{listIn}
 use Rattle.work_area.proofs.ListLaws.{StoredUpTo, stored-none, stored-step, stored-all, list-at, pauli-kept-after}
-use Rattle.roll_paulis.proofs.Writers.{length-list}
+use Rattle.roll_writer.proofs.Writers.{length-list}
 use Rattle.symplectic_form.proofs.symplectic.copy_list.Statement.{statement}
 use Rattle.symplectic_form.proofs.symplectic.copy_list.Tie as tie
 

@@ -6,8 +6,8 @@ use native.Mathlib.Omega.{arith}
 use Rattle.joined_lists.proofs.JoinLaws.{accepted, accepted-length, accepted-few}
 use Rattle.rolls.specs.Roll.{mostPaulis}
 use Rattle.supports.specs.Support.{mostQubits}
-use Rattle.supports.specs.Told.{answer}
-use Rattle.roll_paulis.specs.Writing.{toldBytes, leftIn}
+use Rattle.refusals.specs.Told.{answer}
+use Rattle.roll_writer.specs.Writing.{toldBytes, leftIn}
 use Rattle.group_form.proofs.GroupedLaws.{cleared-whole}
 use Rattle.group_form.proofs.GroupLaws.{own-gathered, own-few, places-few, part-readable}
 use Rattle.symplectic_form.proofs.PairLaws.{pairs-on, pairs-written}

@@ -1,6 +1,6 @@
 use Prim.Native.Nat.{_+_, _*_, _≤_, _<_}
 use Rattle.binar.specs.Layout.{formStride}
-use Rattle.pauli.specs.Signed.{setIn}
+use Rattle.places.specs.PlaceSet.{setIn}
 use Rattle.work_area.proofs.FormLaws.{no-names, names-in-one, names-in-two}
 use Rattle.work_area.specs.Area.{strideOf}
 use lib.ListN.{length}

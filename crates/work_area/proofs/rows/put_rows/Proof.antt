@@ -1,6 +1,6 @@
 -- Invariant: the first i rows are written, and the list behind the rows is as it was.
 use Prim.Native.Nat.{_-_, _≤_}
-use Rattle.binar.proofs.Matrix.{row-in}
+use Rattle.row_reduction.proofs.Matrix.{row-in}
 use Rattle.work_area.proofs.RowLaws.{RowsUpTo, rows-none, rows-all, cleared-rest, row-on, rows-step}
 use native.Mathlib.Omega.{arith}
 use Rattle.work_area.proofs.rows.put_rows.Statement.{statement}

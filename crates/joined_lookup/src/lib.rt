@@ -1,0 +1,4 @@
+// The lookups of a generator of a joined list.
+
+// The lookups of a generator of a joined list.
+pub mod lookup;

@@ -1,0 +1,4 @@
+// Paulis moved from the places of one support to those of another.
+
+// Paulis moved from the places of one support to those of another.
+pub mod moved;

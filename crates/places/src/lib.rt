@@ -1,0 +1,4 @@
+// Sets of places of a support.
+
+// Sets of places.
+pub mod places;

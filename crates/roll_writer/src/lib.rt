@@ -1,0 +1,4 @@
+// Rolls written from Paulis over the places of a support.
+
+// Written rolls.
+pub mod write;

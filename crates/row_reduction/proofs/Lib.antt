@@ -1,0 +1,16 @@
+pub mod Lists
+pub mod Span
+pub mod Steps
+pub mod Kept
+pub mod Reduced
+pub mod Unique
+pub mod Transform
+pub mod Dimension
+pub mod Space
+pub mod Solve
+pub mod Bounds
+pub mod Matrix
+pub mod Search
+pub mod RowByRow
+pub mod Others
+pub mod Passes

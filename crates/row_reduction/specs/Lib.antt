@@ -1,0 +1,4 @@
+pub mod Echelon
+pub mod Solve
+pub mod Laid
+pub mod Space
