@@ -1,6 +1,6 @@
 // The call for the closing listing. It lends a work area.
 ghost use lib.ListN.{length};
-ghost use Rattle.report_parts.specs.Listing.{listing, asked};
+ghost use Rattle.closing_report.specs.Listing.{listing, asked};
 ghost use Rattle.capi.specs.Contracts.{Listing};
 use answer_codes::answer::Answer;
 use answer_codes::answer::code_wrote;

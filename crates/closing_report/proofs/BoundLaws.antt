@@ -31,7 +31,8 @@ use Rattle.indexed_factorization.proofs.QuestionLaws.{indexes-below}
 use Rattle.closing_report.specs.Bound.{mostText, AlwaysFits, NeverRefused}
 use Rattle.report_lines.specs.Decimal.{ascii, digits, digitsUpTo}
 use Rattle.report_lines.specs.Lines.{labelled, lineFeed, phasesText, abelianText, indexesText, firstLine, memberLine, memberLines, refusedLine}
-use Rattle.report_parts.specs.Listing.{rollsIn, report, orRefusedIn, listing}
+use Rattle.report_parts.specs.InputRolls.{rollsIn}
+use Rattle.closing_report.specs.Listing.{report, orRefusedIn, listing}
 use Rattle.report_parts.specs.Stored.{Storable}
 use Rattle.report_lines.proofs.DecimalLaws.{few-digits}
 use Rattle.pauli_theory.proofs.IndexSets.{members-upTo}

@@ -25,7 +25,8 @@ use Rattle.group_form.specs.Groups.{paulis}
 use Rattle.group_form.proofs.GroupedLaws.{cleared-part}
 use Rattle.closing_report.specs.Contract.{ReportCall}
 use Rattle.report_lines.specs.Lines.{firstLine, memberLines, refusedLine}
-use Rattle.report_parts.specs.Listing.{Rolls, rollsIn, report, orRefusedIn, listing, asked}
+use Rattle.report_parts.specs.InputRolls.{Rolls, rollsIn}
+use Rattle.closing_report.specs.Listing.{report, orRefusedIn, listing, asked}
 use Rattle.report_lines.proofs.PutLaws.{text-told, text-left}
 
 module _ (input : List ℕ) (words : ℕ) where

@@ -17,7 +17,8 @@ use Rattle.work_area.specs.Area.{enough, areaAfter}
 use Rattle.group_form.specs.Groups.{paulis}
 use Rattle.report_lines.specs.Decimal.{ascii, digitsUpTo, digits}
 use Rattle.report_lines.specs.Lines.{lineFeed, labelled, phasesText, abelianText, firstLine, indexesText, memberLine, memberLines, refusedLine}
-use Rattle.report_parts.specs.Listing.{rollsIn, report, orRefusedIn, listing, asked}
+use Rattle.report_parts.specs.InputRolls.{rollsIn}
+use Rattle.closing_report.specs.Listing.{report, orRefusedIn, listing, asked}
 use Rattle.closing_report.specs.Example.{inputOf, generators, elements, text, Example}
 use Rattle.closing_report.proofs.CallLaws.{call-told, call-put}
 

@@ -8,7 +8,7 @@ use Rattle.refusals.specs.Told.{answer}
 use Rattle.roll_writer.specs.declared.write.Wrote.{Wrote}
 use Rattle.work_area.specs.Area.{workWords}
 use Rattle.closing_report.specs.Contract.{ReportCall}
-use Rattle.report_parts.specs.Listing.{listing}
+use Rattle.closing_report.specs.Listing.{listing}
 
 -- a first line of 36 bytes and 128 lines of 421, in which all of 128 indexes stand
 abbrev pub mostText : ℕ

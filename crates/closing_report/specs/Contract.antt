@@ -7,7 +7,7 @@ use Rattle.roll_writer.specs.Answers.{toldWrote}
 use Rattle.roll_writer.specs.Writing.{toldBytes, leftIn}
 use Rattle.roll_writer.specs.declared.write.Wrote.{Wrote}
 use Rattle.work_area.specs.Area.{areaAfter}
-use Rattle.report_parts.specs.Listing.{listing, asked}
+use Rattle.closing_report.specs.Listing.{listing, asked}
 
 pub record ReportCall (input work out : List ℕ) (r : Wrote) (work′ out′ : List ℕ) : Type 0 where
   pub told : toldWrote r ≡ toldBytes (listing input (length work)) out

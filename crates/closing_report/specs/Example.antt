@@ -12,7 +12,7 @@ use Rattle.roll_writer.specs.declared.write.Wrote.{Wrote}
 use Rattle.work_area.specs.Area.{workWords, cleared}
 use Rattle.closing_report.specs.Contract.{ReportCall}
 use Rattle.report_lines.specs.Decimal.{ascii}
-use Rattle.report_parts.specs.Listing.{listing}
+use Rattle.closing_report.specs.Listing.{listing}
 
 -- a length, a generator roll of that length, and an element roll
 unfoldable pub inputOf : List Sparse → List Sparse → List ℕ

@@ -1,3 +1,4 @@
+pub mod Listing
 pub mod Contract
 pub mod Bound
 pub mod Example

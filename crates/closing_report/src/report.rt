@@ -14,7 +14,7 @@ ghost use Rattle.group_form.specs.Groups.{paulis};
 ghost use Rattle.membership.specs.Members.{factoringTold, Asked};
 ghost use Rattle.closing_report.specs.Contract.{ReportCall};
 ghost use Rattle.report_lines.specs.Lines.{refusedLine};
-ghost use Rattle.report_parts.specs.Listing.{report};
+ghost use Rattle.closing_report.specs.Listing.{report};
 ghost use Rattle.report_parts.specs.Stored.{storedIn, Storable, Stored};
 use bit_rows::row::clear_bits;
 use group_form::group::Group;

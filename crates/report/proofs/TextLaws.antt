@@ -11,7 +11,7 @@ use Rattle.roll_writer.specs.declared.write.Wrote.the-variants.{Bytes, Refused}
 use Rattle.roll_writer.specs.Answers.{toldWrote}
 use Rattle.closing_report.specs.Bound.{NeverRefused, Printed}
 use Rattle.closing_report.specs.Contract.{ReportCall}
-use Rattle.report_parts.specs.Listing.{listing}
+use Rattle.closing_report.specs.Listing.{listing}
 use Rattle.closing_report.proofs.BoundLaws.{never-refused}
 
 module _ (input work out : List ℕ) (r : Wrote) (work′ out′ : List ℕ) (c : ReportCall input work out r work′ out′)

@@ -3,7 +3,7 @@ ghost use mathlib.Core.Path.{_≡_};
 ghost use Prim.Native.Nat.{_≤_};
 ghost use lib.ListN.{length, take};
 ghost use Rattle.refusals.specs.Told.{answer};
-ghost use Rattle.report_parts.specs.Listing.{listing};
+ghost use Rattle.closing_report.specs.Listing.{listing};
 use closing_report::report::MOST_TEXT;
 use closing_report::report::closing_report;
 use libc::STDIN_FILENO;

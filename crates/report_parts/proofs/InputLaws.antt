@@ -11,7 +11,7 @@ use Rattle.refusals.specs.Told.{answer, refused}
 use Rattle.rolls.proofs.Told.{test-pass, test-refuses}
 use Rattle.report_parts.specs.declared.input.Split.{Split}
 use Rattle.report_parts.specs.declared.input.Split.the-variants.{At}
-use Rattle.report_parts.specs.Listing.{mostInput, Rolls, rollsIn}
+use Rattle.report_parts.specs.InputRolls.{mostInput, Rolls, rollsIn}
 use Rattle.report_parts.specs.Split.{rollsTold, SplitWithin}
 
 module _ (input : List ℕ) where

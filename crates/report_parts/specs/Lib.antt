@@ -1,3 +1,3 @@
-pub mod Listing
+pub mod InputRolls
 pub mod Split
 pub mod Stored

@@ -5,7 +5,7 @@ use lib.ListN.{take, drop}
 use Rattle.refusals.specs.Told.{Told, answer, refused}
 use Rattle.report_parts.specs.declared.input.Split.{Split}
 use Rattle.report_parts.specs.declared.input.Split.the-variants.{At, Cut}
-use Rattle.report_parts.specs.Listing.{Rolls}
+use Rattle.report_parts.specs.InputRolls.{Rolls}
 
 -- the rolls, or that the input is refused
 abbrev pub rollsTold : List ℕ → Split → Told Rolls

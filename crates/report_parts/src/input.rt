@@ -1,7 +1,7 @@
 // The two rolls of an input.
 ghost use mathlib.Core.Path.{_≡_};
 ghost use lib.ListN.{length};
-ghost use Rattle.report_parts.specs.Listing.{rollsIn};
+ghost use Rattle.report_parts.specs.InputRolls.{rollsIn};
 ghost use Rattle.report_parts.specs.Split.{rollsTold, SplitWithin};
 use refusals::bytes::u32_at;
 
