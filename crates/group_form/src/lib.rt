@@ -1,4 +1,3 @@
 // The group of a list: its form and its standard generators in the work area.
 
-// The group of a list.
 pub mod group;

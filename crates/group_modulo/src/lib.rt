@@ -1,4 +1,3 @@
 // The call for the remainder of a list by another.
 
-// The call for the remainder.
 pub mod modulo;

@@ -1,4 +1,3 @@
 // The call for membership.
 
-// The call for membership.
 pub mod factorization;

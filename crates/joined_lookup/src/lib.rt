@@ -1,4 +1,3 @@
 // The lookups of a generator of a joined list.
 
-// The lookups of a generator of a joined list.
 pub mod lookup;

@@ -1,4 +1,3 @@
 // An element put to the form of a list.
 
-// An element put to the form of a list.
 pub mod member;

@@ -1,4 +1,3 @@
 // Paulis moved from the places of one support to those of another.
 
-// Paulis moved from the places of one support to those of another.
 pub mod moved;

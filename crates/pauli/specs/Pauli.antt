@@ -1,5 +1,5 @@
 -- Signed Paulis: document 01, "Pauli"; products: "Words of demand 3". A set of qubits is a number, read by its binary digits as
--- a row of crate binar: qubit q is in the set if the digit of weight 2^q is 1.
+-- a row of crate bit_rows: qubit q is in the set if the digit of weight 2^q is 1.
 use mathlib.Core.Path.{_≡_}
 use mathlib.Core.Bool.{Bool}
 use mathlib.Core.List.{List, [], _∷_}

@@ -1,4 +1,3 @@
 // Sets of places of a support.
 
-// Sets of places.
 pub mod places;

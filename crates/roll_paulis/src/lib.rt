@@ -1,4 +1,3 @@
 // Paulis of a roll over the places of a support.
 
-// Paulis of a roll over the places of a support.
 pub mod condense;

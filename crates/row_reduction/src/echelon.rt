@@ -1,4 +1,4 @@
-// The echelon form of a matrix in a slice, and solving with it.
+// The reduction of a matrix in a slice.
 //
 // A matrix is rows of stride words, row i at i * stride; the pivots stand behind the rows, a word each. The words of a row
 // past its matrix's columns take part in every swap and addition, so that T, kept there, needs no work of its own.

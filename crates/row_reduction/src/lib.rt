@@ -1,4 +1,4 @@
 // The reduction of a matrix of bit rows: pivot search, swaps and additions.
 
-// The pivot search, the reduction and the transform.
+// The pivot search and the reduction.
 pub mod echelon;

@@ -1,4 +1,3 @@
 // Qubits and their places in a support, after the crate paulimer of microsoft/qdk-ec.
 
-// Qubits and their places in a support.
 pub mod support;

@@ -1,4 +1,3 @@
 // The call for symplectic pairing.
 
-// The call for symplectic pairing.
 pub mod symplectic;
