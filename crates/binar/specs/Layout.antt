@@ -9,10 +9,10 @@ use Rattle.binar.specs.declared.matrix_form.Formation.{Formation}
 use Rattle.binar.specs.declared.matrix_form.Formation.the-variants.{Rank, Misfit}
 use Rattle.binar.specs.declared.matrix_form.Solution.{Solution}
 use Rattle.binar.specs.declared.matrix_form.Solution.the-variants.{Set, NoSet}
-use Rattle.bit_rows.specs.Words.{rowAt, matrix}
-use Rattle.row_reduction.specs.Echelon.{Reduction, echelonize, besideIdentity, EchelonForm}
-use Rattle.row_reduction.specs.Solve.{sweep}
-use Rattle.row_reduction.specs.Laid.{laidOut}
+use Rattle.binar.specs.Words.{rowAt, matrix}
+use Rattle.binar.specs.Echelon.{Reduction, echelonize, besideIdentity, EchelonForm}
+use Rattle.binar.specs.Solve.{sweep}
+use Rattle.binar.specs.Laid.{laidOut}
 
 -- ---- the echelon form of a matrix of any shape
 

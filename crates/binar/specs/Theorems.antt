@@ -6,14 +6,14 @@ use mathlib.Core.List.{List, map}
 use mathlib.Core.Option.{Option, some, none}
 use Prim.Native.Nat.{ℕ, _*_, _/_, _%_, _^_, _≤_, _<_}
 use lib.ListN.{length, getD, take}
-use Rattle.bit_rows.specs.Row.{columns, rowSum, units}
-use Rattle.row_reduction.specs.Echelon.{EchelonForm, echelon, R, T, rank}
-use Rattle.row_reduction.specs.Solve.{solved, transposeSolve}
-use Rattle.bit_rows.specs.Words.{rowAt, matrix}
+use Rattle.binar.specs.Row.{columns, rowSum, units}
+use Rattle.binar.specs.Echelon.{EchelonForm, echelon, R, T, rank}
+use Rattle.binar.specs.Solve.{solved, transposeSolve}
+use Rattle.binar.specs.Words.{rowAt, matrix}
 use Rattle.binar.specs.Layout.{formStride, fits, formIn, Solvable, swept}
 use Rattle.binar.specs.declared.matrix_form.Formation.{Formation}
 use Rattle.binar.specs.declared.matrix_form.Formation.the-variants.{Rank, Misfit}
-use Rattle.row_reduction.specs.Space.{RowSpace, SameSpace, ReducedForm, Independent, Dimension}
+use Rattle.binar.specs.Space.{RowSpace, SameSpace, ReducedForm, Independent, Dimension}
 
 -- 1. T·A = R over GF(2), where T is a square matrix
 pub record TransformLaw (c : ℕ) (A : List ℕ) : Type 0 where

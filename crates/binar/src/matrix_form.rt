@@ -3,14 +3,14 @@ ghost use mathlib.Core.Path.{_≡_};
 ghost use Prim.Native.Nat.{_+_, _*_, _/_, _%_, _^_, _≤_, _<_};
 ghost use lib.Dec.{eqb};
 ghost use lib.ListN.{length, drop};
-ghost use Rattle.bit_rows.specs.Words.{rowAt, putRow, matrix, image};
-ghost use Rattle.row_reduction.specs.Echelon.{besideIdentity};
+ghost use Rattle.binar.specs.Words.{rowAt, putRow, matrix, image};
+ghost use Rattle.binar.specs.Echelon.{besideIdentity};
 ghost use Rattle.binar.specs.Layout.{fits, FormIs, Solvable, swept, solution};
-use bit_rows::row::clear_bits;
-use bit_rows::row::index;
-use bit_rows::row::is_zero;
-use row_reduction::echelon::echelonize;
-use row_sums::sum::bitxor_assign;
+use crate::echelon::echelonize;
+use crate::row::clear_bits;
+use crate::row::index;
+use crate::row::is_zero;
+use crate::sum::bitxor_assign;
 
 // What becomes of a matrix of any shape: its rank, with the echelon form in the slice; or its shape does not fit the slice,
 // which is left alone.

@@ -1,1 +1,3 @@
-pub mod Contracts
+pub mod Code
+pub mod Stretch
+pub mod CallContracts

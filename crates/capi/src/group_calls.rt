@@ -1,25 +1,25 @@
 // The calls on one list. Each lends a work area.
 ghost use lib.ListN.{length};
 ghost use Rattle.pauli_group.specs.Calls.{oneList, standardGenerators, rankCall, phasesCall, abelianCall, stabilizerCall, sizeCall, question, factorizationCall, symplecticCall, elementsCall};
-ghost use Rattle.answer_codes.specs.Code.{codeNumber, codePhases, promiseNumbered};
-ghost use Rattle.capi.specs.Contracts.{Telling, Listing, Factoring};
-use answer_codes::answer::Answer;
-use answer_codes::answer::code_decided;
-use answer_codes::answer::code_member;
-use answer_codes::answer::code_phases;
-use answer_codes::answer::code_rank;
-use answer_codes::answer::code_size;
-use answer_codes::answer::code_wrote;
-use answer_codes::promise::promise_numbered;
-use element_listing::listing::elements;
-use indexed_factorization::factorization::indexed_factorization_of;
+ghost use Rattle.capi.specs.Code.{codeNumber, codePhases, promiseNumbered};
+ghost use Rattle.capi.specs.CallContracts.{Telling, Listing, Factoring};
+use crate::answer::Answer;
+use crate::answer::code_decided;
+use crate::answer::code_member;
+use crate::answer::code_phases;
+use crate::answer::code_rank;
+use crate::answer::code_size;
+use crate::answer::code_wrote;
+use crate::promise::promise_numbered;
 use pauli_group::calls::is_abelian;
 use pauli_group::calls::is_stabilizer_group;
 use pauli_group::calls::log2_size;
 use pauli_group::calls::phases;
 use pauli_group::calls::rank;
 use pauli_group::calls::standard_generators;
-use symplectic_form::symplectic::symplectic_form_of;
+use pauli_group::factorization::indexed_factorization_of;
+use pauli_group::listing::elements;
+use pauli_group::symplectic::symplectic_form_of;
 
 #[no_mangle]
 pub extern "C" fn howhiruke_standard_generators(

@@ -1,5 +1,9 @@
-// Every call for programs in C and Rust: slices pass as a pointer and a length, and the answer is a struct of numbers.
+// Every call for C and Rust: numbers and slices in, five numbers out.
 
+// The answer of a call, and what codes each kind of answer.
+pub mod answer;
+// Promises by number.
+pub mod promise;
 // The calls on rolls alone.
 pub mod roll_calls;
 // The calls on one list.

@@ -1,7 +1,7 @@
 // The echelon form of a matrix.
-ghost use Rattle.capi.specs.Contracts.{Forming};
-use answer_codes::answer::Answer;
-use answer_codes::answer::code_form;
+ghost use Rattle.capi.specs.CallContracts.{Forming};
+use crate::answer::Answer;
+use crate::answer::code_form;
 use binar::matrix_form::echelon_form;
 
 // Reduces a matrix of rows rows of width words, of which cols columns count, in rows of width + (rows + 63) / 64 words.

@@ -1,9 +1,9 @@
 // The call for the closing listing. It lends a work area.
 ghost use lib.ListN.{length};
 ghost use Rattle.closing_report.specs.Listing.{listing, asked};
-ghost use Rattle.capi.specs.Contracts.{Listing};
-use answer_codes::answer::Answer;
-use answer_codes::answer::code_wrote;
+ghost use Rattle.capi.specs.CallContracts.{Listing};
+use crate::answer::Answer;
+use crate::answer::code_wrote;
 use closing_report::report::closing_report;
 
 // Writes the closing listing of an input.

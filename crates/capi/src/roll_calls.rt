@@ -1,27 +1,27 @@
 // The calls on rolls alone. No call here uses a work area.
 ghost use mathlib.Core.Path.{_≡_};
 ghost use Prim.Native.Nat.{_<_};
-ghost use Rattle.rolls.specs.Roll.{countOf};
-ghost use Rattle.refusals.specs.Told.{answer};
-ghost use Rattle.joined_lists.specs.Calls.{productOf, joinOf, entryOf};
-ghost use Rattle.answer_codes.specs.Code.{codeNumber, codeLooked, codeBody};
-ghost use Rattle.capi.specs.Contracts.{Writing, Locating};
-ghost use Rattle.answer_codes.specs.Stretch.{stretchIn};
-use answer_codes::answer::Answer;
-use answer_codes::answer::code_count;
-use answer_codes::answer::code_looked;
-use answer_codes::answer::code_refusal;
-use answer_codes::answer::code_values;
-use answer_codes::answer::code_wrote;
-use joined_lists::joined::CountsFound;
-use joined_lists::joined::joined_counts;
-use joined_lookup::lookup::joined_entry;
-use joining::join::join;
-use products::product::product;
-use refusals::refusal::Reason;
-use refusals::refusal::Refusal;
-use rolls::roll::check_roll;
-use rolls::roll::entry_at;
+ghost use Rattle.pauli.specs.Roll.{countOf};
+ghost use Rattle.pauli.specs.Told.{answer};
+ghost use Rattle.pauli.specs.JoinCalls.{productOf, joinOf, entryOf};
+ghost use Rattle.capi.specs.Code.{codeNumber, codeLooked, codeBody};
+ghost use Rattle.capi.specs.CallContracts.{Writing, Locating};
+ghost use Rattle.capi.specs.Stretch.{stretchIn};
+use crate::answer::Answer;
+use crate::answer::code_count;
+use crate::answer::code_looked;
+use crate::answer::code_refusal;
+use crate::answer::code_values;
+use crate::answer::code_wrote;
+use pauli::join::join;
+use pauli::joined::CountsFound;
+use pauli::joined::joined_counts;
+use pauli::lookup::joined_entry;
+use pauli::product::product;
+use pauli::refusal::Reason;
+use pauli::refusal::Refusal;
+use pauli::roll::check_roll;
+use pauli::roll::entry_at;
 
 // How many Paulis a roll has.
 #[no_mangle]

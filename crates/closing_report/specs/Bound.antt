@@ -3,10 +3,10 @@ use mathlib.Core.Path.{_≡_}
 use mathlib.Core.List.{List}
 use Prim.Native.Nat.{ℕ, _≤_}
 use lib.ListN.{length, take}
-use Rattle.roll_writer.specs.Answers.{toldWrote}
-use Rattle.refusals.specs.Told.{answer}
-use Rattle.roll_writer.specs.declared.write.Wrote.{Wrote}
-use Rattle.work_area.specs.Area.{workWords}
+use Rattle.pauli.specs.WriteAnswers.{toldWrote}
+use Rattle.pauli.specs.Told.{answer}
+use Rattle.pauli.specs.declared.write.Wrote.{Wrote}
+use Rattle.pauli_group.specs.Inner.Area.{workWords}
 use Rattle.closing_report.specs.Contract.{ReportCall}
 use Rattle.closing_report.specs.Listing.{listing}
 

@@ -3,10 +3,10 @@ use mathlib.Core.Path.{_≡_}
 use mathlib.Core.List.{List}
 use Prim.Native.Nat.{ℕ}
 use lib.ListN.{length}
-use Rattle.roll_writer.specs.Answers.{toldWrote}
-use Rattle.roll_writer.specs.Writing.{toldBytes, leftIn}
-use Rattle.roll_writer.specs.declared.write.Wrote.{Wrote}
-use Rattle.work_area.specs.Area.{areaAfter}
+use Rattle.pauli.specs.WriteAnswers.{toldWrote}
+use Rattle.pauli.specs.Writing.{toldBytes, leftIn}
+use Rattle.pauli.specs.declared.write.Wrote.{Wrote}
+use Rattle.pauli_group.specs.Inner.Area.{areaAfter}
 use Rattle.closing_report.specs.Listing.{listing, asked}
 
 pub record ReportCall (input work out : List ℕ) (r : Wrote) (work′ out′ : List ℕ) : Type 0 where

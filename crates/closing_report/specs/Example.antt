@@ -3,15 +3,15 @@ use mathlib.Core.Path.{_≡_}
 use mathlib.Core.List.{List, [], _∷_, _++_}
 use Prim.Native.Nat.{ℕ, _≤_}
 use lib.ListN.{length}
-use Rattle.refusals.specs.Bytes.{le32}
-use Rattle.rolls.specs.Roll.{Sparse, encode}
-use Rattle.refusals.specs.Told.{answer}
-use Rattle.roll_writer.specs.Answers.{toldWrote}
-use Rattle.roll_writer.specs.Writing.{putBytes}
-use Rattle.roll_writer.specs.declared.write.Wrote.{Wrote}
-use Rattle.work_area.specs.Area.{workWords, cleared}
+use Rattle.pauli.specs.Bytes.{le32}
+use Rattle.pauli.specs.Roll.{Sparse, encode}
+use Rattle.pauli.specs.Told.{answer}
+use Rattle.pauli.specs.WriteAnswers.{toldWrote}
+use Rattle.pauli.specs.Writing.{putBytes}
+use Rattle.pauli.specs.declared.write.Wrote.{Wrote}
+use Rattle.pauli_group.specs.Inner.Area.{workWords, cleared}
 use Rattle.closing_report.specs.Contract.{ReportCall}
-use Rattle.report_lines.specs.Decimal.{ascii}
+use Rattle.closing_report.specs.Decimal.{ascii}
 use Rattle.closing_report.specs.Listing.{listing}
 
 -- a length, a generator roll of that length, and an element roll

@@ -1,4 +1,10 @@
-pub mod Listing
-pub mod Contract
+pub mod Decimal
+pub mod Lines
+pub mod Put
+pub mod InputRolls
+pub mod Split
+pub mod Stored
 pub mod Bound
+pub mod Contract
 pub mod Example
+pub mod Listing

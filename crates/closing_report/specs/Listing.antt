@@ -1,17 +1,17 @@
 -- The closing listing, as a function of the input: document 01, "The closing listing".
 use mathlib.Core.List.{List, _++_, map}
 use Prim.Native.Nat.{ℕ}
-use Rattle.refusals.specs.Told.{Told, answer, refused, andThen}
-use Rattle.joined_lists.specs.Calls.{Lists, readBoth}
+use Rattle.pauli.specs.Told.{Told, answer, refused, andThen}
+use Rattle.pauli.specs.JoinCalls.{Lists, readBoth}
 use Rattle.pauli.specs.Pauli.{Pauli}
-use Rattle.rolls.specs.Roll.{read}
+use Rattle.pauli.specs.Roll.{read}
 use Rattle.pauli_theory.specs.Group.{none}
 use Rattle.pauli_theory.specs.Standard.{rank, nonabelian, phaseStep}
 use Rattle.pauli_theory.specs.Membership.{factorizationOf}
-use Rattle.work_area.specs.Area.{enough}
-use Rattle.group_form.specs.Groups.{paulis}
-use Rattle.report_lines.specs.Lines.{firstLine, memberLines, refusedLine}
-use Rattle.report_parts.specs.InputRolls.{rollsIn}
+use Rattle.pauli_group.specs.Inner.Area.{enough}
+use Rattle.pauli_group.specs.Inner.Groups.{paulis}
+use Rattle.closing_report.specs.Lines.{firstLine, memberLines, refusedLine}
+use Rattle.closing_report.specs.InputRolls.{rollsIn}
 
 -- the text for a list of generators and a list of elements; "No promise is made"
 unfoldable pub report : List Pauli → List Pauli → List ℕ

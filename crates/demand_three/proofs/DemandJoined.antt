@@ -7,30 +7,30 @@ use native.Mathlib.Omega.{arith}
 use borrow.Author.Tests.{ltb-false, le-ltb}
 use lib.Dec.{ltb}
 use lib.ListN.{length, take, length-map, length-append, List·getD-map}
-use Rattle.row_reduction.proofs.Lists.{all-join, all-get, all-by}
-use Rattle.roll_writer.specs.Answers.{toldWrote}
-use Rattle.joined_lists.specs.Calls.{readBoth, fewQubits, joinedOf, joinOf}
-use Rattle.roll_paulis.specs.Condense.{nothing}
-use Rattle.rolls.specs.Roll.{mostPaulis, numbers, support, read, byValue, write}
-use Rattle.supports.specs.Support.{mostQubits, All}
-use Rattle.roll_paulis.specs.Sets.{pauliOf}
-use Rattle.refusals.specs.Told.{answer, refuseIf, andThen, mapTold}
-use Rattle.roll_writer.specs.Writing.{toldBytes}
-use Rattle.joining.proofs.JoinedLists.{join-is, joined-law as join-law}
-use Rattle.rolls.proofs.RollLaws.{answer-parts}
-use Rattle.rolls.proofs.ListSupport.{numbers-append, numbers-byValue, support-length}
-use Rattle.rolls.proofs.Told.{test-pass, test-passed, map-test}
+use Rattle.binar.proofs.echelon.Lists.{all-join, all-get, all-by}
+use Rattle.pauli.specs.WriteAnswers.{toldWrote}
+use Rattle.pauli.specs.JoinCalls.{readBoth, fewQubits, joinedOf, joinOf}
+use Rattle.pauli.specs.Condense.{nothing}
+use Rattle.pauli.specs.Roll.{mostPaulis, numbers, support, read, byValue, write}
+use Rattle.pauli.specs.Support.{mostQubits, All}
+use Rattle.pauli.specs.Sets.{pauliOf}
+use Rattle.pauli.specs.Told.{answer, refuseIf, andThen, mapTold}
+use Rattle.pauli.specs.Writing.{toldBytes}
+use Rattle.pauli.proofs.join.JoinedLists.{join-is, joined-law as join-law}
+use Rattle.pauli.proofs.roll.RollLaws.{answer-parts}
+use Rattle.pauli.proofs.roll.ListSupport.{numbers-append, numbers-byValue, support-length}
+use Rattle.pauli.proofs.roll.Told.{test-pass, test-passed, map-test}
 use Rattle.pauli_theory.specs.Group.{Generated, Inside, SameGroup}
 use Rattle.pauli_theory.specs.Order.{Order, equal, less, partialCmp}
 use Rattle.pauli_theory.specs.Theorems.{OrderLaw}
 use Rattle.pauli_theory.proofs.Group.{inside-by, all-inside, inside-join, joined-law, joined-left}
 use Rattle.pauli_theory.proofs.Theorems.{group-laws}
-use Rattle.comparison.specs.Answers.{toldOrder}
-use Rattle.work_area.specs.Area.{enough}
-use Rattle.group_form.specs.Groups.{paulis}
-use Rattle.comparison.specs.Calls.{twoLists, orderCall}
+use Rattle.pauli_group.specs.Answers.{toldOrder}
+use Rattle.pauli_group.specs.Inner.Area.{enough}
+use Rattle.pauli_group.specs.Inner.Groups.{paulis}
+use Rattle.pauli_group.specs.Calls.{twoLists, orderCall}
 use Rattle.demand_three.specs.DemandThree.{Generators, list, Element, pauli, generator, Joining, Comparing, Member, AllMembers, JoinedList, Limits, ifArea, ifRoom}
-use Rattle.group_form.proofs.GroupLaws.{paulis-append}
+use Rattle.pauli_group.proofs.group.GroupLaws.{paulis-append}
 use Rattle.demand_three.proofs.DemandLists.{byValue-group, told-bytes}
 use Rattle.demand_three.proofs.DemandMember.{member-when, member-only}
 

@@ -5,24 +5,24 @@ use Prim.Native.Nat.{ℕ, zero, suc, _+_, _*_, _/_, _%_, _^_, _<_}
 use native.Mathlib.Omega.{arith}
 use lib.ListN.{length, getD, take, drop, length-map, List·getD-map}
 use lib.Seq.{take-at, ext-getD}
-use Rattle.row_reduction.proofs.Lists.{all-map, all-over, all-under}
-use Rattle.refusals.specs.Bytes.{u16At, le16}
+use Rattle.binar.proofs.echelon.Lists.{all-map, all-over, all-under}
+use Rattle.pauli.specs.Bytes.{u16At, le16}
 use Rattle.pauli.specs.Pauli.{Pauli, I, normal, consIf, select}
-use Rattle.rolls.specs.Roll.{Sparse, read, byValue}
-use Rattle.supports.specs.Support.{All}
-use Rattle.roll_paulis.specs.Sets.{members, pauliOf}
-use Rattle.refusals.specs.Told.{Told, answer, refused}
-use Rattle.roll_writer.specs.Writing.{putBytes, toldBytes, leftIn}
-use Rattle.rolls.proofs.BytesLaws.{length-le16, u16-read}
-use Rattle.rolls.proofs.Items.{itemsAt, itemsBytes, length-itemsAt, length-itemsBytes, items-read}
-use Rattle.rolls.proofs.Told.{refused-none, test-passed}
+use Rattle.pauli.specs.Roll.{Sparse, read, byValue}
+use Rattle.pauli.specs.Support.{All}
+use Rattle.pauli.specs.Sets.{members, pauliOf}
+use Rattle.pauli.specs.Told.{Told, answer, refused}
+use Rattle.pauli.specs.Writing.{putBytes, toldBytes, leftIn}
+use Rattle.pauli.proofs.roll.BytesLaws.{length-le16, u16-read}
+use Rattle.pauli.proofs.roll.Items.{itemsAt, itemsBytes, length-itemsAt, length-itemsBytes, items-read}
+use Rattle.pauli.proofs.roll.Told.{refused-none, test-passed}
 use Rattle.pauli_theory.specs.Group.{Generated, Inside, SameGroup}
 use Rattle.pauli_theory.proofs.Agree.{four, agree-normal, agree-flip}
 use Rattle.pauli_theory.proofs.Group.{generated-subgroup, generators, inside-by}
 use Rattle.pauli_theory.proofs.IndexSets.{members-upTo}
 use Rattle.pauli_theory.proofs.OverPlaces.{upTo, upTo-length, upTo-at}
-use Rattle.group_form.specs.Groups.{paulis}
-use Rattle.membership.specs.Members.{le16s}
+use Rattle.pauli_group.specs.Inner.Groups.{paulis}
+use Rattle.pauli_group.specs.Inner.Members.{le16s}
 use Rattle.demand_three.specs.DemandThree.{indexesAt}
 
 -- ---- indexes of two bytes each

@@ -8,18 +8,18 @@ use native.Mathlib.Omega.{arith}
 use borrow.Author.Tests.{ltb-false, le-ltb, lt-leb}
 use lib.Dec.{ltb}
 use lib.ListN.{length, replicate, length-replicate, length-map}
-use Rattle.bit_rows.specs.Row.{weight}
-use Rattle.row_reduction.proofs.Lists.{all-map}
-use Rattle.joined_lists.specs.Calls.{readBoth, within}
+use Rattle.binar.specs.Row.{weight}
+use Rattle.binar.proofs.echelon.Lists.{all-map}
+use Rattle.pauli.specs.JoinCalls.{readBoth, within}
 use Rattle.pauli.specs.Pauli.{indexedProduct}
-use Rattle.rolls.specs.Roll.{mostPaulis}
-use Rattle.roll_paulis.specs.Sets.{members, pauliOf}
-use Rattle.refusals.specs.Told.{answer, refuseIf, andThen, mapTold}
-use Rattle.roll_writer.specs.Writing.{putBytes}
-use Rattle.rolls.proofs.RollLaws.{answer-parts, parts-count}
-use Rattle.roll_paulis.proofs.Sets.{members-rise, members-count}
-use Rattle.supports.proofs.SupportLaws.{rising-bound}
-use Rattle.rolls.proofs.Told.{test-pass, test-passed, map-test}
+use Rattle.pauli.specs.Roll.{mostPaulis}
+use Rattle.pauli.specs.Sets.{members, pauliOf}
+use Rattle.pauli.specs.Told.{answer, refuseIf, andThen, mapTold}
+use Rattle.pauli.specs.Writing.{putBytes}
+use Rattle.pauli.proofs.roll.RollLaws.{answer-parts, parts-count}
+use Rattle.pauli.proofs.condense.Sets.{members-rise, members-count}
+use Rattle.pauli.proofs.support.SupportLaws.{rising-bound}
+use Rattle.pauli.proofs.roll.Told.{test-pass, test-passed, map-test}
 use Rattle.pauli_theory.specs.Group.{Generated}
 use Rattle.pauli_theory.specs.Membership.{Factorization, factorizationOf}
 use Rattle.pauli_theory.specs.Theorems.{MembershipLaw}
@@ -28,8 +28,8 @@ use Rattle.pauli_theory.proofs.Theorems.{group-laws}
 use Rattle.pauli_group.specs.declared.answers.MemberFound.{MemberFound}
 use Rattle.pauli_group.specs.declared.answers.MemberFound.the-variants.{Member as MemberTold, NotMember}
 use Rattle.pauli_group.specs.Answers.{toldFactored}
-use Rattle.work_area.specs.Area.{enough, areaAfter}
-use Rattle.group_form.specs.Groups.{paulis}
+use Rattle.pauli_group.specs.Inner.Area.{enough, areaAfter}
+use Rattle.pauli_group.specs.Inner.Groups.{paulis}
 use Rattle.pauli_group.specs.Calls.{question, factorizationCall, indexBytes, Factored, factored, toldMember, memberLeft}
 use Rattle.demand_three.specs.DemandThree.{Generators, list, Element, pauli, Asked, Member, indexesAt, Gives, ifArea, ifRoom, bytesOf}
 use Rattle.demand_three.proofs.DemandLists.{length-le16s, indexes-read, named-select}

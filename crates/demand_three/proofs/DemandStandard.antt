@@ -8,33 +8,33 @@ use native.Mathlib.Nat.{mod-eq-of-lt}
 use native.Mathlib.Omega.{arith}
 use lib.Dec.{ltb}
 use lib.ListN.{length, take, length-map}
-use Rattle.row_reduction.proofs.Lists.{all-map, all-over}
-use Rattle.roll_writer.specs.Answers.{toldWrote}
-use Rattle.roll_paulis.specs.Sets.{sparseOf, setOf, members}
+use Rattle.binar.proofs.echelon.Lists.{all-map, all-over}
+use Rattle.pauli.specs.WriteAnswers.{toldWrote}
+use Rattle.pauli.specs.Sets.{sparseOf, setOf, members}
 use Rattle.pauli.specs.Pauli.{Pauli}
-use Rattle.roll_paulis.specs.PauliTheorems.{On, PauliOn}
-use Rattle.rolls.specs.Roll.{mostPaulis, highestQubit, Sparse, numbers, support, read, byValue, write}
-use Rattle.supports.specs.Support.{mostQubits, All}
-use Rattle.rolls.specs.RollTheorems.{AllowedSet}
-use Rattle.refusals.specs.Told.{answer, refuseIf, andThen, mapTold}
-use Rattle.roll_writer.specs.Writing.{toldBytes}
-use Rattle.rolls.proofs.Checks.{AllowedSets}
-use Rattle.supports.proofs.Lists.{all-in, all-mem}
-use Rattle.rolls.proofs.RollLaws.{answer-parts}
-use Rattle.roll_paulis.proofs.Sets.{set-members, members-rise, members-only}
-use Rattle.supports.proofs.SupportLaws.{rising-length}
-use Rattle.rolls.proofs.ListSupport.{in-support, support-only, support-rises}
-use Rattle.rolls.proofs.Told.{test-passed, map-test}
+use Rattle.pauli.specs.PauliTheorems.{On, PauliOn}
+use Rattle.pauli.specs.Roll.{mostPaulis, highestQubit, Sparse, numbers, support, read, byValue, write}
+use Rattle.pauli.specs.Support.{mostQubits, All}
+use Rattle.pauli.specs.RollTheorems.{AllowedSet}
+use Rattle.pauli.specs.Told.{answer, refuseIf, andThen, mapTold}
+use Rattle.pauli.specs.Writing.{toldBytes}
+use Rattle.pauli.proofs.roll.Checks.{AllowedSets}
+use Rattle.pauli.proofs.support.Lists.{all-in, all-mem}
+use Rattle.pauli.proofs.roll.RollLaws.{answer-parts}
+use Rattle.pauli.proofs.condense.Sets.{set-members, members-rise, members-only}
+use Rattle.pauli.proofs.support.SupportLaws.{rising-length}
+use Rattle.pauli.proofs.roll.ListSupport.{in-support, support-only, support-rises}
+use Rattle.pauli.proofs.roll.Told.{test-passed, map-test}
 use Rattle.pauli_theory.specs.Group.{SameGroup}
 use Rattle.pauli_theory.specs.Standard.{supportOf, standard}
 use Rattle.pauli_theory.specs.Theorems.{StandardLaw}
 use Rattle.pauli_theory.proofs.Theorems.{group-laws}
 use Rattle.pauli_theory.proofs.Written.{support-of}
-use Rattle.work_area.specs.Area.{enough}
-use Rattle.group_form.specs.Groups.{paulis}
+use Rattle.pauli_group.specs.Inner.Area.{enough}
+use Rattle.pauli_group.specs.Inner.Groups.{paulis}
 use Rattle.pauli_group.specs.Calls.{oneList, standardBytes, standardGenerators}
 use Rattle.demand_three.specs.DemandThree.{Generators, list, Standardized, ifArea, ifRoom}
-use Rattle.joining.proofs.JoinedLists.{written-read}
+use Rattle.pauli.proofs.join.JoinedLists.{written-read}
 use Rattle.demand_three.proofs.DemandLists.{told-bytes}
 use Rattle.demand_three.proofs.DemandMember.{list-few}
 

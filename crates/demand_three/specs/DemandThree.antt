@@ -8,26 +8,26 @@ use mathlib.Core.Option.{Option, some, none}
 use Prim.Native.Nat.{ℕ, zero, suc, _+_, _*_, _≤_, _<_}
 use lib.Dec.{ltb}
 use lib.ListN.{length, getD, take}
-use Rattle.roll_writer.specs.declared.write.Wrote.{Wrote}
-use Rattle.roll_writer.specs.Answers.{toldWrote}
-use Rattle.refusals.specs.Bytes.{u16At}
-use Rattle.roll_paulis.specs.Condense.{nothing}
+use Rattle.pauli.specs.declared.write.Wrote.{Wrote}
+use Rattle.pauli.specs.WriteAnswers.{toldWrote}
+use Rattle.pauli.specs.Bytes.{u16At}
+use Rattle.pauli.specs.Condense.{nothing}
 use Rattle.pauli.specs.Pauli.{Pauli, I, Same, turned, product}
-use Rattle.rolls.specs.Roll.{Sparse, support, read, byValue, write}
-use Rattle.supports.specs.Support.{All, Rising}
-use Rattle.roll_paulis.specs.Sets.{pauliOf}
-use Rattle.refusals.specs.Told.{Told, answer, refuseIf}
+use Rattle.pauli.specs.Roll.{Sparse, support, read, byValue, write}
+use Rattle.pauli.specs.Support.{All, Rising}
+use Rattle.pauli.specs.Sets.{pauliOf}
+use Rattle.pauli.specs.Told.{Told, answer, refuseIf}
 use Rattle.pauli_theory.specs.Group.{Generated, SameGroup, Promise, Honest}
 use Rattle.pauli_theory.specs.Order.{Order, equal, less}
 use Rattle.pauli_group.specs.declared.answers.MemberFound.{MemberFound}
-use Rattle.comparison.specs.declared.answers.OrderFound.{OrderFound}
+use Rattle.pauli_group.specs.declared.answers.OrderFound.{OrderFound}
 use Rattle.pauli_group.specs.Answers.{toldFactored}
-use Rattle.comparison.specs.Answers.{toldOrder}
-use Rattle.group_form.specs.Groups.{paulis}
+use Rattle.pauli_group.specs.Answers.{toldOrder}
+use Rattle.pauli_group.specs.Inner.Groups.{paulis}
 use Rattle.pauli_group.specs.Calls.{Factored}
-use Rattle.pauli_group.specs.Contracts.{StandardCall, MemberCall}
-use Rattle.comparison.specs.Contracts.{OrderCall}
-use Rattle.joined_lists.specs.Contracts.{JoinCall}
+use Rattle.pauli_group.specs.CallContracts.{StandardCall, MemberCall}
+use Rattle.pauli_group.specs.CallContracts.{OrderCall}
+use Rattle.pauli.specs.JoinContract.{JoinCall}
 
 -- ---- lists and elements
 

@@ -8,15 +8,15 @@ use lib.ListN.{length, getD, take, drop}
 use lib.Seq.{getD-take, getD-drop}
 use Rattle.binar.specs.declared.matrix_form.Formation.{Formation}
 use Rattle.binar.specs.declared.matrix_form.Formation.the-variants.{Rank}
-use Rattle.bit_rows.specs.Words.{matrix, putRow}
-use Rattle.row_reduction.specs.Echelon.{echelon, rank}
+use Rattle.binar.specs.Words.{matrix, putRow}
+use Rattle.binar.specs.Echelon.{echelon, rank}
 use Rattle.binar.specs.Layout.{formStride, fits, FormIs, formIn, Solvable}
-use Rattle.row_reduction.proofs.Bounds.{rank-rows}
-use Rattle.row_reduction.proofs.Matrix.{length-matrix}
-use Rattle.bit_rows.proofs.Slice.{length-put}
-use Rattle.binar.proofs.Sweep.{get-put-before}
-use Rattle.binar.proofs.Formed.{fits-true}
-use Rattle.binar.proofs.Theorems.{form-law, reduced-law}
+use Rattle.binar.proofs.echelon.Bounds.{rank-rows}
+use Rattle.binar.proofs.echelon.Matrix.{length-matrix}
+use Rattle.binar.proofs.row.Slice.{length-put}
+use Rattle.binar.proofs.matrix_form.Sweep.{get-put-before}
+use Rattle.binar.proofs.matrix_form.Formed.{fits-true}
+use Rattle.binar.proofs.matrix_form.Theorems.{form-law, reduced-law}
 use Rattle.matrices.specs.Room.{SameBefore}
 
 -- after `echelon_form` has told a rank, targets behind the pivots can be solved for

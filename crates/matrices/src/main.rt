@@ -11,10 +11,10 @@ use binar::matrix_form::Formation;
 use binar::matrix_form::Solution;
 use binar::matrix_form::echelon_form;
 use binar::matrix_form::transpose_solve;
-use bit_rows::row::clear_bits;
-use bit_rows::row::index;
+use binar::row::clear_bits;
+use binar::row::index;
+use binar::sum::bitxor_assign;
 use libc::STDOUT_FILENO;
-use row_sums::sum::bitxor_assign;
 
 // ---- lines. A line that is longer than its buffer is cut.
 

@@ -6,7 +6,7 @@ use mathlib.Core.List.{List, [], _∷_}
 use Prim.Native.Nat.{ℕ, zero, suc, _+_, _*_, _/_, _%_}
 use lib.Bits.{bitOr}
 use lib.Dec.{eqb}
-use Rattle.bit_rows.specs.Row.{_⊕_, dot, weight}
+use Rattle.binar.specs.Row.{_⊕_, dot, weight}
 
 -- "A Pauli (e, x, z) is i^e times X on set x, then Z on set z"
 pub record Pauli : Type 0 where

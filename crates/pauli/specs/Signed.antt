@@ -4,7 +4,7 @@ use Prim.Native.Nat.{ℕ, zero, suc, _+_, _*_, _%_, _^_}
 use lib.ListN.{getD}
 use Rattle.pauli.specs.declared.signed.Pauli.{Pauli as Held}
 use Rattle.pauli.specs.Pauli.{Pauli}
-use Rattle.places.specs.PlaceSet.{setIn}
+use Rattle.pauli.specs.PlaceSet.{setIn}
 
 -- the Pauli that is held, over places
 unfoldable pub held : Held → Pauli

@@ -6,8 +6,8 @@ ghost use lib.ListN.{length};
 ghost use lib.Seq.{sets};
 ghost use Rattle.pauli.specs.Pauli.{I, normal, times as timesOf, anticommute, pauliWeight, orderFour, isIdentity, indexedProduct};
 ghost use Rattle.pauli.specs.Signed.{held, pauliIn, pauliWords, listIn};
-ghost use Rattle.places.specs.PlaceSet.{setIn};
-use places::places::Places;
+ghost use Rattle.pauli.specs.PlaceSet.{setIn};
+use crate::places::Places;
 
 // The exponent is eight bits and wraps; its value is its remainder by 4.
 pub struct Pauli {

@@ -1,8 +1,8 @@
 -- What the answers of the group calls tell: document 01's numbers and values for each of their cases.
 use Prim.Native.Nat.{ℕ}
 use mathlib.Core.Option.{Option, some, none as nothing}
-use Rattle.refusals.specs.Refusals.{toldRefusal}
-use Rattle.refusals.specs.Told.{Told, answer}
+use Rattle.pauli.specs.Refusals.{toldRefusal}
+use Rattle.pauli.specs.Told.{Told, answer}
 use Rattle.pauli_group.specs.declared.answers.Phases.{Phases}
 use Rattle.pauli_group.specs.declared.answers.Phases.the-variants.{Zero, ZeroTwo, All}
 use Rattle.pauli_group.specs.declared.answers.RankFound.{RankFound}
@@ -17,6 +17,11 @@ use Rattle.pauli_group.specs.declared.answers.Factors.{Factors}
 use Rattle.pauli_group.specs.declared.answers.MemberFound.{MemberFound}
 use Rattle.pauli_group.specs.declared.answers.MemberFound.the-variants.{Member, NotMember, Refused as MemberRefused}
 use Rattle.pauli_group.specs.Calls.{Factored}
+use Rattle.pauli_theory.specs.Order.{Order as Compared, equal, less, greater, noOrder}
+use Rattle.pauli_group.specs.declared.answers.Order.{Order}
+use Rattle.pauli_group.specs.declared.answers.Order.the-variants.{Equal, Less, Greater, NoOrder}
+use Rattle.pauli_group.specs.declared.answers.OrderFound.{OrderFound}
+use Rattle.pauli_group.specs.declared.answers.OrderFound.the-variants.{Order as OrderTold, Refused as OrderRefused}
 
 -- the phases are the multiples, below 4, of this number
 abbrev pub stepTold : Phases → ℕ
@@ -50,3 +55,13 @@ abbrev pub toldFactored : MemberFound → Told (Option Factored)
 toldFactored (Member f) = answer (some (factorsIn f))
 toldFactored NotMember = answer nothing
 toldFactored (MemberRefused r) = toldRefusal r
+
+abbrev pub orderOf : Order → Compared
+orderOf Equal = equal
+orderOf Less = less
+orderOf Greater = greater
+orderOf NoOrder = noOrder
+
+abbrev pub toldOrder : OrderFound → Told Compared
+toldOrder (OrderTold o) = answer (orderOf o)
+toldOrder (OrderRefused r) = toldRefusal r

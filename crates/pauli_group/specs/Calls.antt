@@ -2,25 +2,28 @@
 use mathlib.Core.Bool.{cond}
 use mathlib.Core.List.{List, map}
 use mathlib.Core.Option.{Option, some, none}
-use Prim.Native.Nat.{ℕ}
+use Prim.Native.Nat.{ℕ, _+_}
 use lib.Dec.{ltb}
 use lib.ListN.{length, getD}
-use Rattle.bit_rows.specs.Row.{weight}
-use Rattle.joined_lists.specs.Calls.{readBoth, within, Counts}
-use Rattle.roll_paulis.specs.Sets.{sparseOf, members, pauliOf}
-use Rattle.roll_paulis.specs.Condense.{nothing}
+use Rattle.binar.specs.Row.{weight}
+use Rattle.pauli.specs.JoinCalls.{readBoth, within, Counts, fewQubits}
+use Rattle.pauli.specs.Sets.{sparseOf, members, pauliOf}
+use Rattle.pauli.specs.Condense.{nothing}
 use Rattle.pauli.specs.Pauli.{Pauli}
-use Rattle.rolls.specs.Roll.{read, write}
-use Rattle.refusals.specs.Told.{Told, answer, refused, refuseIf, andThen, mapTold}
-use Rattle.roll_writer.specs.Writing.{putBytes}
+use Rattle.pauli.specs.Roll.{read, write, mostPaulis}
+use Rattle.pauli.specs.Told.{Told, answer, refused, refuseIf, andThen, mapTold}
+use Rattle.pauli.specs.Writing.{putBytes}
 use Rattle.pauli_theory.specs.Group.{Promise}
 use Rattle.pauli_theory.specs.Standard.{ifZero, standard, rank, nonabelian, phaseStep, log2Size, stabilizer}
 use Rattle.pauli_theory.specs.Membership.{Factorization, factorizationOf}
 use Rattle.pauli_theory.specs.Listing.{elementsOf, page}
 use Rattle.pauli_theory.specs.Symplectic.{symplecticForm}
-use Rattle.work_area.specs.Area.{enough}
-use Rattle.group_form.specs.Groups.{paulis}
-use Rattle.membership.specs.Members.{le16s}
+use Rattle.pauli_group.specs.Inner.Area.{enough}
+use Rattle.pauli_group.specs.Inner.Groups.{paulis}
+use Rattle.pauli_group.specs.Inner.Members.{le16s}
+use Rattle.pauli_theory.specs.Modulo.{modulo, tryQuotient}
+use Rattle.pauli_theory.specs.Order.{Order, partialCmp}
+use Rattle.pauli_theory.specs.Common.{bitand}
 
 -- ---- calls on one list
 
@@ -117,3 +120,46 @@ pageBytes promise start count gs = write (map sparseOf (page start count (elemen
 unfoldable pub elementsCall : Promise → ℕ → ℕ → List ℕ → ℕ → Told (List ℕ)
 elementsCall promise start count b words =
     andThen (oneList b words) λ gs. refuseIf (ltb mostListed (rank gs)) 10 0 (answer (pageBytes promise start count gs))
+
+-- two lists that can be joined
+pub record Pair : Type 0 where
+  pub left : List Pauli
+  pub right : List Pauli
+
+-- both rolls (1 to 7), the joined limits (2, 7), the work area (9)
+unfoldable pub twoLists : List ℕ → List ℕ → ℕ → Told Pair
+twoLists l r words =
+    andThen (readBoth l r) λ b. refuseIf (ltb mostPaulis (length (b .left) + length (b .right))) 2 0
+    (fewQubits b (enough words (answer (record { left = paulis (b .left); right = paulis (b .right) }))))
+
+unfoldable pub orderCall : Promise → Promise → List ℕ → List ℕ → ℕ → Told Order
+orderCall left right l r words = mapTold (λ b. partialCmp left right (b .left) (b .right)) (twoLists l r words)
+
+-- ---- modulo and quotient
+
+-- "`modulo` as written": the left list by the right one, whose promise alone is read
+unfoldable pub moduloBytes : Promise → Pair → List ℕ
+moduloBytes right b = write (map sparseOf (modulo right (b .left) (b .right)))
+
+unfoldable pub moduloCall : Promise → List ℕ → List ℕ → ℕ → Told (List ℕ)
+moduloCall right l r words = mapTold (moduloBytes right) (twoLists l r words)
+
+-- "divisor not a subgroup"
+unfoldable pub quotientBytes : Option (List Pauli) → Told (List ℕ)
+quotientBytes (some ps) = answer (write (map sparseOf ps))
+quotientBytes none = refused 11 0
+
+-- "`try_quotient` is the reference": the left list by the right one, the divisor; after the work area (9) the divisor (11)
+unfoldable pub quotientCall : Promise → Promise → List ℕ → List ℕ → ℕ → Told (List ℕ)
+quotientCall left right l r words = andThen (twoLists l r words) λ b. quotientBytes (tryQuotient left right (b .left) (b .right))
+
+-- a list as a written roll
+unfoldable pub listBytes : List Pauli → List ℕ
+listBytes ps = write (map sparseOf ps)
+
+-- "`bitand` is the common part in the crate's reading"
+unfoldable pub commonBytes : Promise → Promise → Pair → List ℕ
+commonBytes left right b = listBytes (bitand left right (b .left) (b .right))
+
+unfoldable pub commonCall : Promise → Promise → List ℕ → List ℕ → ℕ → Told (List ℕ)
+commonCall left right l r words = mapTold (commonBytes left right) (twoLists l r words)

@@ -1,3 +1,5 @@
-pub mod Calls
+pub mod Inner
+pub mod Promises
 pub mod Answers
-pub mod Contracts
+pub mod Calls
+pub mod CallContracts

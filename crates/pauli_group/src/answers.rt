@@ -1,5 +1,5 @@
 // What the calls on one list answer.
-use refusals::refusal::Refusal;
+use pauli::refusal::Refusal;
 
 // The phases of a group.
 pub enum Phases {
@@ -38,5 +38,18 @@ pub struct Factors {
 pub enum MemberFound {
     Member(Factors),
     NotMember,
+    Refused(Refusal),
+}
+
+// How two groups compare: the left one is the same, inside the right one or around it, or none of these.
+pub enum Order {
+    Equal,
+    Less,
+    Greater,
+    NoOrder,
+}
+
+pub enum OrderFound {
+    Order(Order),
     Refused(Refusal),
 }

@@ -4,8 +4,8 @@ use mathlib.Core.List.{List}
 use Prim.Native.Nat.{ℕ, zero, suc}
 use native.Mathlib.Omega.{arith}
 use lib.ListN.{getD}
-use Rattle.row_reduction.proofs.Lists.{all-map, all-get, all-by}
-use Rattle.supports.specs.Support.{All}
+use Rattle.binar.proofs.echelon.Lists.{all-map, all-get, all-by}
+use Rattle.pauli.specs.Support.{All}
 use Rattle.pauli.specs.Pauli.{Pauli, I, anticommute}
 use Rattle.pauli_theory.specs.Group.{Generated, Abelian, NotAbelian, Promise, none, abelian, notAbelian, Honest}
 use Rattle.pauli_theory.specs.Standard.{standard, someAnticommute, nonabelian}

@@ -5,11 +5,11 @@ use mathlib.Core.List.{List, [], _∷_}
 use Prim.Native.Nat.{ℕ, _+_, _-_, _*_, _/_, _%_, _≤_, _<_}
 use native.Mathlib.Nat.{add-zero, mod-mod}
 use native.Mathlib.Omega.{arith}
-use Rattle.bit_rows.specs.Row.{_⊕_, dot}
-use Rattle.row_reduction.proofs.Span.{ifBit-case}
-use Rattle.supports.specs.Support.{All}
+use Rattle.binar.specs.Row.{_⊕_, dot}
+use Rattle.binar.proofs.echelon.Span.{ifBit-case}
+use Rattle.pauli.specs.Support.{All}
 use Rattle.pauli.specs.Pauli.{Pauli, I, normal, Same, times, turned, product, indexedProduct, select}
-use Rattle.pauli.proofs.Products.{product-cons, product-none, indexed-cons}
+use Rattle.pauli.proofs.signed.Products.{product-cons, product-none, indexed-cons}
 use Rattle.pauli_theory.specs.Standard.{exponentMod}
 use Rattle.pauli_theory.specs.Membership.{exponentLeft}
 

@@ -6,9 +6,9 @@ use Prim.Native.Nat.{ℕ, _*_, _%_, _≤_, _<_, max}
 use native.Mathlib.Omega.{arith}
 use lib.ListN.{length, take, drop, length-map, length-append}
 use lib.Seq.{take-at, drop-at}
-use Rattle.row_reduction.proofs.Transform.{rows-count}
+use Rattle.binar.proofs.echelon.Transform.{rows-count}
 use Rattle.pauli.specs.Pauli.{Pauli, indexedProduct}
-use Rattle.roll_paulis.specs.Sets.{rowOf}
+use Rattle.pauli.specs.Sets.{rowOf}
 use Rattle.pauli_theory.specs.Standard.{supportOf, formOf, rank, phaseOf, ifZero, zeroRows, nonzeroRows, modulusOf, modulus, someOrderFour, someAnticommute, appended, exponentMod, standard}
 use Rattle.pauli_theory.proofs.Agree.{Divisor, divisor-positive, divisor-le}
 use Rattle.pauli_theory.proofs.Form.{rows-split}

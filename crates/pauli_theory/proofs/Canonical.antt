@@ -6,15 +6,15 @@ use native.Mathlib.Nat.{mod-eq-of-lt}
 use native.Mathlib.Decide.{decLt}
 use native.Mathlib.Omega.{arith}
 use lib.ListN.{length, take}
-use Rattle.row_reduction.specs.Echelon.{echelon, R, rank as echelonRank}
-use Rattle.row_reduction.specs.Space.{RowSpace, SameSpace}
-use Rattle.row_reduction.proofs.Lists.{all-map, all-zip, all-over}
-use Rattle.row_reduction.proofs.Span.{same-space}
-use Rattle.binar.proofs.Theorems.{unique-law}
-use Rattle.supports.specs.Support.{All}
+use Rattle.binar.specs.Echelon.{echelon, R, rank as echelonRank}
+use Rattle.binar.specs.Space.{RowSpace, SameSpace}
+use Rattle.binar.proofs.echelon.Lists.{all-map, all-zip, all-over}
+use Rattle.binar.proofs.echelon.Span.{same-space}
+use Rattle.binar.proofs.matrix_form.Theorems.{unique-law}
+use Rattle.pauli.specs.Support.{All}
 use Rattle.pauli.specs.Pauli.{Pauli}
-use Rattle.roll_paulis.specs.Sets.{rowOf}
-use Rattle.pauli.proofs.Algebra.{pauli-path}
+use Rattle.pauli.specs.Sets.{rowOf}
+use Rattle.pauli.proofs.signed.Algebra.{pauli-path}
 use Rattle.pauli_theory.specs.Group.{Generated, Inside}
 use Rattle.pauli_theory.specs.Standard.{supportOf, formOf, standard}
 use Rattle.pauli_theory.specs.Theorems.{CanonicalLaw}

@@ -7,16 +7,16 @@ use Prim.Native.Nat.{ℕ, zero, suc, _+_, _*_, _/_, _%_, _^_, _≤_, _<_, min, m
 use native.Mathlib.Omega.{arith}
 use native.Mathlib.Decide.{ℕ-discrete}
 use lib.ListN.{length, length-append, length-map}
-use Rattle.row_reduction.specs.Space.{RowSpace}
-use Rattle.row_reduction.proofs.Lists.{all-map, all-join, all-left, all-right, all-over, all-of, map-same}
-use Rattle.row_reduction.proofs.Span.{below-subspace, space-rows, space-in}
-use Rattle.rolls.specs.Roll.{mostPaulis}
-use Rattle.supports.specs.Support.{All}
+use Rattle.binar.specs.Space.{RowSpace}
+use Rattle.binar.proofs.echelon.Lists.{all-map, all-join, all-left, all-right, all-over, all-of, map-same}
+use Rattle.binar.proofs.echelon.Span.{below-subspace, space-rows, space-in}
+use Rattle.pauli.specs.Roll.{mostPaulis}
+use Rattle.pauli.specs.Support.{All}
 use Rattle.pauli.specs.Pauli.{Pauli, I}
-use Rattle.roll_paulis.specs.Sets.{rowOf, pauliOfRow}
-use Rattle.roll_paulis.specs.PauliTheorems.{PauliOn}
-use Rattle.roll_paulis.proofs.Places.{expand-on}
-use Rattle.roll_paulis.proofs.Rows.{back-row, on-I}
+use Rattle.pauli.specs.Sets.{rowOf, pauliOfRow}
+use Rattle.pauli.specs.PauliTheorems.{PauliOn}
+use Rattle.pauli.proofs.condense.Places.{expand-on}
+use Rattle.pauli.proofs.condense.Rows.{back-row, on-I}
 use Rattle.pauli_theory.specs.Group.{Promise}
 use Rattle.pauli_theory.specs.Standard.{supportOf, ifZero, phase, standard, phaseStep}
 use Rattle.pauli_theory.specs.Membership.{Factorization, factorizationOf}

@@ -5,9 +5,9 @@ use mathlib.Core.List.{List, _++_, map, map-append}
 use Prim.Native.Nat.{ℕ, _+_, _*_, _%_, _^_, _≤_}
 use native.Mathlib.Omega.{arith}
 use lib.ListN.{length, length-append}
-use Rattle.row_reduction.specs.Echelon.{echelon, rank as echelonRank}
+use Rattle.binar.specs.Echelon.{echelon, rank as echelonRank}
 use Rattle.pauli.specs.Pauli.{Pauli}
-use Rattle.roll_paulis.specs.Sets.{rowOf}
+use Rattle.pauli.specs.Sets.{rowOf}
 use Rattle.pauli_theory.specs.Group.{Inside}
 use Rattle.pauli_theory.specs.Standard.{supportOf, formOf, rank, appended, ifZero, standard}
 use Rattle.pauli_theory.specs.CommonPlaces.{formOfPlaces}

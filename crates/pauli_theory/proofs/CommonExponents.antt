@@ -7,14 +7,14 @@ use Prim.Native.Nat.{ℕ, zero, suc, _+_, _-_, _*_, _%_, _≤_, _<_, max}
 use native.Mathlib.Nat.{mod-eq-of-lt}
 use native.Mathlib.Omega.{arith}
 use lib.ListN.{length}
-use Rattle.row_reduction.specs.Solve.{transposeSolve}
-use Rattle.row_reduction.specs.Space.{RowSpace}
-use Rattle.row_reduction.proofs.Lists.{all-zip, all-under}
-use Rattle.row_reduction.proofs.Span.{space-rows}
-use Rattle.supports.specs.Support.{All}
+use Rattle.binar.specs.Solve.{transposeSolve}
+use Rattle.binar.specs.Space.{RowSpace}
+use Rattle.binar.proofs.echelon.Lists.{all-zip, all-under}
+use Rattle.binar.proofs.echelon.Span.{space-rows}
+use Rattle.pauli.specs.Support.{All}
 use Rattle.pauli.specs.Pauli.{Pauli, indexedProduct}
-use Rattle.roll_paulis.specs.Sets.{rowOf}
-use Rattle.roll_paulis.specs.PauliTheorems.{PauliOn}
+use Rattle.pauli.specs.Sets.{rowOf}
+use Rattle.pauli.specs.PauliTheorems.{PauliOn}
 use Rattle.pauli_theory.specs.Group.{Inside, Promise}
 use Rattle.pauli_theory.specs.Standard.{supportOf, formOf, ifZero, phaseStep}
 use Rattle.pauli_theory.specs.Membership.{Factorization, outside, exponentLeft, withPhase, factorizationOf}

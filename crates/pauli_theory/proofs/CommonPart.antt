@@ -6,12 +6,12 @@ use mathlib.Core.Option.{Option, some, none}
 use Prim.Native.Nat.{ℕ, _+_, _%_}
 use native.Mathlib.Nat.{mod-mod}
 use native.Mathlib.Omega.{arith}
-use Rattle.row_reduction.specs.Space.{RowSpace}
-use Rattle.row_reduction.proofs.Lists.{all-of, all-left, all-right}
-use Rattle.supports.specs.Support.{All}
+use Rattle.binar.specs.Space.{RowSpace}
+use Rattle.binar.proofs.echelon.Lists.{all-of, all-left, all-right}
+use Rattle.pauli.specs.Support.{All}
 use Rattle.pauli.specs.Pauli.{Pauli, turned, indexedProduct}
-use Rattle.roll_paulis.specs.Sets.{rowOf}
-use Rattle.roll_paulis.specs.PauliTheorems.{PauliOn}
+use Rattle.pauli.specs.Sets.{rowOf}
+use Rattle.pauli.specs.PauliTheorems.{PauliOn}
 use Rattle.pauli_theory.specs.Group.{Generated, Inside, Promise, Honest}
 use Rattle.pauli_theory.specs.Standard.{supportOf, phaseStep}
 use Rattle.pauli_theory.specs.Membership.{exponentLeft}

@@ -5,19 +5,19 @@ use Prim.Native.Nat.{ℕ, suc, _+_, _-_, _*_, _/_, _%_, _^_, _≤_, _<_}
 use native.Mathlib.Omega.{arith}
 use lib.ListN.{length}
 use lib.Pow.{field, mod-mod-pow}
-use Rattle.bit_rows.specs.Row.{ifBit, rowSum}
-use Rattle.row_reduction.specs.Echelon.{Row, echelon}
-use Rattle.row_reduction.proofs.Lists.{all-of, all-map, all-left, all-over, map-same}
-use Rattle.row_reduction.proofs.Span.{rowSum-mod}
-use Rattle.supports.specs.Support.{All, Rising}
+use Rattle.binar.specs.Row.{ifBit, rowSum}
+use Rattle.binar.specs.Echelon.{Row, echelon}
+use Rattle.binar.proofs.echelon.Lists.{all-of, all-map, all-left, all-over, map-same}
+use Rattle.binar.proofs.echelon.Span.{rowSum-mod}
+use Rattle.pauli.specs.Support.{All, Rising}
 use Rattle.pauli.specs.Pauli.{Pauli, I, normal, times, select, indexedProduct}
-use Rattle.roll_paulis.specs.Sets.{rowOf, pauliOfRow}
-use Rattle.roll_paulis.specs.PauliTheorems.{PauliOn}
-use Rattle.roll_paulis.specs.Condense.{condensed}
-use Rattle.roll_writer.specs.Writing.{OnPlaces}
-use Rattle.pauli.proofs.Algebra.{normal-lt}
-use Rattle.pauli.proofs.Products.{product-none, indexed-cons}
-use Rattle.roll_paulis.proofs.Rows.{row-back}
+use Rattle.pauli.specs.Sets.{rowOf, pauliOfRow}
+use Rattle.pauli.specs.PauliTheorems.{PauliOn}
+use Rattle.pauli.specs.Condense.{condensed}
+use Rattle.pauli.specs.Writing.{OnPlaces}
+use Rattle.pauli.proofs.signed.Algebra.{normal-lt}
+use Rattle.pauli.proofs.signed.Products.{product-none, indexed-cons}
+use Rattle.pauli.proofs.condense.Rows.{row-back}
 use Rattle.pauli_theory.specs.Standard.{supportOf, zeroRows, nonzeroRows, standard}
 use Rattle.pauli_theory.specs.Common.{dependencies, commonSums, commonRows, commonBasis, withExponent}
 use Rattle.pauli_theory.specs.CommonPlaces.{dependencyProducts, basisProducts, commonProducts}

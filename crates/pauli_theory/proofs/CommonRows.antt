@@ -8,14 +8,14 @@ use native.Mathlib.Omega.{arith}
 use lib.Arith.{digits-lt}
 use lib.ListN.{length, length-append}
 use lib.Pow.{pow-pos, pow-add}
-use Rattle.bit_rows.specs.Row.{_⊕_, rowSum}
-use Rattle.row_reduction.specs.Echelon.{echelon}
-use Rattle.row_reduction.specs.Space.{RowSpace}
-use Rattle.bit_rows.proofs.Bits.{xor-self, xor-eq-zero, xor-mod, beside-mod, beside-shr}
-use Rattle.row_reduction.proofs.Dimension.{independent-le}
-use Rattle.row_reduction.proofs.Lists.{all-map, all-join, all-over, all-under}
-use Rattle.row_reduction.proofs.Span.{Additive, sum-in, below-subspace, under-subspace, rowSum-xor, rowSum-mod, space-subspace, space-rows, space-in}
-use Rattle.supports.specs.Support.{All}
+use Rattle.binar.specs.Row.{_⊕_, rowSum}
+use Rattle.binar.specs.Echelon.{echelon}
+use Rattle.binar.specs.Space.{RowSpace}
+use Rattle.binar.proofs.row.Bits.{xor-self, xor-eq-zero, xor-mod, beside-mod, beside-shr}
+use Rattle.binar.proofs.echelon.Dimension.{independent-le}
+use Rattle.binar.proofs.echelon.Lists.{all-map, all-join, all-over, all-under}
+use Rattle.binar.proofs.echelon.Span.{Additive, sum-in, below-subspace, under-subspace, rowSum-xor, rowSum-mod, space-subspace, space-rows, space-in}
+use Rattle.pauli.specs.Support.{All}
 use Rattle.pauli_theory.specs.Standard.{zeroRows}
 use Rattle.pauli_theory.specs.Common.{dependencies, commonSums, commonRows}
 use Rattle.pauli_theory.specs.Theorems.{CommonRowsLaw}

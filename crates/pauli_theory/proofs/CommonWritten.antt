@@ -5,15 +5,15 @@ use mathlib.Core.Option.{Option, some, none}
 use Prim.Native.Nat.{ℕ, zero, suc, _+_, _*_, _%_, max}
 use native.Mathlib.Omega.{arith}
 use lib.ListN.{length}
-use Rattle.row_reduction.specs.Solve.{transposeSolve}
-use Rattle.row_reduction.proofs.Lists.{all-zip}
-use Rattle.rolls.specs.Roll.{write}
-use Rattle.supports.specs.Support.{All}
+use Rattle.binar.specs.Solve.{transposeSolve}
+use Rattle.binar.proofs.echelon.Lists.{all-zip}
+use Rattle.pauli.specs.Roll.{write}
+use Rattle.pauli.specs.Support.{All}
 use Rattle.pauli.specs.Pauli.{Pauli, indexedProduct}
-use Rattle.roll_paulis.specs.Sets.{rowOf, sparseOf}
-use Rattle.roll_paulis.specs.PauliTheorems.{PauliOn}
-use Rattle.roll_paulis.specs.Condense.{condensed}
-use Rattle.roll_writer.specs.Writing.{rollOver, OnPlaces}
+use Rattle.pauli.specs.Sets.{rowOf, sparseOf}
+use Rattle.pauli.specs.PauliTheorems.{PauliOn}
+use Rattle.pauli.specs.Condense.{condensed}
+use Rattle.pauli.specs.Writing.{rollOver, OnPlaces}
 use Rattle.pauli_theory.specs.Group.{Promise}
 use Rattle.pauli_theory.specs.Standard.{supportOf, ifZero, phase, phaseStep}
 use Rattle.pauli_theory.specs.Common.{commonBasis, withExponent, commonPhase, consSome, sharedOf, phasesFrom, commonPhases, commonPart}

@@ -4,7 +4,7 @@ use mathlib.Core.List.{List}
 use Prim.Native.Nat.{ℕ, _+_, _*_}
 use native.Mathlib.Omega.{arith}
 use Rattle.pauli.specs.Pauli.{Pauli, I, times, turned, orderFour}
-use Rattle.pauli.proofs.Algebra.{times-assoc, times-I, times-lt, times-self, turned-times-r, turned-turned, turned-normal}
+use Rattle.pauli.proofs.signed.Algebra.{times-assoc, times-I, times-lt, times-self, turned-times-r, turned-turned, turned-normal}
 use Rattle.pauli_theory.specs.Group.{Generated, Inside}
 use Rattle.pauli_theory.specs.Membership.{exponentLeft}
 use Rattle.pauli_theory.specs.Theorems.{Coset}

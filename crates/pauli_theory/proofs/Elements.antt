@@ -6,15 +6,15 @@ use Prim.Native.Nat.{ℕ, _%_, _^_, _<_}
 use native.Mathlib.Nat.{mod-lt}
 use lib.ListN.{length, getD, length-map}
 use lib.Pow.{pow-pos, pow-lt}
-use Rattle.bit_rows.specs.Row.{_⊕_, rowSum}
-use Rattle.row_reduction.specs.Space.{Independent}
-use Rattle.bit_rows.proofs.Bits.{xor-self, xor-cancel, xor-lt}
-use Rattle.row_reduction.proofs.Lists.{all-of, all-by, map-same}
-use Rattle.row_reduction.proofs.Span.{rowSum-xor, rowSum-mod}
-use Rattle.supports.specs.Support.{All}
+use Rattle.binar.specs.Row.{_⊕_, rowSum}
+use Rattle.binar.specs.Space.{Independent}
+use Rattle.binar.proofs.row.Bits.{xor-self, xor-cancel, xor-lt}
+use Rattle.binar.proofs.echelon.Lists.{all-of, all-by, map-same}
+use Rattle.binar.proofs.echelon.Span.{rowSum-xor, rowSum-mod}
+use Rattle.pauli.specs.Support.{All}
 use Rattle.pauli.specs.Pauli.{Pauli, I, indexedProduct}
-use Rattle.roll_paulis.specs.Sets.{rowOf}
-use Rattle.pauli.proofs.Algebra.{times-I}
+use Rattle.pauli.specs.Sets.{rowOf}
+use Rattle.pauli.proofs.signed.Algebra.{times-I}
 use Rattle.pauli_theory.specs.Group.{Generated}
 use Rattle.pauli_theory.specs.Standard.{supportOf, rank, exponentMod}
 use Rattle.pauli_theory.proofs.Agree.{Agree, agree-path, agree-flip, agree-join, agree-normal, agree-times, agree-exponentMod, Subgroup, indexed-in}

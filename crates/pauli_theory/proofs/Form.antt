@@ -7,14 +7,14 @@ use native.Mathlib.Nat.{add-zero, zero-add}
 use native.Mathlib.Omega.{arith}
 use lib.ListN.{length, getD, take, drop, length-take, length-map, take-append-drop, List·getD-map}
 use lib.Seq.{length-take-le, getD-take, getD-drop}
-use Rattle.bit_rows.specs.Row.{_⊕_, bit, rowSum, units}
-use Rattle.row_reduction.specs.Echelon.{Row, echelon, R, T, rank}
-use Rattle.row_reduction.specs.Space.{RowSpace, Independent}
-use Rattle.bit_rows.proofs.Bits.{bit-of-zero, xor-zero-l, xor-zero-r}
-use Rattle.row_reduction.proofs.Lists.{all-of, all-zip, all-right, all-by, all-over, all-under, map-same, same-map}
-use Rattle.row_reduction.proofs.Span.{Subspace, sum-in, rowSum-rowSum, space-subspace, space-rows}
-use Rattle.binar.proofs.Theorems.{transform-law, reduced-law, space-law}
-use Rattle.supports.specs.Support.{All}
+use Rattle.binar.specs.Row.{_⊕_, bit, rowSum, units}
+use Rattle.binar.specs.Echelon.{Row, echelon, R, T, rank}
+use Rattle.binar.specs.Space.{RowSpace, Independent}
+use Rattle.binar.proofs.row.Bits.{bit-of-zero, xor-zero-l, xor-zero-r}
+use Rattle.binar.proofs.echelon.Lists.{all-of, all-zip, all-right, all-by, all-over, all-under, map-same, same-map}
+use Rattle.binar.proofs.echelon.Span.{Subspace, sum-in, rowSum-rowSum, space-subspace, space-rows}
+use Rattle.binar.proofs.matrix_form.Theorems.{transform-law, reduced-law, space-law}
+use Rattle.pauli.specs.Support.{All}
 use Rattle.pauli_theory.specs.Standard.{zeroRows, nonzeroRows}
 use Rattle.pauli_theory.proofs.IfZero.{ifZero-zero, ifZero-more}
 use Rattle.pauli_theory.proofs.Spaces.{columns-narrow, below-in, rowSum-append, rowSum-zeros, free-zero}

@@ -6,12 +6,12 @@ use Prim.Native.Nat.{ℕ, zero, suc, _%_, _^_, _<_, max}
 use native.Mathlib.Nat.{zero-mod}
 use native.Mathlib.Omega.{arith}
 use lib.ListN.{length}
-use Rattle.bit_rows.specs.Row.{rowSum}
-use Rattle.row_reduction.proofs.Lists.{all-of, all-map, all-zip, all-over, all-under}
-use Rattle.supports.specs.Support.{All}
+use Rattle.binar.specs.Row.{rowSum}
+use Rattle.binar.proofs.echelon.Lists.{all-of, all-map, all-zip, all-over, all-under}
+use Rattle.pauli.specs.Support.{All}
 use Rattle.pauli.specs.Pauli.{Pauli, I, anticommute, orderFour, indexedProduct}
-use Rattle.roll_paulis.specs.Sets.{rowOf}
-use Rattle.pauli.proofs.Algebra.{I-times, orderFour-lt}
+use Rattle.pauli.specs.Sets.{rowOf}
+use Rattle.pauli.proofs.signed.Algebra.{I-times, orderFour-lt}
 use Rattle.pauli_theory.specs.Group.{Generated}
 use Rattle.pauli_theory.specs.Standard.{supportOf, formOf, ifZero, zeroRows, nonzeroRows, modulus, rowGenerators, someOrderFour, someAnticommute, exponentMod}
 use Rattle.pauli_theory.proofs.Agree.{Divisor, one, two, four, Agree, agree-path, agree-flip, agree-join, agree-weaker, agree-normal, agree-times, agree-exponentMod, Subgroup}

@@ -3,11 +3,11 @@ use mathlib.Core.Path.{ap, _∙_}
 use mathlib.Core.List.{List, [], _∷_, _++_, map, map-append}
 use Prim.Native.Nat.{ℕ, _<_}
 use lib.ListN.{length, getD}
-use Rattle.row_reduction.proofs.Lists.{all-join, all-left, all-right, all-get, all-by, all-over, all-map}
-use Rattle.supports.specs.Support.{All}
+use Rattle.binar.proofs.echelon.Lists.{all-join, all-left, all-right, all-get, all-by, all-over, all-map}
+use Rattle.pauli.specs.Support.{All}
 use Rattle.pauli.specs.Pauli.{Pauli, I, times, product, indexedProduct}
-use Rattle.pauli.proofs.Algebra.{times-I}
-use Rattle.pauli.proofs.Products.{product-cons, product-none, product-append}
+use Rattle.pauli.proofs.signed.Algebra.{times-I}
+use Rattle.pauli.proofs.signed.Products.{product-cons, product-none, product-append}
 use Rattle.pauli_theory.specs.Group.{Generated, Inside, SameGroup}
 use Rattle.pauli_theory.specs.Theorems.{JoinedLaw}
 use Rattle.pauli_theory.proofs.Agree.{Divisor, four, agree-path, agree-join, agree-normal, agree-times, same-agree, agree-same, Subgroup, product-in, indexed-in}

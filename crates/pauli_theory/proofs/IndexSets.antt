@@ -4,15 +4,15 @@ use mathlib.Core.List.{List·Memᴰ as Mem}
 use Prim.Native.Nat.{ℕ, _^_, _≤_, _<_}
 use native.Mathlib.Omega.{arith}
 use native.Mathlib.Decide.{decLt}
-use Rattle.bit_rows.specs.Row.{bit}
-use Rattle.bit_rows.proofs.Bits.{bit-past}
-use Rattle.supports.specs.Support.{All}
-use Rattle.supports.proofs.Lists.{all-in, in-getD}
+use Rattle.binar.specs.Row.{bit}
+use Rattle.binar.proofs.row.Bits.{bit-past}
+use Rattle.pauli.specs.Support.{All}
+use Rattle.pauli.proofs.support.Lists.{all-in, in-getD}
 use Rattle.pauli.specs.Pauli.{select}
-use Rattle.roll_paulis.specs.PauliTheorems.{On}
-use Rattle.roll_paulis.specs.Sets.{members}
-use Rattle.roll_writer.proofs.Condensed.{select-members}
-use Rattle.roll_paulis.proofs.Sets.{members-only}
+use Rattle.pauli.specs.PauliTheorems.{On}
+use Rattle.pauli.specs.Sets.{members}
+use Rattle.pauli.proofs.write.Condensed.{select-members}
+use Rattle.pauli.proofs.condense.Sets.{members-only}
 use Rattle.pauli_theory.proofs.OverPlaces.{upTo, upTo-length, upTo-rises, upTo-at, condense-upTo}
 
 module _ (n v : ℕ) (h : v < 2 ^ n) where

@@ -10,12 +10,12 @@ use lib.Bits.{bitOr}
 use lib.ListN.{length, getD, take, length-append, length-map, List·getD-append}
 use lib.Pow.{pow-add}
 use lib.Seq.{getD-append-add, take-at}
-use Rattle.bit_rows.specs.Row.{weight}
-use Rattle.bit_rows.proofs.Bits.{ones-zero}
-use Rattle.row_reduction.proofs.Lists.{all-map, all-by}
-use Rattle.supports.specs.Support.{All}
+use Rattle.binar.specs.Row.{weight}
+use Rattle.binar.proofs.row.Bits.{ones-zero}
+use Rattle.binar.proofs.echelon.Lists.{all-map, all-by}
+use Rattle.pauli.specs.Support.{All}
 use Rattle.pauli.specs.Pauli.{Pauli, I, turned, pauliWeight, product, consIf, select, indexedProduct}
-use Rattle.roll_paulis.specs.PauliTheorems.{PauliOn}
+use Rattle.pauli.specs.PauliTheorems.{PauliOn}
 use Rattle.pauli_theory.specs.Group.{Generated, Promise, Honest}
 use Rattle.pauli_theory.specs.Standard.{supportOf, ifZero, rank, phase, appended, standard, nonabelian, bare, someOrderFour, someImaginary, someMinus, phaseStep, log2Size}
 use Rattle.pauli_theory.specs.Listing.{upTo, subsets, subsetAt, nontrivial, phaseCount, phasesOf, withPhases, elementsOf}

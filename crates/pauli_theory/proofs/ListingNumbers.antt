@@ -7,7 +7,7 @@ use native.Mathlib.Omega.{arith}
 use lib.Arith.{bin-ind}
 use lib.Count.{ones, ones-step, ones-le}
 use lib.Pow.{pow-pos}
-use Rattle.bit_rows.proofs.Bits.{ones-zero}
+use Rattle.binar.proofs.row.Bits.{ones-zero}
 use Rattle.pauli_theory.specs.Listing.{binomial, chosenAt, ofSizesAt, subsetAt}
 use Rattle.pauli_theory.specs.ListingTheorems.{NumbersLaw}
 use Rattle.pauli_theory.proofs.ListingSubsets.{sizes, sizes-all, when-below, when-past}

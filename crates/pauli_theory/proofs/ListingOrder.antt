@@ -4,8 +4,8 @@ use mathlib.Core.List.{List, [], _∷_, _++_, map}
 use Prim.Native.Nat.{ℕ, zero, suc, _≤_, _<_}
 use native.Mathlib.Omega.{arith}
 use lib.ListN.{length, getD}
-use Rattle.row_reduction.proofs.Lists.{All, all-of, all-map, all-zip, all-join, all-get, all-over}
-use Rattle.supports.specs.Support.{Rising}
+use Rattle.binar.proofs.echelon.Lists.{All, all-of, all-map, all-zip, all-join, all-get, all-over}
+use Rattle.pauli.specs.Support.{Rising}
 use Rattle.pauli_theory.specs.Listing.{upTo, chosen, ofSizes, subsets}
 use Rattle.pauli_theory.specs.ListingTheorems.{differ, agree, Before, shorter, sameSize, OrderedLaw}
 use Rattle.pauli_theory.proofs.OverPlaces.{upTo-length, upTo-rises}

@@ -1,11 +1,11 @@
 -- The marked rows hold by computation.
 use mathlib.Core.Path.{refl}
 use lib.Count.{ones}
-use Rattle.bit_rows.specs.Row.{_⊕_, bit, dot, ifBit, rowSum}
-use Rattle.row_reduction.specs.Echelon.{inColumn, byColumns, pivotOf, swapRows, clear, unless, addToOthers, placePivot, withPivot, onFound, echelonizeFrom, echelonize, besideIdentity, echelon, rank as echelonRank}
-use Rattle.row_reduction.specs.Solve.{sweep, solved, transposeSolve}
+use Rattle.binar.specs.Row.{_⊕_, bit, dot, ifBit, rowSum}
+use Rattle.binar.specs.Echelon.{inColumn, byColumns, pivotOf, swapRows, clear, unless, addToOthers, placePivot, withPivot, onFound, echelonizeFrom, echelonize, besideIdentity, echelon, rank as echelonRank}
+use Rattle.binar.specs.Solve.{sweep, solved, transposeSolve}
 use Rattle.pauli.specs.Pauli.{I, times, anticommute, orderFour, productFrom, product, consIf, select, indexedProduct}
-use Rattle.roll_paulis.specs.Sets.{setOf, membersFrom, members, condense, expand, rowOf, pauliOfRow}
+use Rattle.pauli.specs.Sets.{setOf, membersFrom, members, condense, expand, rowOf, pauliOfRow}
 use Rattle.pauli_theory.specs.Standard.{usedBy, supportOf, formOf, rank, phaseOf, ifZero, zeroRows, nonzeroRows, modulusOf, modulus, rowGenerators, someOrderFour, anticommutesWithSome, someAnticommute, phase, appended, exponentMod, standard, nonabelian, bare, someImaginary, someMinus, phaseStep, log2Size}
 use Rattle.pauli_theory.specs.Membership.{outside, exponentLeft, withPhase, factorizationOf}
 use Rattle.pauli_theory.specs.Order.{ranksOf, sameRanks, noMore, firstOf, partialCmp}

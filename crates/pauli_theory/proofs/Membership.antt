@@ -8,17 +8,17 @@ use native.Mathlib.Nat.{mod-eq-of-lt}
 use native.Mathlib.Omega.{arith}
 use lib.Bits.{bitOr}
 use lib.ListN.{length, length-map}
-use Rattle.bit_rows.specs.Row.{_⊕_, bit, rowSum}
-use Rattle.row_reduction.specs.Solve.{transposeSolve}
-use Rattle.row_reduction.specs.Space.{RowSpace}
-use Rattle.bit_rows.proofs.Bits.{bit-lt, xor-self, xor-eq-zero}
-use Rattle.binar.proofs.Theorems.{solve-law}
+use Rattle.binar.specs.Row.{_⊕_, bit, rowSum}
+use Rattle.binar.specs.Solve.{transposeSolve}
+use Rattle.binar.specs.Space.{RowSpace}
+use Rattle.binar.proofs.row.Bits.{bit-lt, xor-self, xor-eq-zero}
+use Rattle.binar.proofs.matrix_form.Theorems.{solve-law}
 use Rattle.pauli.specs.Pauli.{Pauli, Same, turned, indexedProduct}
-use Rattle.roll_paulis.specs.Sets.{rowOf}
-use Rattle.roll_paulis.specs.PauliTheorems.{PauliOn}
-use Rattle.roll_paulis.proofs.MoreBits.{bit-or, in-or, ext-ones}
-use Rattle.roll_paulis.proofs.Sets.{members-has, members-only}
-use Rattle.roll_paulis.proofs.Rows.{row-lt}
+use Rattle.pauli.specs.Sets.{rowOf}
+use Rattle.pauli.specs.PauliTheorems.{PauliOn}
+use Rattle.pauli.proofs.condense.MoreBits.{bit-or, in-or, ext-ones}
+use Rattle.pauli.proofs.condense.Sets.{members-has, members-only}
+use Rattle.pauli.proofs.condense.Rows.{row-lt}
 use Rattle.pauli_theory.specs.Group.{Generated, Promise, Honest}
 use Rattle.pauli_theory.specs.Standard.{usedBy, supportOf, formOf, phaseStep}
 use Rattle.pauli_theory.specs.Membership.{Factorization, outside, exponentLeft, withPhase, factorizationOf}

@@ -8,18 +8,18 @@ use native.Mathlib.Omega.{arith}
 use lib.Dec.{ltb}
 use lib.ListN.{length, getD, take, drop, length-map, take-append-drop}
 use borrow.Author.Tests.{ltb-true, ltb-false}
-use Rattle.bit_rows.specs.Row.{bit, ifBit}
-use Rattle.row_reduction.specs.Echelon.{clear, R, rank as echelonRank}
-use Rattle.row_reduction.specs.Solve.{sweep}
-use Rattle.row_reduction.proofs.Lists.{all-of, all-map, all-zip, all-join, all-over, all-under}
-use Rattle.row_reduction.proofs.Span.{ifBit-case, ifBit-map}
-use Rattle.row_reduction.proofs.Reduced.{pivots-in}
-use Rattle.row_reduction.proofs.Solve.{sweep-clears}
-use Rattle.row_reduction.proofs.Space.{R-reduced}
-use Rattle.supports.specs.Support.{All}
+use Rattle.binar.specs.Row.{bit, ifBit}
+use Rattle.binar.specs.Echelon.{clear, R, rank as echelonRank}
+use Rattle.binar.specs.Solve.{sweep}
+use Rattle.binar.proofs.echelon.Lists.{all-of, all-map, all-zip, all-join, all-over, all-under}
+use Rattle.binar.proofs.echelon.Span.{ifBit-case, ifBit-map}
+use Rattle.binar.proofs.echelon.Reduced.{pivots-in}
+use Rattle.binar.proofs.echelon.Solve.{sweep-clears}
+use Rattle.binar.proofs.echelon.Space.{R-reduced}
+use Rattle.pauli.specs.Support.{All}
 use Rattle.pauli.specs.Pauli.{Pauli, I, times}
-use Rattle.roll_paulis.specs.Sets.{rowOf}
-use Rattle.roll_paulis.proofs.Rows.{column-x, column-z, row-times}
+use Rattle.pauli.specs.Sets.{rowOf}
+use Rattle.pauli.proofs.condense.Rows.{column-x, column-z, row-times}
 use Rattle.pauli_theory.specs.Group.{Generated, Inside, Promise, Honest}
 use Rattle.pauli_theory.specs.Standard.{supportOf, formOf, rank, appended, ifZero, exponentMod, standard, phaseStep}
 use Rattle.pauli_theory.specs.Modulo.{supportsOther, multiplied, multipliedByAll, modulo}

@@ -12,26 +12,26 @@ use lib.Bits.{bitOr, or-lt}
 use lib.Dec.{ltb}
 use lib.ListN.{length, getD, drop, drop-of-length-le, length-append}
 use lib.Pow.{pow-lt, pow-pos}
-use Rattle.bit_rows.specs.Row.{bit, ifBit}
-use Rattle.row_reduction.specs.Echelon.{rank as echelonRank}
-use Rattle.bit_rows.proofs.Bits.{bit-of-zero, bit-past, bit-mod, xor-lt}
-use Rattle.row_reduction.proofs.Lists.{all-of, all-map, all-over, all-left, all-right, map-same}
-use Rattle.row_reduction.proofs.Span.{ifBit-case, ifBit-map}
-use Rattle.rolls.specs.Roll.{write}
-use Rattle.supports.specs.Support.{All, Rising}
+use Rattle.binar.specs.Row.{bit, ifBit}
+use Rattle.binar.specs.Echelon.{rank as echelonRank}
+use Rattle.binar.proofs.row.Bits.{bit-of-zero, bit-past, bit-mod, xor-lt}
+use Rattle.binar.proofs.echelon.Lists.{all-of, all-map, all-over, all-left, all-right, map-same}
+use Rattle.binar.proofs.echelon.Span.{ifBit-case, ifBit-map}
+use Rattle.pauli.specs.Roll.{write}
+use Rattle.pauli.specs.Support.{All, Rising}
 use Rattle.pauli.specs.Pauli.{Pauli, I, times}
-use Rattle.supports.specs.Known.{placeOf}
-use Rattle.roll_paulis.specs.Sets.{condense, expand, sparseOf}
-use Rattle.roll_paulis.specs.PauliTheorems.{On, PauliOn}
-use Rattle.roll_paulis.specs.Condense.{condensed}
-use Rattle.roll_writer.specs.Writing.{rollOver, OnPlaces}
-use Rattle.pauli.proofs.Algebra.{pauli-path}
-use Rattle.supports.proofs.Lists.{in-getD}
-use Rattle.roll_paulis.proofs.Sets.{members-has, members-only}
-use Rattle.roll_paulis.proofs.MoreBits.{bit-or, in-or, bit-unit, bit-unit-other, same-bit, ext-ones, ext-below}
-use Rattle.roll_paulis.proofs.Places.{place-in, qubit-at-place, place-of-qubit, condense-bit, condense-lt, condense-or, expand-on, expand-bit, expand-condense}
-use Rattle.roll_paulis.proofs.Rows.{on-times}
-use Rattle.roll_writer.proofs.Condensed.{condensed-times}
+use Rattle.pauli.specs.Known.{placeOf}
+use Rattle.pauli.specs.Sets.{condense, expand, sparseOf}
+use Rattle.pauli.specs.PauliTheorems.{On, PauliOn}
+use Rattle.pauli.specs.Condense.{condensed}
+use Rattle.pauli.specs.Writing.{rollOver, OnPlaces}
+use Rattle.pauli.proofs.signed.Algebra.{pauli-path}
+use Rattle.pauli.proofs.support.Lists.{in-getD}
+use Rattle.pauli.proofs.condense.Sets.{members-has, members-only}
+use Rattle.pauli.proofs.condense.MoreBits.{bit-or, in-or, bit-unit, bit-unit-other, same-bit, ext-ones, ext-below}
+use Rattle.pauli.proofs.condense.Places.{place-in, qubit-at-place, place-of-qubit, condense-bit, condense-lt, condense-or, expand-on, expand-bit, expand-condense}
+use Rattle.pauli.proofs.condense.Rows.{on-times}
+use Rattle.pauli.proofs.write.Condensed.{condensed-times}
 use Rattle.pauli_theory.specs.Group.{Promise}
 use Rattle.pauli_theory.specs.Standard.{usedBy, supportOf, formOf, rank, appended, ifZero, exponentMod, standard, phaseStep}
 use Rattle.pauli_theory.specs.Modulo.{supportsOther, multiplied, multipliedByAll, modulo}

@@ -3,8 +3,8 @@ use mathlib.Core.Path.{_≡_, refl, sym}
 use mathlib.Core.List.{List, [], _∷_, map}
 use Prim.Native.Nat.{ℕ, zero, suc, _*_, _/_, _%_, _<_, min}
 use native.Mathlib.Omega.{arith}
-use Rattle.row_reduction.proofs.Lists.{all-map, all-over, all-under}
-use Rattle.supports.specs.Support.{All}
+use Rattle.binar.proofs.echelon.Lists.{all-map, all-over, all-under}
+use Rattle.pauli.specs.Support.{All}
 use Rattle.pauli.specs.Pauli.{Pauli, I, turned, indexedProduct}
 use Rattle.pauli_theory.specs.Group.{Generated}
 use Rattle.pauli_theory.specs.Standard.{formOf, phaseOf, ifZero, zeroRows, modulusOf, modulus}

@@ -7,7 +7,7 @@ use native.Mathlib.Nat.{le-trans, mul-le-mul-left, le-div-iff-mul-le, div-mul-le
 use native.Mathlib.Omega.{arith}
 use lib.Dec.{eqb}
 use borrow.Author.Tests.{eqb-true, eq-eqb, le-leb}
-use Rattle.supports.specs.Support.{All}
+use Rattle.pauli.specs.Support.{All}
 use Rattle.pauli.specs.Pauli.{Pauli}
 use Rattle.pauli_theory.specs.Group.{Generated, Inside, SameGroup, Promise, none, Honest}
 use Rattle.pauli_theory.specs.Standard.{rank}

@@ -8,22 +8,22 @@ use native.Mathlib.Omega.{arith}
 use native.Mathlib.Decide.{decLt}
 use lib.Bits.{bitOr}
 use lib.ListN.{length, getD, take, drop, take-append-drop}
-use Rattle.bit_rows.specs.Row.{bit}
-use Rattle.row_reduction.specs.Echelon.{echelon, rank as echelonRank}
-use Rattle.row_reduction.specs.Solve.{transposeSolve}
-use Rattle.bit_rows.proofs.Bits.{bit-past}
-use Rattle.row_reduction.proofs.Lists.{all-of, all-map, all-over, all-left, map-drop, map-same}
-use Rattle.supports.specs.Support.{All, Rising}
+use Rattle.binar.specs.Row.{bit}
+use Rattle.binar.specs.Echelon.{echelon, rank as echelonRank}
+use Rattle.binar.specs.Solve.{transposeSolve}
+use Rattle.binar.proofs.row.Bits.{bit-past}
+use Rattle.binar.proofs.echelon.Lists.{all-of, all-map, all-over, all-left, map-drop, map-same}
+use Rattle.pauli.specs.Support.{All, Rising}
 use Rattle.pauli.specs.Pauli.{Pauli, normal, indexedProduct}
-use Rattle.roll_paulis.specs.Sets.{members, condense, rowOf}
-use Rattle.roll_paulis.specs.PauliTheorems.{PauliOn}
-use Rattle.roll_paulis.specs.Condense.{condensed}
-use Rattle.roll_writer.specs.Writing.{OnPlaces}
-use Rattle.supports.proofs.Lists.{in-getD}
-use Rattle.roll_paulis.proofs.MoreBits.{ext-below}
-use Rattle.supports.proofs.SupportLaws.{rising-ext}
-use Rattle.roll_paulis.proofs.Sets.{members-rise, members-has, members-only}
-use Rattle.roll_paulis.proofs.Places.{condense-bit, condense-lt, condense-or}
+use Rattle.pauli.specs.Sets.{members, condense, rowOf}
+use Rattle.pauli.specs.PauliTheorems.{PauliOn}
+use Rattle.pauli.specs.Condense.{condensed}
+use Rattle.pauli.specs.Writing.{OnPlaces}
+use Rattle.pauli.proofs.support.Lists.{in-getD}
+use Rattle.pauli.proofs.condense.MoreBits.{ext-below}
+use Rattle.pauli.proofs.support.SupportLaws.{rising-ext}
+use Rattle.pauli.proofs.condense.Sets.{members-rise, members-has, members-only}
+use Rattle.pauli.proofs.condense.Places.{condense-bit, condense-lt, condense-or}
 use Rattle.pauli_theory.specs.Group.{Promise, none, abelian, notAbelian}
 use Rattle.pauli_theory.specs.Standard.{usedBy, supportOf, formOf, rank, ifZero, modulusOf, someOrderFour, someAnticommute, exponentMod, standard, nonabelian, someImaginary, someMinus, phaseStep, log2Size, stabilizer}
 use Rattle.pauli_theory.specs.Membership.{Factorization, outside, exponentLeft, withPhase, factorizationOf}

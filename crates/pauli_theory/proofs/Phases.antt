@@ -7,15 +7,15 @@ use native.Mathlib.Omega.{arith}
 use lib.Bits.{bitOr}
 use lib.ListN.{length, getD, length-map, List·getD-map}
 use lib.Pow.{pow-pos, pow-lt}
-use Rattle.bit_rows.specs.Row.{bit}
-use Rattle.row_reduction.specs.Space.{Independent}
-use Rattle.bit_rows.proofs.Bits.{no-bits, bit-of-zero, dot-zero-l}
-use Rattle.row_reduction.proofs.Lists.{all-map, all-by}
-use Rattle.row_reduction.proofs.Span.{rowSum-unit}
-use Rattle.supports.specs.Support.{All}
+use Rattle.binar.specs.Row.{bit}
+use Rattle.binar.specs.Space.{Independent}
+use Rattle.binar.proofs.row.Bits.{no-bits, bit-of-zero, dot-zero-l}
+use Rattle.binar.proofs.echelon.Lists.{all-map, all-by}
+use Rattle.binar.proofs.echelon.Span.{rowSum-unit}
+use Rattle.pauli.specs.Support.{All}
 use Rattle.pauli.specs.Pauli.{Pauli, I, turned, orderFour}
-use Rattle.roll_paulis.specs.Sets.{rowOf}
-use Rattle.roll_paulis.proofs.MoreBits.{bit-or}
+use Rattle.pauli.specs.Sets.{rowOf}
+use Rattle.pauli.proofs.condense.MoreBits.{bit-or}
 use Rattle.pauli_theory.specs.Group.{Promise, none, Honest}
 use Rattle.pauli_theory.specs.Standard.{supportOf, ifZero, phase, appended, standard, someOrderFour, anticommutesWithSome, someAnticommute, nonabelian, bare, someImaginary, someMinus, phaseStep}
 use Rattle.pauli_theory.specs.Theorems.{PhasesLaw}

@@ -6,16 +6,16 @@ use Prim.Native.Nat.{ℕ, _+_, _*_, _%_, _^_, _<_}
 use native.Mathlib.Omega.{arith}
 use lib.ListN.{length, getD, length-map}
 use lib.Pow.{pow-lt}
-use Rattle.bit_rows.specs.Row.{dot, rowSum}
-use Rattle.row_reduction.specs.Space.{RowSpace, Independent}
-use Rattle.bit_rows.proofs.Bits.{dot-zero-l}
-use Rattle.row_reduction.proofs.Lists.{all-map, all-zip, all-join, all-left, all-right, all-get, all-by, all-under, map-same}
-use Rattle.row_reduction.proofs.Span.{Subspace}
-use Rattle.supports.specs.Support.{All}
+use Rattle.binar.specs.Row.{dot, rowSum}
+use Rattle.binar.specs.Space.{RowSpace, Independent}
+use Rattle.binar.proofs.row.Bits.{dot-zero-l}
+use Rattle.binar.proofs.echelon.Lists.{all-map, all-zip, all-join, all-left, all-right, all-get, all-by, all-under, map-same}
+use Rattle.binar.proofs.echelon.Span.{Subspace}
+use Rattle.pauli.specs.Support.{All}
 use Rattle.pauli.specs.Pauli.{Pauli, I, anticommute, orderFour, indexedProduct}
-use Rattle.roll_paulis.specs.Sets.{rowOf, pauliOfRow}
-use Rattle.pauli.proofs.Algebra.{anticommute-comm, orderFour-I, orderFour-times}
-use Rattle.roll_paulis.proofs.Rows.{row-back, on-I}
+use Rattle.pauli.specs.Sets.{rowOf, pauliOfRow}
+use Rattle.pauli.proofs.signed.Algebra.{anticommute-comm, orderFour-I, orderFour-times}
+use Rattle.pauli.proofs.condense.Rows.{row-back, on-I}
 use Rattle.pauli_theory.specs.Group.{Generated}
 use Rattle.pauli_theory.specs.Standard.{supportOf, formOf, rank, phaseOf, zeroRows, nonzeroRows, modulus, rowGenerators, exponentMod}
 use Rattle.pauli_theory.proofs.Agree.{two, four, Agree, agree-path, agree-join, agree-weaker, agree-normal}

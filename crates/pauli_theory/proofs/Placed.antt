@@ -6,22 +6,22 @@ use Prim.Native.Nat.{ℕ, zero, suc, _+_, _*_, _/_, _%_, _^_, _<_, max}
 use native.Mathlib.Omega.{arith}
 use lib.Bits.{bitOr}
 use lib.ListN.{length}
-use Rattle.bit_rows.specs.Row.{_⊕_, ifBit}
-use Rattle.bit_rows.proofs.Bits.{bit-of-zero, xor-self}
-use Rattle.row_reduction.proofs.Lists.{all-of, all-map, all-over}
-use Rattle.row_reduction.proofs.Span.{ifBit-case}
-use Rattle.supports.specs.Support.{All, Rising}
+use Rattle.binar.specs.Row.{_⊕_, ifBit}
+use Rattle.binar.proofs.row.Bits.{bit-of-zero, xor-self}
+use Rattle.binar.proofs.echelon.Lists.{all-of, all-map, all-over}
+use Rattle.binar.proofs.echelon.Span.{ifBit-case}
+use Rattle.pauli.specs.Support.{All, Rising}
 use Rattle.pauli.specs.Pauli.{Pauli, I, normal, times, anticommute, orderFour, select, indexedProduct}
-use Rattle.roll_paulis.specs.Sets.{condense, expand}
-use Rattle.roll_paulis.specs.PauliTheorems.{On, PauliOn}
-use Rattle.roll_paulis.specs.Condense.{condensed}
-use Rattle.roll_writer.specs.Writing.{OnPlaces}
-use Rattle.pauli.proofs.Algebra.{pauli-path, times-normal-l}
-use Rattle.pauli.proofs.Products.{product-none, indexed-cons}
-use Rattle.roll_paulis.proofs.MoreBits.{in-or}
-use Rattle.roll_paulis.proofs.Places.{condense-lt, condense-sum, condense-or, condense-dot, expand-condense}
-use Rattle.roll_paulis.proofs.Rows.{on-I}
-use Rattle.roll_writer.proofs.Condensed.{condensed-times}
+use Rattle.pauli.specs.Sets.{condense, expand}
+use Rattle.pauli.specs.PauliTheorems.{On, PauliOn}
+use Rattle.pauli.specs.Condense.{condensed}
+use Rattle.pauli.specs.Writing.{OnPlaces}
+use Rattle.pauli.proofs.signed.Algebra.{pauli-path, times-normal-l}
+use Rattle.pauli.proofs.signed.Products.{product-none, indexed-cons}
+use Rattle.pauli.proofs.condense.MoreBits.{in-or}
+use Rattle.pauli.proofs.condense.Places.{condense-lt, condense-sum, condense-or, condense-dot, expand-condense}
+use Rattle.pauli.proofs.condense.Rows.{on-I}
+use Rattle.pauli.proofs.write.Condensed.{condensed-times}
 use Rattle.pauli_theory.specs.Standard.{ifZero, someOrderFour, someAnticommute, phase, appended, exponentMod, bare, someImaginary, someMinus}
 use Rattle.pauli_theory.proofs.Tests.{orderFour-largest, imaginary, imaginary-largest, minus, minus-largest, largest-map, someAnticommute-map}
 use Rattle.pauli_theory.proofs.Grade.{signTest}

@@ -5,7 +5,7 @@ use Prim.Native.Nat.{ℕ, zero, suc, _+_, _*_, _/_, _%_, _<_}
 use native.Mathlib.Omega.{arith}
 use native.Mathlib.Nat.{mod-add-div}
 use Rattle.pauli.specs.Pauli.{Pauli, I, normal, times, turned, anticommute, orderFour}
-use Rattle.pauli.proofs.Algebra.{I-times, times-self, turned-times-l, turned-turned, turned-normal, turned-zero, orderFour-lt, orderFour-times}
+use Rattle.pauli.proofs.signed.Algebra.{I-times, times-self, turned-times-l, turned-turned, turned-normal, turned-zero, orderFour-lt, orderFour-times}
 use Rattle.pauli_theory.specs.Group.{Generated}
 use Rattle.pauli_theory.specs.Membership.{exponentLeft}
 use Rattle.pauli_theory.proofs.Agree.{Divisor, four, Agree, agree-path, agree-join, agree-flip, agree-normal, power-phase, same-agree, left-same, left-agree}

@@ -4,14 +4,14 @@ use mathlib.Core.List.{List, [], _∷_}
 use Prim.Native.Nat.{ℕ, zero, suc, _+_, _*_, _/_, _%_, _^_, _<_}
 use native.Mathlib.Omega.{arith}
 use lib.ListN.{getD}
-use Rattle.bit_rows.specs.Row.{_⊕_, ifBit}
-use Rattle.bit_rows.proofs.Bits.{xor-low, xor-half}
-use Rattle.row_reduction.proofs.Lists.{all-map, all-get, all-by}
-use Rattle.row_reduction.proofs.Span.{ifBit-case, Subspace}
-use Rattle.supports.specs.Support.{All}
+use Rattle.binar.specs.Row.{_⊕_, ifBit}
+use Rattle.binar.proofs.row.Bits.{xor-low, xor-half}
+use Rattle.binar.proofs.echelon.Lists.{all-map, all-get, all-by}
+use Rattle.binar.proofs.echelon.Span.{ifBit-case, Subspace}
+use Rattle.pauli.specs.Support.{All}
 use Rattle.pauli.specs.Pauli.{Pauli, I, normal, times, turned, anticommute, orderFour, product, productFrom, consIf, select, indexedProduct}
-use Rattle.pauli.proofs.Algebra.{times-assoc, I-times, times-I, times-swap, times-self, turned-times-l, turned-times-r, anticommute-comm, anticommute-times-r, anticommute-I}
-use Rattle.pauli.proofs.Products.{product-none, product-lt, indexed-cons, indexed-normal}
+use Rattle.pauli.proofs.signed.Algebra.{times-assoc, I-times, times-I, times-swap, times-self, turned-times-l, turned-times-r, anticommute-comm, anticommute-times-r, anticommute-I}
+use Rattle.pauli.proofs.signed.Products.{product-none, product-lt, indexed-cons, indexed-normal}
 use Rattle.pauli_theory.proofs.Agree.{Divisor, one, two, four, Agree, agree-path, agree-join, agree-normal, agree-times, agree-turned, Subgroup, indexed-in}
 
 -- ---- one index, no index

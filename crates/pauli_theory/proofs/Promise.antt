@@ -4,9 +4,9 @@ use mathlib.Core.List.{List, [], _∷_, _++_}
 use mathlib.Core.Option.{Option, some, none}
 use Prim.Native.Nat.{ℕ, zero, suc, _+_, _-_, _*_, _/_}
 use lib.ListN.{length}
-use Rattle.row_reduction.specs.Solve.{transposeSolve}
+use Rattle.binar.specs.Solve.{transposeSolve}
 use Rattle.pauli.specs.Pauli.{Pauli}
-use Rattle.roll_paulis.specs.Sets.{rowOf}
+use Rattle.pauli.specs.Sets.{rowOf}
 use Rattle.pauli_theory.specs.Group.{Promise, Honest}
 use Rattle.pauli_theory.specs.Standard.{supportOf, formOf, rank, phaseStep, log2Size, stabilizer}
 use Rattle.pauli_theory.specs.Membership.{withPhase, factorizationOf}

@@ -6,7 +6,7 @@ use mathlib.Core.Option.{Option, some, none}
 use Prim.Native.Nat.{ℕ, suc, _<_}
 use native.Mathlib.Omega.{arith}
 use lib.ListN.{length, getD}
-use Rattle.supports.specs.Support.{All}
+use Rattle.pauli.specs.Support.{All}
 use Rattle.pauli.specs.Pauli.{Pauli, I}
 use Rattle.pauli_theory.specs.Group.{Generated, Inside, Promise, Honest}
 use Rattle.pauli_theory.specs.Membership.{Factorization, factorizationOf}

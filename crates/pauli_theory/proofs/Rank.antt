@@ -4,15 +4,15 @@ use mathlib.Core.List.{List, map}
 use Prim.Native.Nat.{ℕ, _*_, _≤_}
 use native.Mathlib.Omega.{arith}
 use lib.ListN.{length, length-map}
-use Rattle.bit_rows.specs.Row.{rowSum}
-use Rattle.row_reduction.specs.Space.{RowSpace, Independent}
-use Rattle.row_reduction.proofs.Dimension.{independent-le}
-use Rattle.row_reduction.proofs.Lists.{all-map, all-over}
-use Rattle.binar.proofs.Theorems.{space-law}
-use Rattle.supports.specs.Support.{All}
+use Rattle.binar.specs.Row.{rowSum}
+use Rattle.binar.specs.Space.{RowSpace, Independent}
+use Rattle.binar.proofs.echelon.Dimension.{independent-le}
+use Rattle.binar.proofs.echelon.Lists.{all-map, all-over}
+use Rattle.binar.proofs.matrix_form.Theorems.{space-law}
+use Rattle.pauli.specs.Support.{All}
 use Rattle.pauli.specs.Pauli.{Pauli, indexedProduct}
-use Rattle.roll_paulis.specs.Sets.{rowOf}
-use Rattle.roll_paulis.proofs.Rows.{row-lt, on-I}
+use Rattle.pauli.specs.Sets.{rowOf}
+use Rattle.pauli.proofs.condense.Rows.{row-lt, on-I}
 use Rattle.pauli_theory.specs.Group.{Generated, Inside}
 use Rattle.pauli_theory.specs.Standard.{supportOf, formOf, rank}
 use Rattle.pauli_theory.specs.Theorems.{RankLaw}

@@ -6,20 +6,20 @@ use Prim.Native.Nat.{ℕ, _*_, _^_, _<_, max}
 use native.Mathlib.Omega.{arith}
 use lib.Bits.{bitOr}
 use lib.ListN.{length}
-use Rattle.bit_rows.specs.Row.{bit, rowSum}
-use Rattle.row_reduction.specs.Space.{RowSpace}
-use Rattle.bit_rows.proofs.Bits.{xor-self, bit-lt, bit-of-zero}
-use Rattle.row_reduction.proofs.Lists.{all-of, all-map, all-over, all-under}
-use Rattle.row_reduction.proofs.Span.{space-subspace, space-rows, space-in}
-use Rattle.supports.specs.Support.{All, Rising}
+use Rattle.binar.specs.Row.{bit, rowSum}
+use Rattle.binar.specs.Space.{RowSpace}
+use Rattle.binar.proofs.row.Bits.{xor-self, bit-lt, bit-of-zero}
+use Rattle.binar.proofs.echelon.Lists.{all-of, all-map, all-over, all-under}
+use Rattle.binar.proofs.echelon.Span.{space-subspace, space-rows, space-in}
+use Rattle.pauli.specs.Support.{All, Rising}
 use Rattle.pauli.specs.Pauli.{Pauli, I, normal, indexedProduct}
-use Rattle.roll_paulis.specs.Sets.{members, rowOf, pauliOfRow}
-use Rattle.roll_paulis.specs.PauliTheorems.{On, PauliOn}
-use Rattle.pauli.proofs.Algebra.{I-times}
-use Rattle.pauli.proofs.Products.{indexed-additive}
-use Rattle.roll_paulis.proofs.MoreBits.{bit-or, in-or, ext-ones}
-use Rattle.roll_paulis.proofs.Sets.{members-rise, members-has, members-only}
-use Rattle.roll_paulis.proofs.Rows.{row-lt, row-times, on-I, on-times, row-back}
+use Rattle.pauli.specs.Sets.{members, rowOf, pauliOfRow}
+use Rattle.pauli.specs.PauliTheorems.{On, PauliOn}
+use Rattle.pauli.proofs.signed.Algebra.{I-times}
+use Rattle.pauli.proofs.signed.Products.{indexed-additive}
+use Rattle.pauli.proofs.condense.MoreBits.{bit-or, in-or, ext-ones}
+use Rattle.pauli.proofs.condense.Sets.{members-rise, members-has, members-only}
+use Rattle.pauli.proofs.condense.Rows.{row-lt, row-times, on-I, on-times, row-back}
 use Rattle.pauli_theory.specs.Group.{Generated, Inside}
 use Rattle.pauli_theory.specs.Standard.{usedBy, supportOf}
 use Rattle.pauli_theory.proofs.Agree.{four, Agree, agree-sets, Subgroup, indexed-in}

@@ -8,9 +8,9 @@ use native.Mathlib.Omega.{arith}
 use lib.Arith.{digits-lt, digits-div, digits-mod}
 use lib.ListN.{length, getD, length-map}
 use lib.Pow.{pow-add}
-use Rattle.row_reduction.proofs.Lists.{all-by}
+use Rattle.binar.proofs.echelon.Lists.{all-by}
 use Rattle.pauli.specs.Pauli.{Pauli, I, Same, turned, indexedProduct}
-use Rattle.roll_paulis.specs.Sets.{rowOf}
+use Rattle.pauli.specs.Sets.{rowOf}
 use Rattle.pauli_theory.specs.Group.{Generated, Promise, Honest}
 use Rattle.pauli_theory.specs.Standard.{supportOf, rank, phaseStep, log2Size}
 use Rattle.pauli_theory.specs.Membership.{exponentLeft}

@@ -7,16 +7,16 @@ use native.Mathlib.Nat.{mod-lt, mod-eq-of-lt}
 use native.Mathlib.Omega.{arith}
 use lib.ListN.{length}
 use lib.Pow.{pow-pos, shr-shr, shr-lt}
-use Rattle.bit_rows.specs.Row.{_⊕_, ifBit, columns, rowSum}
-use Rattle.row_reduction.specs.Echelon.{echelon}
-use Rattle.row_reduction.specs.Solve.{transposeSolve}
-use Rattle.row_reduction.specs.Space.{RowSpace, Independent}
-use Rattle.bit_rows.proofs.Bits.{xor-self, xor-zero-l, xor-zero-r, xor-assoc, xor-eq-zero, xor-lt, xor-beside, beside-parts}
-use Rattle.row_reduction.proofs.Dimension.{independent-le}
-use Rattle.row_reduction.proofs.Lists.{all-map, map-same}
-use Rattle.row_reduction.proofs.Span.{ifBit-case, Subspace, sum-in, rowSum-xor, rowSum-mod, rowSum-zero}
-use Rattle.binar.proofs.Theorems.{solve-law}
-use Rattle.supports.specs.Support.{All}
+use Rattle.binar.specs.Row.{_⊕_, ifBit, columns, rowSum}
+use Rattle.binar.specs.Echelon.{echelon}
+use Rattle.binar.specs.Solve.{transposeSolve}
+use Rattle.binar.specs.Space.{RowSpace, Independent}
+use Rattle.binar.proofs.row.Bits.{xor-self, xor-zero-l, xor-zero-r, xor-assoc, xor-eq-zero, xor-lt, xor-beside, beside-parts}
+use Rattle.binar.proofs.echelon.Dimension.{independent-le}
+use Rattle.binar.proofs.echelon.Lists.{all-map, map-same}
+use Rattle.binar.proofs.echelon.Span.{ifBit-case, Subspace, sum-in, rowSum-xor, rowSum-mod, rowSum-zero}
+use Rattle.binar.proofs.matrix_form.Theorems.{solve-law}
+use Rattle.pauli.specs.Support.{All}
 
 pub columns-narrow : (c : ℕ) (A : List ℕ) → All (λ v. v < 2 ^ c) A → columns c A ≡ A
 unfolding columns

@@ -3,10 +3,10 @@ use mathlib.Core.Path.{_≡_, refl, sym, ap, ap₂, _∙_}
 use mathlib.Core.List.{List, [], _∷_, _++_, map, map-map}
 use Prim.Native.Nat.{ℕ, zero, suc, _%_, _<_, max}
 use native.Mathlib.Omega.{arith}
-use Rattle.row_reduction.proofs.Lists.{all-of, all-join, all-left, all-right, map-same}
-use Rattle.supports.specs.Support.{All}
+use Rattle.binar.proofs.echelon.Lists.{all-of, all-join, all-left, all-right, map-same}
+use Rattle.pauli.specs.Support.{All}
 use Rattle.pauli.specs.Pauli.{Pauli, I, turned, anticommute, orderFour, indexedProduct}
-use Rattle.pauli.proofs.Algebra.{pauli-path}
+use Rattle.pauli.proofs.signed.Algebra.{pauli-path}
 use Rattle.pauli_theory.specs.Group.{Generated, Inside}
 use Rattle.pauli_theory.specs.Standard.{ifZero, modulus, rowGenerators, phase, appended, exponentMod, standard}
 use Rattle.pauli_theory.proofs.Agree.{Divisor, one, two, four, Agree, agree-flip, agree-exponentMod, power-phase, indexed-in}

@@ -5,12 +5,12 @@ use Prim.Native.Nat.{ℕ, zero, suc, _+_, _*_, _%_, _≤_, _<_, max}
 use native.Mathlib.Nat.{mod-lt}
 use native.Mathlib.Omega.{arith}
 use lib.ListN.{length, length-append, length-map}
-use Rattle.row_reduction.specs.Echelon.{Row}
-use Rattle.row_reduction.proofs.Lists.{all-of, all-map, all-join, all-over}
-use Rattle.row_reduction.proofs.Transform.{rows-count}
-use Rattle.supports.specs.Support.{All}
+use Rattle.binar.specs.Echelon.{Row}
+use Rattle.binar.proofs.echelon.Lists.{all-of, all-map, all-join, all-over}
+use Rattle.binar.proofs.echelon.Transform.{rows-count}
+use Rattle.pauli.specs.Support.{All}
 use Rattle.pauli.specs.Pauli.{Pauli}
-use Rattle.roll_paulis.specs.Sets.{rowOf}
+use Rattle.pauli.specs.Sets.{rowOf}
 use Rattle.pauli_theory.specs.Standard.{supportOf, formOf, rank, phaseOf, ifZero, zeroRows, nonzeroRows, modulusOf, modulus, rowGenerators, someOrderFour, someAnticommute, phase, appended, exponentMod, standard}
 use Rattle.pauli_theory.specs.Theorems.{StandardLaw}
 use Rattle.pauli_theory.proofs.Agree.{divisor-positive, divisor-le}

@@ -7,12 +7,12 @@ use native.Mathlib.Omega.{arith}
 use native.Mathlib.Decide.{ℕ-discrete}
 use lib.ListN.{length, getD, set, take, drop, length-append, length-map, length-set, length-take, take-append-drop}
 use lib.Seq.{length-take-le, take-length, take-suc, take-take, take-set-le, getD-take, getD-set-same, getD-set-other}
-use Rattle.bit_rows.proofs.Bits.{dot-comm}
-use Rattle.row_reduction.proofs.Lists.{all-of, all-map, all-zip, all-join, all-left, all-right, all-get, all-by, all-over, all-under}
-use Rattle.row_reduction.proofs.Span.{ifBit-case}
-use Rattle.supports.specs.Support.{All}
+use Rattle.binar.proofs.row.Bits.{dot-comm}
+use Rattle.binar.proofs.echelon.Lists.{all-of, all-map, all-zip, all-join, all-left, all-right, all-get, all-by, all-over, all-under}
+use Rattle.binar.proofs.echelon.Span.{ifBit-case}
+use Rattle.pauli.specs.Support.{All}
 use Rattle.pauli.specs.Pauli.{Pauli, I, anticommute}
-use Rattle.pauli.proofs.Algebra.{anticommute-lt, anticommute-comm, anticommute-times-r}
+use Rattle.pauli.proofs.signed.Algebra.{anticommute-lt, anticommute-comm, anticommute-times-r}
 use Rattle.pauli_theory.specs.Symplectic.{position, swapRemove, timesIf, cleared, onPosition, pairedFrom, symplecticForm}
 use Rattle.pauli_theory.specs.Theorems.{SymplecticLaw}
 use Rattle.pauli_theory.proofs.Agree.{Subgroup}

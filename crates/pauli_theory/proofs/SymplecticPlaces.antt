@@ -7,19 +7,19 @@ use Prim.Native.Nat.{ℕ, zero, suc, _-_, _^_, _<_}
 use native.Mathlib.Nat.{mod-mod}
 use native.Mathlib.Omega.{arith}
 use lib.ListN.{length, getD, set, take, drop}
-use Rattle.bit_rows.specs.Row.{ifBit}
-use Rattle.row_reduction.proofs.Lists.{all-of, all-over, map-same}
-use Rattle.rolls.specs.Roll.{Sparse, encode, write}
-use Rattle.supports.specs.Support.{All, Rising}
+use Rattle.binar.specs.Row.{ifBit}
+use Rattle.binar.proofs.echelon.Lists.{all-of, all-over, map-same}
+use Rattle.pauli.specs.Roll.{Sparse, encode, write}
+use Rattle.pauli.specs.Support.{All, Rising}
 use Rattle.pauli.specs.Pauli.{Pauli, I, normal, Same, times, anticommute, select}
-use Rattle.roll_paulis.specs.PauliTheorems.{PauliOn}
-use Rattle.roll_paulis.specs.Condense.{condensed}
-use Rattle.roll_writer.specs.Writing.{sparseOver, rollOver, OnPlaces}
-use Rattle.roll_paulis.specs.Sets.{sparseOf}
-use Rattle.pauli.proofs.Algebra.{pauli-path, normal-same, times-same}
-use Rattle.roll_paulis.proofs.Places.{condense-lt}
-use Rattle.roll_paulis.proofs.Rows.{on-I, on-times}
-use Rattle.roll_writer.proofs.Condensed.{condensed-times}
+use Rattle.pauli.specs.PauliTheorems.{PauliOn}
+use Rattle.pauli.specs.Condense.{condensed}
+use Rattle.pauli.specs.Writing.{sparseOver, rollOver, OnPlaces}
+use Rattle.pauli.specs.Sets.{sparseOf}
+use Rattle.pauli.proofs.signed.Algebra.{pauli-path, normal-same, times-same}
+use Rattle.pauli.proofs.condense.Places.{condense-lt}
+use Rattle.pauli.proofs.condense.Rows.{on-I, on-times}
+use Rattle.pauli.proofs.write.Condensed.{condensed-times}
 use Rattle.pauli_theory.specs.Standard.{supportOf}
 use Rattle.pauli_theory.specs.Symplectic.{position, swapRemove, timesIf, cleared, onPosition, pairedFrom, symplecticForm}
 use Rattle.pauli_theory.proofs.Rows.{support-rises, support-on}

@@ -3,11 +3,11 @@ use mathlib.Core.Path.{_≡_, refl, sym, ap, ap₂, _∙_}
 use mathlib.Core.List.{List, [], _∷_, _++_, map}
 use Prim.Native.Nat.{ℕ, zero, suc, _/_, _%_, _<_, max}
 use native.Mathlib.Omega.{arith}
-use Rattle.bit_rows.proofs.Bits.{dot-comm}
-use Rattle.row_reduction.proofs.Lists.{all-map, all-zip}
-use Rattle.supports.specs.Support.{All}
+use Rattle.binar.proofs.row.Bits.{dot-comm}
+use Rattle.binar.proofs.echelon.Lists.{all-map, all-zip}
+use Rattle.pauli.specs.Support.{All}
 use Rattle.pauli.specs.Pauli.{Pauli, anticommute, orderFour}
-use Rattle.pauli.proofs.Algebra.{anticommute-lt, anticommute-comm}
+use Rattle.pauli.proofs.signed.Algebra.{anticommute-lt, anticommute-comm}
 use Rattle.pauli_theory.specs.Standard.{ifZero, someOrderFour, anticommutesWithSome, someAnticommute, bare, someImaginary, someMinus}
 
 -- ---- the largest of a number of each Pauli

@@ -3,21 +3,21 @@ use mathlib.Core.Path.{_≡_, refl, sym, ap, _∙_}
 use mathlib.Core.Logic.{⊎-elim}
 use mathlib.Core.List.{List, map, map-map, List·Memᴰ as Mem, List·Memᴰ·append-cases as in-append, Memᴰ·map}
 use Prim.Native.Nat.{ℕ}
-use Rattle.row_reduction.proofs.Lists.{all-map, all-over, map-same}
-use Rattle.rolls.specs.Roll.{Sparse, support, encode, write, byValue}
-use Rattle.supports.specs.Support.{All, Rising}
+use Rattle.binar.proofs.echelon.Lists.{all-map, all-over, map-same}
+use Rattle.pauli.specs.Roll.{Sparse, support, encode, write, byValue}
+use Rattle.pauli.specs.Support.{All, Rising}
 use Rattle.pauli.specs.Pauli.{Pauli, normal, select}
-use Rattle.roll_paulis.specs.Sets.{setOf, members, pauliOf, condense, expand, sparseOf}
-use Rattle.roll_paulis.specs.PauliTheorems.{On, PauliOn}
-use Rattle.roll_paulis.specs.Condense.{condensed}
-use Rattle.roll_writer.specs.Writing.{sparseOver, rollOver}
-use Rattle.supports.proofs.Lists.{all-in, all-mem}
-use Rattle.supports.proofs.SupportLaws.{rising-ext}
-use Rattle.rolls.proofs.ListSupport.{in-support}
-use Rattle.roll_paulis.proofs.Sets.{set-has, set-only, members-set, members-only}
-use Rattle.roll_paulis.proofs.Places.{select-rises, expand-condense}
-use Rattle.roll_paulis.proofs.PauliTheorems.{support-law}
-use Rattle.roll_writer.proofs.Condensed.{sparse-over}
+use Rattle.pauli.specs.Sets.{setOf, members, pauliOf, condense, expand, sparseOf}
+use Rattle.pauli.specs.PauliTheorems.{On, PauliOn}
+use Rattle.pauli.specs.Condense.{condensed}
+use Rattle.pauli.specs.Writing.{sparseOver, rollOver}
+use Rattle.pauli.proofs.support.Lists.{all-in, all-mem}
+use Rattle.pauli.proofs.support.SupportLaws.{rising-ext}
+use Rattle.pauli.proofs.roll.ListSupport.{in-support}
+use Rattle.pauli.proofs.condense.Sets.{set-has, set-only, members-set, members-only}
+use Rattle.pauli.proofs.condense.Places.{select-rises, expand-condense}
+use Rattle.pauli.proofs.condense.PauliTheorems.{support-law}
+use Rattle.pauli.proofs.write.Condensed.{sparse-over}
 use Rattle.pauli_theory.specs.Standard.{usedBy, supportOf, standard}
 use Rattle.pauli_theory.proofs.Rows.{support-rises, support-on, used-least}
 use Rattle.pauli_theory.proofs.StandardLaw.{standard-law}

@@ -3,10 +3,10 @@ use mathlib.Core.List.{List, [], _∷_, _++_, map}
 use mathlib.Core.Option.{Option, some, none}
 use Prim.Native.Nat.{ℕ, zero, suc, _*_, _%_, _^_, max}
 use lib.ListN.{length}
-use Rattle.bit_rows.specs.Row.{rowSum}
-use Rattle.row_reduction.specs.Echelon.{echelon}
+use Rattle.binar.specs.Row.{rowSum}
+use Rattle.binar.specs.Echelon.{echelon}
 use Rattle.pauli.specs.Pauli.{Pauli}
-use Rattle.roll_paulis.specs.Sets.{rowOf, pauliOfRow}
+use Rattle.pauli.specs.Sets.{rowOf, pauliOfRow}
 use Rattle.pauli_theory.specs.Group.{Promise}
 use Rattle.pauli_theory.specs.Standard.{supportOf, ifZero, zeroRows, nonzeroRows, phase, standard, phaseStep}
 use Rattle.pauli_theory.specs.Membership.{Factorization, factorizationOf}

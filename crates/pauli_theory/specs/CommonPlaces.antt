@@ -3,8 +3,8 @@ use mathlib.Core.List.{List, [], _∷_, _++_, map}
 use mathlib.Core.Option.{Option, some, none}
 use Prim.Native.Nat.{ℕ, zero, suc, _+_, _-_, _*_, _%_, _^_, max}
 use lib.ListN.{take, drop}
-use Rattle.row_reduction.specs.Echelon.{EchelonForm, echelon, rank}
-use Rattle.row_reduction.specs.Solve.{transposeSolve}
+use Rattle.binar.specs.Echelon.{EchelonForm, echelon, rank}
+use Rattle.binar.specs.Solve.{transposeSolve}
 use Rattle.pauli.specs.Pauli.{Pauli, indexedProduct}
 use Rattle.pauli_theory.specs.Standard.{ifZero}
 use Rattle.pauli_theory.specs.Common.{withExponent, consSome}

@@ -3,9 +3,9 @@ use mathlib.Core.Path.{_≡_}
 use mathlib.Core.List.{List, [], _∷_, _++_, map}
 use Prim.Native.Nat.{ℕ, zero, suc, _+_, _-_, _*_, _/_, _%_, _^_, _≤_, _<_, min}
 use lib.ListN.{length, getD, take, drop}
-use Rattle.supports.specs.Support.{All}
+use Rattle.pauli.specs.Support.{All}
 use Rattle.pauli.specs.Pauli.{Pauli, I, Same, turned, select, indexedProduct}
-use Rattle.roll_paulis.specs.PauliTheorems.{PauliOn}
+use Rattle.pauli.specs.PauliTheorems.{PauliOn}
 use Rattle.pauli_theory.specs.Group.{Generated, Promise, Honest}
 use Rattle.pauli_theory.specs.Standard.{supportOf, rank, standard, phaseStep, log2Size}
 use Rattle.pauli_theory.specs.Listing.{upTo, chosen, subsets, binomial, subsetAt, nontrivial, phaseCount, elementsOf, largestPage, pageSize, page}

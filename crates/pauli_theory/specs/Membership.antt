@@ -4,10 +4,10 @@ use mathlib.Core.Option.{Option, some, none}
 use Prim.Native.Nat.{ℕ, _+_, _-_, _*_, _%_}
 use lib.Bits.{bitOr}
 use lib.ListN.{length}
-use Rattle.bit_rows.specs.Row.{_⊕_}
-use Rattle.row_reduction.specs.Solve.{transposeSolve}
+use Rattle.binar.specs.Row.{_⊕_}
+use Rattle.binar.specs.Solve.{transposeSolve}
 use Rattle.pauli.specs.Pauli.{Pauli, indexedProduct}
-use Rattle.roll_paulis.specs.Sets.{rowOf}
+use Rattle.pauli.specs.Sets.{rowOf}
 use Rattle.pauli_theory.specs.Group.{Promise}
 use Rattle.pauli_theory.specs.Standard.{usedBy, supportOf, formOf, ifZero, phaseStep}
 

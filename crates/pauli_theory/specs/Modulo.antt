@@ -5,7 +5,7 @@ use mathlib.Core.Option.{Option, some}
 use Prim.Native.Nat.{ℕ, _%_}
 use lib.Dec.{ltb}
 use lib.ListN.{length, getD}
-use Rattle.bit_rows.specs.Row.{bit, ifBit}
+use Rattle.binar.specs.Row.{bit, ifBit}
 use Rattle.pauli.specs.Pauli.{Pauli, times}
 use Rattle.pauli_theory.specs.Group.{Promise}
 use Rattle.pauli_theory.specs.Standard.{supportOf, formOf, standard, phaseStep, exponentMod}

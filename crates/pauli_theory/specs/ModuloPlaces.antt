@@ -4,10 +4,10 @@ use mathlib.Core.List.{List, [], _∷_, map}
 use Prim.Native.Nat.{ℕ, _%_}
 use lib.Dec.{ltb}
 use lib.ListN.{length, getD}
-use Rattle.bit_rows.specs.Row.{bit, ifBit}
+use Rattle.binar.specs.Row.{bit, ifBit}
 use Rattle.pauli.specs.Pauli.{Pauli, times}
-use Rattle.supports.specs.Known.{placeOf}
-use Rattle.roll_paulis.specs.Sets.{condense, expand}
+use Rattle.pauli.specs.Known.{placeOf}
+use Rattle.pauli.specs.Sets.{condense, expand}
 
 -- a set of places in the first list as the set of the same qubits' places in the second
 unfoldable pub movedSet : List ℕ → List ℕ → ℕ → ℕ

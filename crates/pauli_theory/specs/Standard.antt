@@ -3,9 +3,9 @@ use mathlib.Core.List.{List, [], _∷_, _++_, map}
 use Prim.Native.Nat.{ℕ, zero, suc, _+_, _-_, _*_, _/_, _%_, min, max}
 use lib.Bits.{bitOr}
 use lib.ListN.{length}
-use Rattle.row_reduction.specs.Echelon.{Row, EchelonForm, echelon, rank as echelonRank}
+use Rattle.binar.specs.Echelon.{Row, EchelonForm, echelon, rank as echelonRank}
 use Rattle.pauli.specs.Pauli.{Pauli, anticommute, orderFour, indexedProduct}
-use Rattle.roll_paulis.specs.Sets.{members, rowOf, pauliOfRow}
+use Rattle.pauli.specs.Sets.{members, rowOf, pauliOfRow}
 use Rattle.pauli_theory.specs.Group.{Promise, none, abelian, notAbelian}
 
 -- the qubits that a list uses, as a set and as the rising list, its support

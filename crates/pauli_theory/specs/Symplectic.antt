@@ -3,7 +3,7 @@ use mathlib.Core.List.{List, [], _∷_, _++_, map}
 use mathlib.Core.Option.{Option, some, none}
 use Prim.Native.Nat.{ℕ, zero, suc, _-_}
 use lib.ListN.{length, getD, set, take, drop}
-use Rattle.bit_rows.specs.Row.{ifBit}
+use Rattle.binar.specs.Row.{ifBit}
 use Rattle.pauli.specs.Pauli.{Pauli, I, times, anticommute}
 
 -- `position`: the index, counted from i, of the first that anticommutes with x

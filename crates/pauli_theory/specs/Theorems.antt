@@ -4,12 +4,12 @@ use mathlib.Core.List.{List, _++_, map}
 use mathlib.Core.Option.{some, none}
 use Prim.Native.Nat.{ℕ, _+_, _-_, _*_, _%_, _^_, _≤_, _<_, min, max}
 use lib.ListN.{length, getD}
-use Rattle.row_reduction.specs.Space.{RowSpace, Independent, Dimension}
-use Rattle.rolls.specs.Roll.{mostPaulis}
-use Rattle.supports.specs.Support.{All}
+use Rattle.binar.specs.Space.{RowSpace, Independent, Dimension}
+use Rattle.pauli.specs.Roll.{mostPaulis}
+use Rattle.pauli.specs.Support.{All}
 use Rattle.pauli.specs.Pauli.{Pauli, I, Same, times, turned, anticommute, indexedProduct}
-use Rattle.roll_paulis.specs.Sets.{rowOf}
-use Rattle.roll_paulis.specs.PauliTheorems.{PauliOn}
+use Rattle.pauli.specs.Sets.{rowOf}
+use Rattle.pauli.specs.PauliTheorems.{PauliOn}
 use Rattle.pauli_theory.specs.Group.{Generated, Inside, SameGroup, Abelian, Promise, Honest}
 use Rattle.pauli_theory.specs.Standard.{supportOf, formOf, rank, standard, nonabelian, phaseStep, log2Size, stabilizer}
 use Rattle.pauli_theory.specs.Membership.{Factorization, factorizationOf}

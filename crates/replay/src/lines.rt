@@ -3,9 +3,9 @@ ghost use Prim.Native.Nat.{_≤_, min};
 ghost use mathlib.Core.Path.{_≡_};
 ghost use lib.ListN.{length};
 use libc::STDOUT_FILENO;
-use refusals::refusal::Refusal;
-use refusals::refusal::number_of;
-use roll_writer::write::Wrote;
+use pauli::refusal::Refusal;
+use pauli::refusal::number_of;
+use pauli::write::Wrote;
 
 const WORK_WORDS: usize = 4096;
 

@@ -11,7 +11,7 @@ use crate::runs::promise_of;
 use crate::runs::run_group;
 use crate::runs::run_rolls;
 use libc::STDIN_FILENO;
-use refusals::bytes::u32_at;
+use pauli::bytes::u32_at;
 
 // The line of a request.
 mod lines;

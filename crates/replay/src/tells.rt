@@ -2,10 +2,10 @@
 use crate::lines::number;
 use crate::lines::print_refusal;
 use crate::lines::text;
-use comparison::answers::Order;
-use comparison::answers::OrderFound;
 use pauli_group::answers::Decided;
 use pauli_group::answers::MemberFound;
+use pauli_group::answers::Order;
+use pauli_group::answers::OrderFound;
 use pauli_group::answers::Phases;
 use pauli_group::answers::PhasesFound;
 use pauli_group::answers::RankFound;

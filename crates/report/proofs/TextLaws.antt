@@ -4,15 +4,15 @@ use mathlib.Core.List.{List}
 use Prim.Native.Nat.{ℕ, _≤_}
 use native.Mathlib.Omega.{arith}
 use lib.ListN.{length, take}
-use Rattle.refusals.specs.declared.refusal.Refusal.{Refusal}
-use Rattle.refusals.specs.Told.{Told, answer}
-use Rattle.roll_writer.specs.declared.write.Wrote.{Wrote}
-use Rattle.roll_writer.specs.declared.write.Wrote.the-variants.{Bytes, Refused}
-use Rattle.roll_writer.specs.Answers.{toldWrote}
+use Rattle.pauli.specs.declared.refusal.Refusal.{Refusal}
+use Rattle.pauli.specs.Told.{Told, answer}
+use Rattle.pauli.specs.declared.write.Wrote.{Wrote}
+use Rattle.pauli.specs.declared.write.Wrote.the-variants.{Bytes, Refused}
+use Rattle.pauli.specs.WriteAnswers.{toldWrote}
 use Rattle.closing_report.specs.Bound.{NeverRefused, Printed}
 use Rattle.closing_report.specs.Contract.{ReportCall}
 use Rattle.closing_report.specs.Listing.{listing}
-use Rattle.closing_report.proofs.BoundLaws.{never-refused}
+use Rattle.closing_report.proofs.report.BoundLaws.{never-refused}
 
 module _ (input work out : List ℕ) (r : Wrote) (work′ out′ : List ℕ) (c : ReportCall input work out r work′ out′)
     (words : length work ≡ 4096) (room : length out ≡ 53924) where

@@ -2,15 +2,15 @@
 ghost use mathlib.Core.Path.{_≡_};
 ghost use Prim.Native.Nat.{_≤_};
 ghost use lib.ListN.{length, take};
-ghost use Rattle.refusals.specs.Told.{answer};
+ghost use Rattle.pauli.specs.Told.{answer};
 ghost use Rattle.closing_report.specs.Listing.{listing};
+use closing_report::input::MOST_INPUT;
 use closing_report::report::MOST_TEXT;
 use closing_report::report::closing_report;
 use libc::STDIN_FILENO;
 use libc::STDOUT_FILENO;
-use report_parts::input::MOST_INPUT;
-use roll_writer::write::Wrote;
-use work_area::area::WORK_WORDS;
+use pauli::write::Wrote;
+use pauli_group::area::WORK_WORDS;
 
 // Puts the text of an input at the front of the output, and tells its length. With so much room no call is refused.
 fn text_of(input: &[u8], work: &mut [u64], out: &mut [u8]) -> usize

@@ -1,6 +1,6 @@
 -- Invariant: the length is kept.
 use Prim.Native.Nat.{_-_}
-use Rattle.row_reduction.proofs.Matrix.{row-in}
+use Rattle.binar.proofs.echelon.Matrix.{row-in}
 use lib.ListN.{length}
 use mathlib.Core.Logic.{inr}
 use mathlib.Core.Path.{_≡_}

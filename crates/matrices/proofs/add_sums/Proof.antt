@@ -1,6 +1,6 @@
 -- Invariant: the length is kept.
 use Prim.Native.Nat.{_+_, _-_}
-use Rattle.row_reduction.proofs.Matrix.{row-in, two-rows}
+use Rattle.binar.proofs.echelon.Matrix.{row-in, two-rows}
 use lib.ListN.{length}
 use mathlib.Core.Path.{_≡_}
 use native.Mathlib.Omega.{arith}

@@ -1,6 +1,6 @@
 -- A row of the matrix lies in the slice.
 use Prim.Native.Nat.{_-_, _≤_}
-use Rattle.row_reduction.proofs.Matrix.{row-in}
+use Rattle.binar.proofs.echelon.Matrix.{row-in}
 use native.Mathlib.Omega.{arith}
 use Rattle.matrices.proofs.print_rows.Statement.{statement}
 use Rattle.matrices.proofs.print_rows.Tie as tie

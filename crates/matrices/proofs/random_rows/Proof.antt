@@ -1,6 +1,6 @@
 -- Invariant: the state stays below the modulus, and the length is kept.
 use Prim.Native.Nat.{_-_, _^_, _<_}
-use Rattle.row_reduction.proofs.Matrix.{row-in}
+use Rattle.binar.proofs.echelon.Matrix.{row-in}
 use lib.ListN.{length}
 use mathlib.Core.Path.{_≡_}
 use native.Mathlib.Omega.{arith}

@@ -1,6 +1,6 @@
 -- A row of the matrix lies in the slice, and its digits in the text.
 use Prim.Native.Nat.{_-_}
-use Rattle.row_reduction.proofs.Matrix.{row-in}
+use Rattle.binar.proofs.echelon.Matrix.{row-in}
 use lib.ListN.{length}
 use mathlib.Core.Path.{_≡_}
 use native.Mathlib.Omega.{arith}

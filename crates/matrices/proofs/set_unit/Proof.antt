@@ -1,5 +1,5 @@
 -- Both steps leave the words before the row.
-use Rattle.binar.proofs.Sweep.{get-put-before}
+use Rattle.binar.proofs.matrix_form.Sweep.{get-put-before}
 use borrow.Author.Needs.{needs}
 use mathlib.Core.Path.{_∙_}
 use native.Mathlib.Omega.{arith}

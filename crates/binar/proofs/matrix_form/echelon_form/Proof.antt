@@ -1,6 +1,6 @@
 -- What the test for the shape tells is what the two steps ask.
 use Prim.Native.Nat.{ℕ, _+_, _-_, _*_, _^_, _≤_, _<_}
-use Rattle.binar.proofs.Formed.{fits-true, stride-counts, form-is, form-not}
+use Rattle.binar.proofs.matrix_form.Formed.{fits-true, stride-counts, form-is, form-not}
 use Rattle.binar.specs.Layout.{formStride}
 use borrow.Author.Needs.{needs}
 use borrow.Author.Tests.{not-true, not-false}

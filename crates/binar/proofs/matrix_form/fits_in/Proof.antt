@@ -1,5 +1,5 @@
 -- Each answer is that of the definition, by the tests that led there.
-use Rattle.binar.proofs.Shapes.{fits-narrow, fits-none, fits-rows, fits-width, fits-quotient}
+use Rattle.binar.proofs.matrix_form.Shapes.{fits-narrow, fits-none, fits-rows, fits-width, fits-quotient}
 use borrow.Author.Needs.{needs}
 use mathlib.Core.Path.{sym}
 use native.Mathlib.Omega.{arith}

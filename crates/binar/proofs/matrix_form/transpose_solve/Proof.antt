@@ -1,10 +1,10 @@
 -- Invariant: the slice differs from that at entry in the target row alone, and what the pivot rows left leave of it is what all leave of the target.
 use Prim.Native.Nat.{_%_}
 use Prim.Native.Nat.{ℕ, _+_, _-_, _*_, _^_, _≤_, _<_}
-use Rattle.row_reduction.proofs.Matrix.{row-in}
-use Rattle.binar.proofs.Sweep.{sweptFrom, from-start, from-end, pivot-inside, target-bit, target-rows, skip, added-row, added-from, ends, start-row}
+use Rattle.binar.proofs.echelon.Matrix.{row-in}
+use Rattle.binar.proofs.matrix_form.Sweep.{sweptFrom, from-start, from-end, pivot-inside, target-bit, target-rows, skip, added-row, added-from, ends, start-row}
 use Rattle.binar.specs.Layout.{swept, solution}
-use Rattle.bit_rows.specs.Words.{rowAt, putRow}
+use Rattle.binar.specs.Words.{rowAt, putRow}
 use borrow.Author.Needs.{needs}
 use lib.Dec.{eqb}
 use lib.ListN.{length}

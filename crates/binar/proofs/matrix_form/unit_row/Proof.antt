@@ -1,6 +1,6 @@
 -- The words past the first are cleared, and then one bit of them is stored.
 use Prim.Native.Nat.{ℕ, _+_, _-_, _*_, _^_, _≤_, _<_}
-use Rattle.binar.proofs.Identity.{unit-stored}
+use Rattle.binar.proofs.matrix_form.Identity.{unit-stored}
 use lib.ListN.{length, length-set}
 use mathlib.Core.List.{List}
 use mathlib.Core.Path.{_≡_, sym, ap, _∙_}

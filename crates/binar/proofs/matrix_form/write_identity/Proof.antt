@@ -1,12 +1,12 @@
 -- Invariant: the first i rows are done.
 use Prim.Native.Nat.{_/_, _%_}
 use Prim.Native.Nat.{ℕ, _+_, _-_, _*_, _^_, _≤_, _<_}
-use Rattle.binar.proofs.Identity.{beside-eq}
-use Rattle.row_reduction.proofs.Matrix.{row-in, length-matrix}
-use Rattle.row_reduction.proofs.RowByRow.{rewritten, rewritten-none, rewritten-all, rewritten-row, row-here}
-use Rattle.row_reduction.proofs.Transform.{beside-length}
-use Rattle.row_reduction.specs.Echelon.{besideIdentity}
-use Rattle.bit_rows.specs.Words.{rowAt, matrix}
+use Rattle.binar.proofs.matrix_form.Identity.{beside-eq}
+use Rattle.binar.proofs.echelon.Matrix.{row-in, length-matrix}
+use Rattle.binar.proofs.echelon.RowByRow.{rewritten, rewritten-none, rewritten-all, rewritten-row, row-here}
+use Rattle.binar.proofs.echelon.Transform.{beside-length}
+use Rattle.binar.specs.Echelon.{besideIdentity}
+use Rattle.binar.specs.Words.{rowAt, matrix}
 use lib.ListN.{length, getD, drop}
 use mathlib.Core.Path.{_≡_, refl, sym, ap, _∙_}
 use native.Mathlib.Nat.{zero-add}

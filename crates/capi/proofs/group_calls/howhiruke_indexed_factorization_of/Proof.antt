@@ -1,5 +1,5 @@
 use mathlib.Core.Path.{_≡_, refl, sym, ap, _∙_}
-use Rattle.answer_codes.specs.Code.{codeMember}
+use Rattle.capi.specs.Code.{codeMember}
 use borrow.Author.Needs.{needs}
 use Rattle.capi.proofs.group_calls.howhiruke_indexed_factorization_of.Statement.{statement}
 use Rattle.capi.proofs.group_calls.howhiruke_indexed_factorization_of.Tie as tie

@@ -1,5 +1,5 @@
 use mathlib.Core.Path.{_≡_, refl, sym, ap, _∙_}
-use Rattle.answer_codes.specs.Code.{codePhases}
+use Rattle.capi.specs.Code.{codePhases}
 use borrow.Author.Needs.{needs}
 use Rattle.capi.proofs.group_calls.howhiruke_phases.Statement.{statement}
 use Rattle.capi.proofs.group_calls.howhiruke_phases.Tie as tie

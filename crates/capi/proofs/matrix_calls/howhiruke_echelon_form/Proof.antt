@@ -1,5 +1,5 @@
 use mathlib.Core.Path.{_≡_, refl, sym, ap, _∙_}
-use Rattle.answer_codes.specs.Code.{codeForm}
+use Rattle.capi.specs.Code.{codeForm}
 use borrow.Author.Needs.{needs}
 use Rattle.capi.proofs.matrix_calls.howhiruke_echelon_form.Statement.{statement}
 use Rattle.capi.proofs.matrix_calls.howhiruke_echelon_form.Tie as tie

@@ -1,5 +1,5 @@
 use mathlib.Core.Path.{_≡_, refl, sym, ap, _∙_}
-use Rattle.answer_codes.specs.Code.{codeOrder}
+use Rattle.capi.specs.Code.{codeOrder}
 use borrow.Author.Needs.{needs}
 use Rattle.capi.proofs.pair_calls.howhiruke_partial_cmp.Statement.{statement}
 use Rattle.capi.proofs.pair_calls.howhiruke_partial_cmp.Tie as tie

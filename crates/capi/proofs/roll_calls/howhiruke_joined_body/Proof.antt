@@ -1,8 +1,8 @@
 use mathlib.Core.Path.{_≡_, refl, sym, ap, _∙_}
 use native.Mathlib.Omega.{arith}
-use Rattle.joined_lists.proofs.JoinLaws.{counts-joining}
-use Rattle.joined_lists.specs.Answers.{toldCounts}
-use Rattle.capi.proofs.StretchLaws.{located-refused, located-past, located-left, located-right}
+use Rattle.pauli.proofs.joined.JoinLaws.{counts-joining}
+use Rattle.pauli.specs.JoinAnswers.{toldCounts}
+use Rattle.capi.proofs.roll_calls.StretchLaws.{located-refused, located-past, located-left, located-right}
 use borrow.Author.Needs.{needs}
 use Rattle.capi.proofs.roll_calls.howhiruke_joined_body.Statement.{statement}
 use Rattle.capi.proofs.roll_calls.howhiruke_joined_body.Tie as tie

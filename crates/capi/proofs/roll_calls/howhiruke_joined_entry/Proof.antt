@@ -1,5 +1,5 @@
 use mathlib.Core.Path.{_≡_, refl, sym, ap, _∙_}
-use Rattle.answer_codes.specs.Code.{codeLooked}
+use Rattle.capi.specs.Code.{codeLooked}
 use borrow.Author.Needs.{needs}
 use Rattle.capi.proofs.roll_calls.howhiruke_joined_entry.Statement.{statement}
 use Rattle.capi.proofs.roll_calls.howhiruke_joined_entry.Tie as tie

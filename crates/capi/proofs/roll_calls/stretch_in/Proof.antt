@@ -1,10 +1,10 @@
 use mathlib.Core.Path.{_≡_, refl, sym, ap, _∙_}
 use native.Mathlib.Omega.{arith}
-use Rattle.refusals.specs.Told.{answer}
-use Rattle.joined_lists.proofs.JoinLaws.{accepted-table, accepted-room}
-use Rattle.answer_codes.specs.Code.{codeBody}
-use Rattle.answer_codes.specs.Stretch.{Stretch}
-use Rattle.capi.proofs.StretchLaws.{stretch-is}
+use Rattle.pauli.specs.Told.{answer}
+use Rattle.pauli.proofs.joined.JoinLaws.{accepted-table, accepted-room}
+use Rattle.capi.specs.Code.{codeBody}
+use Rattle.capi.specs.Stretch.{Stretch}
+use Rattle.capi.proofs.roll_calls.StretchLaws.{stretch-is}
 use borrow.Author.Needs.{needs}
 use Rattle.capi.proofs.roll_calls.stretch_in.Statement.{statement}
 use Rattle.capi.proofs.roll_calls.stretch_in.Tie as tie

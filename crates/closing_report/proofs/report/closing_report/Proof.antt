@@ -1,11 +1,11 @@
 -- The refusals in their order, then the text.
 use mathlib.Core.Path.{sym, ap, _∙_}
 use lib.Seq.{length-take-le}
-use Rattle.rolls.specs.Answers.{toldCount}
-use Rattle.report_parts.specs.Split.{rollsTold}
-use Rattle.report_parts.proofs.InputLaws.{parted}
-use Rattle.closing_report.proofs.CallLaws.{input-refused, generators-refused, elements-refused, work-short, work-enough}
-use Rattle.closing_report.proofs.CallLaws.{call-line, call-short, call-done}
+use Rattle.pauli.specs.RollAnswers.{toldCount}
+use Rattle.closing_report.specs.Split.{rollsTold}
+use Rattle.closing_report.proofs.input.InputLaws.{parted}
+use Rattle.closing_report.proofs.report.CallLaws.{input-refused, generators-refused, elements-refused, work-short, work-enough}
+use Rattle.closing_report.proofs.report.CallLaws.{call-line, call-short, call-done}
 use borrow.Author.Needs.{needs}
 use Rattle.closing_report.proofs.report.closing_report.Statement.{statement}
 use Rattle.closing_report.proofs.report.closing_report.Tie as tie

@@ -3,12 +3,12 @@ use mathlib.Core.Path.{_≡_, sym, _∙_}
 use Prim.Native.Nat.{_-_, _≤_}
 use native.Mathlib.Omega.{arith}
 use lib.ListN.{length}
-use Rattle.joined_lists.proofs.JoinLaws.{accepted, accepted-few}
-use Rattle.rolls.specs.Roll.{mostPaulis}
-use Rattle.roll_paulis.specs.Condense.{listOf}
-use Rattle.membership.specs.Members.{Asked}
-use Rattle.closing_report.proofs.BoundLaws.{storable}
-use Rattle.closing_report.proofs.ResultLaws.{Factored, factored-start, asked-now, factored-next, factored-all}
+use Rattle.pauli.proofs.joined.JoinLaws.{accepted, accepted-few}
+use Rattle.pauli.specs.Roll.{mostPaulis}
+use Rattle.pauli.specs.Condense.{listOf}
+use Rattle.pauli_group.specs.Inner.Members.{Asked}
+use Rattle.closing_report.proofs.report.BoundLaws.{storable}
+use Rattle.closing_report.proofs.report.ResultLaws.{Factored, factored-start, asked-now, factored-next, factored-all}
 use Rattle.closing_report.proofs.report.factor_all.Statement.{statement}
 use Rattle.closing_report.proofs.report.factor_all.Tie as tie
 

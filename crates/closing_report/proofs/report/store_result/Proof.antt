@@ -1,8 +1,8 @@
 -- By what membership tells.
 use mathlib.Core.Path.{ap, subst}
 use native.Mathlib.Omega.{arith}
-use Rattle.membership.specs.Members.{factoringTold}
-use Rattle.report_parts.specs.Stored.{Storable}
+use Rattle.pauli_group.specs.Inner.Members.{factoringTold}
+use Rattle.closing_report.specs.Stored.{Storable}
 use borrow.Author.Needs.{needs}
 use Rattle.closing_report.proofs.report.store_result.Statement.{statement}
 use Rattle.closing_report.proofs.report.store_result.Tie as tie

@@ -3,16 +3,16 @@ use mathlib.Core.Path.{_≡_, ap, _∙_}
 use mathlib.Core.List.{List}
 use Prim.Native.Nat.{ℕ}
 use native.Mathlib.Omega.{arith}
-use Rattle.rolls.specs.Roll.{mostPaulis}
-use Rattle.supports.specs.Support.{mostQubits}
-use Rattle.refusals.specs.Told.{answer}
-use Rattle.joined_lists.proofs.JoinLaws.{accepted-few}
-use Rattle.roll_writer.specs.Writing.{toldBytes, leftIn}
+use Rattle.pauli.specs.Roll.{mostPaulis}
+use Rattle.pauli.specs.Support.{mostQubits}
+use Rattle.pauli.specs.Told.{answer}
+use Rattle.pauli.proofs.joined.JoinLaws.{accepted-few}
+use Rattle.pauli.specs.Writing.{toldBytes, leftIn}
 use Rattle.pauli_theory.specs.Group.{none}
-use Rattle.membership.proofs.FactorLaws.{asked-of}
-use Rattle.group_form.proofs.GroupLaws.{described}
-use Rattle.group_form.proofs.GroupedLaws.{cleared-whole, group-total, group-places, list-few, list-length}
-use Rattle.closing_report.proofs.CallLaws.{report-text}
+use Rattle.pauli_group.proofs.member.FactorLaws.{asked-of}
+use Rattle.pauli_group.proofs.group.GroupLaws.{described}
+use Rattle.pauli_group.proofs.group.GroupedLaws.{cleared-whole, group-total, group-places, list-few, list-length}
+use Rattle.closing_report.proofs.report.CallLaws.{report-text}
 use borrow.Author.Needs.{needs}
 use Rattle.closing_report.proofs.report.write_report.Statement.{statement}
 use Rattle.closing_report.proofs.report.write_report.Tie as tie

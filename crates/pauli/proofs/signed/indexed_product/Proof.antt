@@ -2,13 +2,13 @@
 use mathlib.Core.Path.{_≡_, sym, ap, _∙_}
 use Prim.Native.Nat.{_+_, _-_, _<_}
 use native.Mathlib.Omega.{arith}
-use Rattle.bit_rows.specs.Row.{bit}
-use Rattle.pauli.proofs.Algebra.{times-normal-r, normal-times}
-use Rattle.places.proofs.Firsts.{first-told}
-use Rattle.pauli.proofs.SignedLaws.{productLeft, left-start, left-same, left-hit, left-skip, left-end}
+use Rattle.binar.specs.Row.{bit}
+use Rattle.pauli.proofs.signed.Algebra.{times-normal-r, normal-times}
+use Rattle.pauli.proofs.places.Firsts.{first-told}
+use Rattle.pauli.proofs.signed.SignedLaws.{productLeft, left-start, left-same, left-hit, left-skip, left-end}
 use Rattle.pauli.specs.Pauli.{times, indexedProduct}
 use Rattle.pauli.specs.Signed.{held, listIn}
-use Rattle.places.specs.PlaceSet.{setIn}
+use Rattle.pauli.specs.PlaceSet.{setIn}
 use Rattle.pauli.proofs.signed.indexed_product.Statement.{statement}
 use Rattle.pauli.proofs.signed.indexed_product.Tie as tie
 

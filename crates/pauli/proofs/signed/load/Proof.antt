@@ -1,10 +1,10 @@
 -- The exponent byte has the value of its word.
 use Prim.Native.Nat.{ℕ, _+_, _-_, _*_, _/_, _%_, _^_, _≤_, _<_}
-use Rattle.pauli.proofs.Algebra.{pauli-path}
-use Rattle.pauli.proofs.SignedLaws.{byte-value}
+use Rattle.pauli.proofs.signed.Algebra.{pauli-path}
+use Rattle.pauli.proofs.signed.SignedLaws.{byte-value}
 use Rattle.pauli.specs.Pauli.{normal}
 use Rattle.pauli.specs.Signed.{held, pauliIn}
-use Rattle.places.specs.PlaceSet.{setIn}
+use Rattle.pauli.specs.PlaceSet.{setIn}
 use borrow.Author.Needs.{needs}
 use mathlib.Core.Path.{_≡_, refl, sym, ap, ap₂, _∙_}
 use Rattle.pauli.proofs.signed.load.Statement.{statement}

@@ -1,6 +1,6 @@
 -- Five stores.
 use Prim.Native.Nat.{ℕ, _+_, _-_, _*_, _/_, _%_, _^_, _≤_, _<_}
-use Rattle.pauli.proofs.SignedLaws.{five}
+use Rattle.pauli.proofs.signed.SignedLaws.{five}
 use Rattle.pauli.specs.Signed.{pauliWords}
 use borrow.Author.Needs.{needs}
 use lib.ListN.{length, length-set}

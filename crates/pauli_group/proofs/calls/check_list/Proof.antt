@@ -1,7 +1,7 @@
 -- The roll, then the work area.
 use mathlib.Core.Path.{sym, ap, _∙_}
-use Rattle.rolls.specs.Answers.{toldCount}
-use Rattle.pauli_group.proofs.CallLaws.{list-refused, list-short, list-long}
+use Rattle.pauli.specs.RollAnswers.{toldCount}
+use Rattle.pauli_group.proofs.calls.CallLaws.{list-refused, list-short, list-long}
 use borrow.Author.Needs.{needs}
 use Rattle.pauli_group.proofs.calls.check_list.Statement.{statement}
 use Rattle.pauli_group.proofs.calls.check_list.Tie as tie

@@ -1,7 +1,7 @@
 use mathlib.Core.Path.{sym, ap}
 use native.Mathlib.Omega.{arith}
-use Rattle.refusals.specs.Told.{answer}
-use Rattle.pauli.proofs.SignedLaws.{zero-bit}
+use Rattle.pauli.specs.Told.{answer}
+use Rattle.pauli.proofs.signed.SignedLaws.{zero-bit}
 use Rattle.pauli_group.proofs.calls.decided.Statement.{statement}
 use Rattle.pauli_group.proofs.calls.decided.Tie as tie
 

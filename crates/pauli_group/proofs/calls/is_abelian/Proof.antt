@@ -1,13 +1,13 @@
 -- The refusal of the checks is told on; else the other of 0 and 1 than the clash is told.
 use mathlib.Core.Path.{sym, _∙_}
 use lib.Seq.{length-take-le}
-use Rattle.roll_paulis.specs.Condense.{listOf}
+use Rattle.pauli.specs.Condense.{listOf}
 use Rattle.pauli_theory.specs.Standard.{ifZero, nonabelian}
-use Rattle.standard_form.specs.Promises.{promiseOf}
-use Rattle.group_form.specs.Groups.{paulis}
+use Rattle.pauli_group.specs.Promises.{promiseOf}
+use Rattle.pauli_group.specs.Inner.Groups.{paulis}
 use Rattle.pauli_group.specs.Calls.{abelianCall}
-use Rattle.pauli_group.proofs.CallLaws.{list-given, list-none, answers, area-cleared, refuses, area-kept, abelian-told}
-use Rattle.group_form.proofs.GroupedLaws.{nonabelian-le}
+use Rattle.pauli_group.proofs.calls.CallLaws.{list-given, list-none, answers, area-cleared, refuses, area-kept, abelian-told}
+use Rattle.pauli_group.proofs.group.GroupedLaws.{nonabelian-le}
 use borrow.Author.Needs.{needs}
 use Rattle.pauli_group.proofs.calls.is_abelian.Statement.{statement}
 use Rattle.pauli_group.proofs.calls.is_abelian.Tie as tie

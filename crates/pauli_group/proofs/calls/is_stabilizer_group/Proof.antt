@@ -1,13 +1,13 @@
 -- The refusal of the checks is told on; else the number of the description is told.
 use mathlib.Core.Path.{sym, _∙_}
 use lib.Seq.{length-take-le}
-use Rattle.roll_paulis.specs.Condense.{listOf}
+use Rattle.pauli.specs.Condense.{listOf}
 use Rattle.pauli_theory.specs.Standard.{stabilizer}
-use Rattle.standard_form.specs.Promises.{promiseOf}
-use Rattle.group_form.specs.Groups.{paulis}
+use Rattle.pauli_group.specs.Promises.{promiseOf}
+use Rattle.pauli_group.specs.Inner.Groups.{paulis}
 use Rattle.pauli_group.specs.Calls.{stabilizerCall}
-use Rattle.pauli_group.proofs.CallLaws.{list-given, list-none, answers, area-cleared, refuses, area-kept}
-use Rattle.group_form.proofs.GroupedLaws.{stabilizer-le}
+use Rattle.pauli_group.proofs.calls.CallLaws.{list-given, list-none, answers, area-cleared, refuses, area-kept}
+use Rattle.pauli_group.proofs.group.GroupedLaws.{stabilizer-le}
 use borrow.Author.Needs.{needs}
 use Rattle.pauli_group.proofs.calls.is_stabilizer_group.Statement.{statement}
 use Rattle.pauli_group.proofs.calls.is_stabilizer_group.Tie as tie

@@ -2,13 +2,13 @@
 use mathlib.Core.Path.{sym}
 use native.Mathlib.Omega.{arith}
 use lib.Seq.{length-take-le}
-use Rattle.roll_paulis.specs.Condense.{listOf}
+use Rattle.pauli.specs.Condense.{listOf}
 use Rattle.pauli_theory.specs.Standard.{log2Size}
-use Rattle.standard_form.specs.Promises.{promiseOf}
-use Rattle.group_form.specs.Groups.{paulis}
+use Rattle.pauli_group.specs.Promises.{promiseOf}
+use Rattle.pauli_group.specs.Inner.Groups.{paulis}
 use Rattle.pauli_group.specs.Calls.{sizeCall}
-use Rattle.pauli_group.proofs.CallLaws.{list-given, list-none, answers, area-cleared, refuses, area-kept, size-told}
-use Rattle.group_form.proofs.GroupedLaws.{step-kinds, list-rank}
+use Rattle.pauli_group.proofs.calls.CallLaws.{list-given, list-none, answers, area-cleared, refuses, area-kept, size-told}
+use Rattle.pauli_group.proofs.group.GroupedLaws.{step-kinds, list-rank}
 use borrow.Author.Needs.{needs}
 use Rattle.pauli_group.proofs.calls.log2_size.Statement.{statement}
 use Rattle.pauli_group.proofs.calls.log2_size.Tie as tie

@@ -1,13 +1,13 @@
 -- The refusal of the checks is told on; else the phases of the description are told.
 use mathlib.Core.Path.{sym, _∙_}
 use lib.Seq.{length-take-le}
-use Rattle.roll_paulis.specs.Condense.{listOf}
+use Rattle.pauli.specs.Condense.{listOf}
 use Rattle.pauli_theory.specs.Standard.{phaseStep}
-use Rattle.standard_form.specs.Promises.{promiseOf}
-use Rattle.group_form.specs.Groups.{paulis}
+use Rattle.pauli_group.specs.Promises.{promiseOf}
+use Rattle.pauli_group.specs.Inner.Groups.{paulis}
 use Rattle.pauli_group.specs.Calls.{phasesCall}
-use Rattle.pauli_group.proofs.CallLaws.{list-given, list-none, answers, area-cleared, refuses, area-kept}
-use Rattle.group_form.proofs.GroupedLaws.{step-kinds}
+use Rattle.pauli_group.proofs.calls.CallLaws.{list-given, list-none, answers, area-cleared, refuses, area-kept}
+use Rattle.pauli_group.proofs.group.GroupedLaws.{step-kinds}
 use borrow.Author.Needs.{needs}
 use Rattle.pauli_group.proofs.calls.phases.Statement.{statement}
 use Rattle.pauli_group.proofs.calls.phases.Tie as tie

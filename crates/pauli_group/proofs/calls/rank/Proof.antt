@@ -3,7 +3,7 @@ use mathlib.Core.Path.{sym}
 use lib.Seq.{length-take-le}
 use Rattle.pauli_theory.specs.Standard.{rank}
 use Rattle.pauli_group.specs.Calls.{rankCall}
-use Rattle.pauli_group.proofs.CallLaws.{list-given, list-none, answers, area-cleared, refuses, area-kept}
+use Rattle.pauli_group.proofs.calls.CallLaws.{list-given, list-none, answers, area-cleared, refuses, area-kept}
 use borrow.Author.Needs.{needs}
 use Rattle.pauli_group.proofs.calls.rank.Statement.{statement}
 use Rattle.pauli_group.proofs.calls.rank.Tie as tie

@@ -3,11 +3,11 @@ use mathlib.Core.List.{List}
 use mathlib.Core.Path.{ap, _∙_}
 use Prim.Native.Nat.{ℕ}
 use native.Mathlib.Omega.{arith}
-use Rattle.supports.specs.Support.{mostQubits}
-use Rattle.refusals.specs.Told.{answer}
-use Rattle.roll_writer.specs.Writing.{toldBytes, leftIn}
-use Rattle.group_form.proofs.GroupedLaws.{cleared-whole, group-total, group-places, group-on}
-use Rattle.pauli_group.proofs.CallLaws.{group-written}
+use Rattle.pauli.specs.Support.{mostQubits}
+use Rattle.pauli.specs.Told.{answer}
+use Rattle.pauli.specs.Writing.{toldBytes, leftIn}
+use Rattle.pauli_group.proofs.group.GroupedLaws.{cleared-whole, group-total, group-places, group-on}
+use Rattle.pauli_group.proofs.calls.CallLaws.{group-written}
 use borrow.Author.Needs.{needs}
 use Rattle.pauli_group.proofs.calls.write_standard.Statement.{statement}
 use Rattle.pauli_group.proofs.calls.write_standard.Tie as tie

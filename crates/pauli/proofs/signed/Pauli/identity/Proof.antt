@@ -1,5 +1,5 @@
 -- Both sets are empty.
-use Rattle.pauli.proofs.Algebra.{pauli-path}
+use Rattle.pauli.proofs.signed.Algebra.{pauli-path}
 use Rattle.pauli.specs.Pauli.{I}
 use Rattle.pauli.specs.Signed.{held}
 use borrow.Author.Needs.{needs}

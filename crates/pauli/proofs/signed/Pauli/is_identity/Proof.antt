@@ -1,6 +1,6 @@
 -- The exponent first, then both sets.
 use Prim.Native.Nat.{ℕ, _+_, _-_, _*_, _/_, _%_, _^_, _≤_, _<_}
-use Rattle.pauli.proofs.SignedLaws.{sum-zero, sum-not}
+use Rattle.pauli.proofs.signed.SignedLaws.{sum-zero, sum-not}
 use Rattle.pauli.specs.Pauli.{isIdentity}
 use Rattle.pauli.specs.Signed.{held}
 use borrow.Author.Needs.{needs}

@@ -1,7 +1,7 @@
 -- The exponents wrap at 256, a multiple of 4; the rest is by the two sets.
 use Prim.Native.Nat.{ℕ, _+_, _-_, _*_, _/_, _%_, _^_, _≤_, _<_}
-use Rattle.pauli.proofs.Algebra.{pauli-path}
-use Rattle.pauli.proofs.SignedLaws.{wrap-value}
+use Rattle.pauli.proofs.signed.Algebra.{pauli-path}
+use Rattle.pauli.proofs.signed.SignedLaws.{wrap-value}
 use Rattle.pauli.specs.Pauli.{normal, times}
 use Rattle.pauli.specs.Signed.{held}
 use borrow.Author.Needs.{needs}

@@ -1,5 +1,5 @@
 -- The places in either set, counted.
-use Rattle.bit_rows.specs.Row.{weight}
+use Rattle.binar.specs.Row.{weight}
 use Rattle.pauli.specs.Pauli.{pauliWeight}
 use Rattle.pauli.specs.Signed.{held}
 use borrow.Author.Needs.{needs}

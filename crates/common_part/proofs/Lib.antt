@@ -1,3 +1,0 @@
-pub mod SharedLaws
-pub mod BasisLaws
-pub mod PartLaws

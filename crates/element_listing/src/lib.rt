@@ -1,3 +1,0 @@
-// The call for the listing of a group's elements.
-
-pub mod listing;

@@ -1,3 +1,0 @@
-// The call for the remainder of a list by another.
-
-pub mod modulo;

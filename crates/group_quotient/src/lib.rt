@@ -1,3 +1,0 @@
-// The call for the quotient of a list by another.
-
-pub mod quotient;

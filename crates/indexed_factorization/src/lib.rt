@@ -1,3 +1,0 @@
-// The call for membership.
-
-pub mod factorization;

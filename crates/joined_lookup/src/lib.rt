@@ -1,3 +1,0 @@
-// The lookups of a generator of a joined list.
-
-pub mod lookup;

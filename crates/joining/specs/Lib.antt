@@ -1,2 +1,0 @@
-pub mod JoinTheorems
-pub mod Product

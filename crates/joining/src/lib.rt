@@ -1,4 +1,0 @@
-// The call that writes the joined roll.
-
-// The joined roll.
-pub mod join;

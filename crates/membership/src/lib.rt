@@ -1,3 +1,0 @@
-// An element put to the form of a list.
-
-pub mod member;

@@ -1,3 +1,0 @@
-// Paulis moved from the places of one support to those of another.
-
-pub mod moved;

@@ -1,0 +1,12 @@
+-- What joining promises: the two clauses of its `ensures`.
+use mathlib.Core.Path.{_≡_}
+use mathlib.Core.List.{List}
+use Prim.Native.Nat.{ℕ}
+use Rattle.pauli.specs.declared.write.Wrote.{Wrote}
+use Rattle.pauli.specs.WriteAnswers.{toldWrote}
+use Rattle.pauli.specs.Writing.{toldBytes, leftIn}
+use Rattle.pauli.specs.JoinCalls.{joinOf}
+
+pub record JoinCall (a b out : List ℕ) (r : Wrote) (out′ : List ℕ) : Type 0 where
+  pub told : toldWrote r ≡ toldBytes (joinOf a b) out
+  pub left : out′ ≡ leftIn (joinOf a b) out

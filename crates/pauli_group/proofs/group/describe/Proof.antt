@@ -1,0 +1,35 @@
+use borrow.Author.Needs.{needs}
+use Prim.Native.Nat.{ℕ, _+_, _*_, _≤_, _<_}
+use Rattle.pauli.proofs.joined.JoinLaws.{accepted, accepted-few}
+use Rattle.pauli.specs.Roll.{mostPaulis}
+use Rattle.pauli.specs.Support.{mostQubits}
+use Rattle.pauli.specs.Sets.{pauliOf}
+use Rattle.pauli_group.proofs.group.GroupLaws.{standards-few, described}
+use Rattle.pauli_group.proofs.group.GroupedLaws.{list-few}
+use Rattle.pauli_group.specs.Inner.Area.{standardAt}
+use lib.ListN.{length}
+use mathlib.Core.Path.{_≡_, refl, sym, _∙_}
+use native.Mathlib.Omega.{arith}
+use Rattle.pauli_group.proofs.group.describe.Statement.{statement}
+use Rattle.pauli_group.proofs.group.describe.Tie as tie
+
+slice-aggregate-group-of : tie.Need-slice-aggregate-group-of
+slice-aggregate-group-of c = search needs
+
+group-of-requires : tie.Need-group-of-requires
+unfolding mostQubits
+group-of-requires c κs = (c .before .before .before .before .pre .0, omega arith, c .before .before .before .before .pre .1)
+
+signs-of-requires : tie.Need-signs-of-requires
+signs-of-requires c κs = omega (arith, standards-few (c .before .before .before .before .group-of .ensures .0) (list-few (c .before .before .before .before .before .before .before .before .before .args .b .now) (c .before .before .before .before .before .before .before .before .before .args .n) (c .before .before .before .before .before .before .before .before .before .pre .0)), c .before .before .before .before .group-of .kept .1 .1 .1 .0, c .before .before .before .before .before .before .before .before .before .pre .1)
+
+same-length : tie.Need-same-length
+same-length c = c .before .before .before .before .before .group-of .kept .1 .1 .1 .0
+
+returns : tie.Need-returns
+returns c = described (c .before .before .before .before .before .group-of .ensures .0) _ _ _ _ (c .signs-of .ensures .0) (c .signs-of .ensures .1 .0) (c .signs-of .ensures .1 .1)
+
+pub describe-spec : {M : Type 1} → statement M
+describe-spec =
+    tie.close
+    (tie.spec slice-aggregate-group-of group-of-requires signs-of-requires same-length returns)

@@ -1,0 +1,15 @@
+use Rattle.pauli_theory.specs.Standard.{ifZero}
+use mathlib.Core.Path.{_≡_, refl, sym}
+use Prim.Native.Nat.{ℕ, zero, suc}
+use Rattle.pauli_group.proofs.form.FormLaws.{zero-picks, other-picks}
+use Rattle.pauli_group.proofs.standard.unless.Statement.{statement}
+use Rattle.pauli_group.proofs.standard.unless.Tie as tie
+
+returns : tie.Need-returns
+returns c = zero-picks (c .before .args .n) (c .if1 .taken)
+
+returns-2 : tie.Need-returns-2
+returns-2 c = other-picks (c .before .args .n) (c .if1 .left)
+
+pub unless-spec : {M : Type 1} → statement M
+unless-spec = tie.close (tie.spec returns returns-2)

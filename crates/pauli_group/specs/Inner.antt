@@ -1,0 +1,10 @@
+pub mod Area
+pub mod Lists
+pub mod Groups
+pub mod Members
+pub mod Listed
+pub mod Pairs
+pub mod Compare
+pub mod Moved
+pub mod Remainder
+pub mod Shared

@@ -1,3 +1,0 @@
-// Sets of places of a support.
-
-pub mod places;

@@ -1,4 +1,0 @@
-pub mod DecimalLaws
-pub mod PutLaws
-pub mod IndexLaws
-pub mod LineLaws

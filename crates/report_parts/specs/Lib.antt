@@ -1,3 +1,0 @@
-pub mod InputRolls
-pub mod Split
-pub mod Stored

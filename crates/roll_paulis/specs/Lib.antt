@@ -1,3 +1,0 @@
-pub mod Sets
-pub mod Condense
-pub mod PauliTheorems

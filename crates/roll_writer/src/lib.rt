@@ -1,4 +1,0 @@
-// Rolls written from Paulis over the places of a support.
-
-// Written rolls.
-pub mod write;

@@ -1,3 +1,0 @@
-pub mod Answers
-pub mod Roll
-pub mod RollTheorems

@@ -1,4 +1,0 @@
-pub mod Echelon
-pub mod Solve
-pub mod Laid
-pub mod Space

@@ -1,3 +1,0 @@
-pub mod ScanLaws
-pub mod PhaseLaws
-pub mod StandardLaws

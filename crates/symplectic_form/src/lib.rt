@@ -1,3 +1,0 @@
-// The call for symplectic pairing.
-
-pub mod symplectic;
