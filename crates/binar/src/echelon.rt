@@ -13,19 +13,19 @@ use crate::row::swap_rows;
 use crate::sum::add_if;
 
 // The cell of a matrix in row row and column col.
-pub struct Cell {
+pub(crate) struct Cell {
     pub row: usize,
     pub col: usize,
 }
 
 // What the pivot search finds.
-pub enum Found {
+pub(crate) enum Found {
     At(Cell),
     Nothing,
 }
 
 // The first cell that holds a one, column by column from c0 on, each from row r0 down.
-pub fn pivot_of(w: &[u64], stride: usize, rows: usize, cols: usize, r0: usize, c0: usize) -> Found
+fn pivot_of(w: &[u64], stride: usize, rows: usize, cols: usize, r0: usize, c0: usize) -> Found
     requires { ⌜ (rows * stride ≤ length (now w)) × (cols ≤ 64 * stride) ⌝ }
     ensures { λ r. ⌜ r ≡ pivotOf cols r0 c0 (matrix stride rows (now (w .entry))) ⌝ }
 {
@@ -47,7 +47,7 @@ pub fn pivot_of(w: &[u64], stride: usize, rows: usize, cols: usize, r0: usize, c
 }
 
 // Adds row r to all other rows with a one in column c.
-pub fn reduce(w: &mut [u64], stride: usize, rows: usize, r: usize, c: usize)
+fn reduce(w: &mut [u64], stride: usize, rows: usize, r: usize, c: usize)
     requires { ⌜ (rows * stride ≤ length (now w)) × (r < rows) × (c < 64 * stride) ⌝ }
     ensures { λ _. ⌜ now (w .exit) ≡ image stride (addToOthers c (rowAt (now (w .entry)) (r * stride) stride) r 0 (matrix stride rows (now (w .entry)))) (drop (rows * stride) (now (w .entry))) ⌝ }
 {
@@ -62,7 +62,7 @@ pub fn reduce(w: &mut [u64], stride: usize, rows: usize, r: usize, c: usize)
 }
 
 // Reduces the rows by their first cols columns, in place, writes the pivots behind them, and returns how many there are.
-pub fn echelonize(w: &mut [u64], stride: usize, rows: usize, cols: usize) -> usize
+pub(crate) fn echelonize(w: &mut [u64], stride: usize, rows: usize, cols: usize) -> usize
     requires { ⌜ Shape (now w) stride rows cols ⌝ }
     ensures rank { λ r. ⌜ r ≡ length (echelonized cols (matrix stride rows (now (w .entry))) .pivots) ⌝ }
     ensures left { λ _. ⌜ now (w .exit) ≡ laidOut stride (echelonized cols (matrix stride rows (now (w .entry)))) (now (w .entry)) ⌝ }

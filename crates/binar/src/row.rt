@@ -15,7 +15,7 @@ pub fn index(w: &[u64], at: usize, k: usize) -> u64
 }
 
 // Whether the row at word at has no one in its first cols columns.
-pub fn is_zero(w: &[u64], at: usize, cols: usize) -> bool
+pub(crate) fn is_zero(w: &[u64], at: usize, cols: usize) -> bool
     requires { ⌜ at + (cols + 63) / 64 ≤ length (now w) ⌝ }
     ensures { λ r. ⌜ r ≡ eqb (value (drop at (now (w .entry))) % 2 ^ cols) 0 ⌝ }
 {
@@ -85,7 +85,7 @@ pub fn assign(w: &mut [u64], to: usize, from: usize, n: usize)
 }
 
 // Exchanges the rows of n words at words i and j.
-pub fn swap_rows(w: &mut [u64], i: usize, j: usize, n: usize)
+pub(crate) fn swap_rows(w: &mut [u64], i: usize, j: usize, n: usize)
     requires { ⌜ TwoRows (now w) i j n ⌝ }
     ensures { λ _. ⌜ now (w .exit) ≡ putRow (putRow (now (w .entry)) i n (rowAt (now (w .entry)) j n)) j n (rowAt (now (w .entry)) i n) ⌝ }
 {

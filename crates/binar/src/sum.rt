@@ -37,7 +37,7 @@ fn add_words(w: &mut [u64], to: usize, from: usize, n: usize, bit: u64)
 
 // Adds the row of n words at word from to the one at word to, over GF(2), if bit is 1. It does the same work for both bits, since a
 // branch on the bit would be guessed wrong half of the time. Rows of five and six words, as a list of at most 128 has, need no loop.
-pub fn add_if(w: &mut [u64], to: usize, from: usize, n: usize, bit: u64)
+pub(crate) fn add_if(w: &mut [u64], to: usize, from: usize, n: usize, bit: u64)
     requires { ⌜ TwoRows (now w) to from n × (bit ≤ 1) ⌝ }
     ensures { λ _. ⌜ now (w .exit) ≡ putRow (now (w .entry)) to n (rowAt (now (w .entry)) to n ⊕ bit * rowAt (now (w .entry)) from n) ⌝ }
 {

@@ -33,7 +33,7 @@ pub struct Answer {
     pub third: u64,
 }
 
-pub fn code_refusal(refusal: Refusal) -> Answer
+pub(crate) fn code_refusal(refusal: Refusal) -> Answer
     ensures { λ r. ⌜ r ≡ codeRefusal (numberOf (refusal .reason)) (refusal .place) ⌝ }
 {
     let reason = refusal.reason;
@@ -48,7 +48,7 @@ pub fn code_refusal(refusal: Refusal) -> Answer
     }
 }
 
-pub fn code_values(first: usize, second: usize, third: usize) -> Answer
+pub(crate) fn code_values(first: usize, second: usize, third: usize) -> Answer
     ensures { λ r. ⌜ r ≡ codeValues first second third ⌝ }
 {
     Answer {
@@ -60,7 +60,7 @@ pub fn code_values(first: usize, second: usize, third: usize) -> Answer
     }
 }
 
-pub fn code_count(checked: Checked) -> Answer
+pub(crate) fn code_count(checked: Checked) -> Answer
     ensures { λ r. ⌜ r ≡ codeNumber (toldCount checked) ⌝ }
 {
     match checked {
@@ -69,7 +69,7 @@ pub fn code_count(checked: Checked) -> Answer
     }
 }
 
-pub fn code_wrote(wrote: Wrote) -> Answer
+pub(crate) fn code_wrote(wrote: Wrote) -> Answer
     ensures { λ r. ⌜ r ≡ codeNumber (toldWrote wrote) ⌝ }
 {
     match wrote {
@@ -78,7 +78,7 @@ pub fn code_wrote(wrote: Wrote) -> Answer
     }
 }
 
-pub fn code_looked(found: EntryFound) -> Answer
+pub(crate) fn code_looked(found: EntryFound) -> Answer
     ensures { λ r. ⌜ r ≡ codeLooked (toldLooked found) ⌝ }
 {
     match found {
@@ -87,7 +87,7 @@ pub fn code_looked(found: EntryFound) -> Answer
     }
 }
 
-pub fn code_rank(found: RankFound) -> Answer
+pub(crate) fn code_rank(found: RankFound) -> Answer
     ensures { λ r. ⌜ r ≡ codeNumber (toldRank found) ⌝ }
 {
     match found {
@@ -107,7 +107,7 @@ fn phase_count(phases: Phases) -> usize
     }
 }
 
-pub fn code_phases(found: PhasesFound) -> Answer
+pub(crate) fn code_phases(found: PhasesFound) -> Answer
     ensures { λ r. ⌜ r ≡ codePhases (toldPhases found) ⌝ }
 {
     match found {
@@ -116,7 +116,7 @@ pub fn code_phases(found: PhasesFound) -> Answer
     }
 }
 
-pub fn code_decided(decided: Decided) -> Answer
+pub(crate) fn code_decided(decided: Decided) -> Answer
     ensures { λ r. ⌜ r ≡ codeNumber (toldDecided decided) ⌝ }
 {
     match decided {
@@ -126,7 +126,7 @@ pub fn code_decided(decided: Decided) -> Answer
     }
 }
 
-pub fn code_size(found: SizeFound) -> Answer
+pub(crate) fn code_size(found: SizeFound) -> Answer
     ensures { λ r. ⌜ r ≡ codeNumber (toldSize found) ⌝ }
 {
     match found {
@@ -135,7 +135,7 @@ pub fn code_size(found: SizeFound) -> Answer
     }
 }
 
-pub fn code_member(found: MemberFound) -> Answer
+pub(crate) fn code_member(found: MemberFound) -> Answer
     ensures { λ r. ⌜ r ≡ codeMember (toldFactored found) ⌝ }
 {
     match found {
@@ -156,7 +156,7 @@ fn order_number(order: Order) -> usize
     }
 }
 
-pub fn code_order(found: OrderFound) -> Answer
+pub(crate) fn code_order(found: OrderFound) -> Answer
     ensures { λ r. ⌜ r ≡ codeOrder (toldOrder found) ⌝ }
 {
     match found {
@@ -165,7 +165,7 @@ pub fn code_order(found: OrderFound) -> Answer
     }
 }
 
-pub fn code_form(formation: Formation) -> Answer
+pub(crate) fn code_form(formation: Formation) -> Answer
     ensures { λ r. ⌜ r ≡ codeForm formation ⌝ }
 {
     match formation {

@@ -4,7 +4,7 @@ ghost use Rattle.pauli_group.specs.Promises.{promiseOf};
 ghost use Rattle.capi.specs.Code.{promiseNumbered};
 use pauli_group::promise::Promise;
 
-pub fn promise_numbered(number: u64) -> Promise
+pub(crate) fn promise_numbered(number: u64) -> Promise
     ensures { λ r. ⌜ promiseOf r ≡ promiseNumbered number ⌝ }
 {
     match number {

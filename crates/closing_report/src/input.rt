@@ -9,13 +9,13 @@ use pauli::bytes::u32_at;
 pub const MOST_INPUT: usize = 65536;
 
 // The byte at which the element roll starts, or that the generator roll is not whole.
-pub enum Split {
+pub(crate) enum Split {
     At(usize),
     Cut,
 }
 
 // The generator roll stands from byte 4 on, before the element roll.
-pub fn split_input(input: &[u8]) -> Split
+pub(crate) fn split_input(input: &[u8]) -> Split
     ensures rolls { λ r. ⌜ rollsTold (now (input .entry)) r ≡ rollsIn (now (input .entry)) ⌝ }
     ensures within { λ r. ⌜ SplitWithin (length (now (input .entry))) r ⌝ }
 {

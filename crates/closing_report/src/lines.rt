@@ -60,13 +60,13 @@ fn put_abelian(out: &mut [u8], at: usize, clash: u64) -> usize
 }
 
 // clash is 0 where the group is abelian
-pub fn first_line_length(rank: usize, step: u64, clash: u64) -> usize
+pub(crate) fn first_line_length(rank: usize, step: u64, clash: u64) -> usize
     ensures { λ r. ⌜ (r ≡ length (firstLine rank step clash)) × (r ≤ 53) ⌝ }
 {
     5 + number_length(rank) + 8 + phases_length(step) + 9 + abelian_length(clash) + 1
 }
 
-pub fn put_first_line(out: &mut [u8], at: usize, rank: usize, step: u64, clash: u64) -> usize
+pub(crate) fn put_first_line(out: &mut [u8], at: usize, rank: usize, step: u64, clash: u64) -> usize
     requires { ⌜ at + length (firstLine rank step clash) ≤ length (now out) ⌝ }
     ensures { λ r. ⌜ Put (now (out .entry)) at (firstLine rank step clash) (now (out .exit)) r ⌝ }
 {
@@ -105,13 +105,13 @@ fn put_indexes(out: &mut [u8], at: usize, set: Places) -> usize
     next
 }
 
-pub fn member_line_length(i: usize, set: Places, exponent: usize) -> usize
+pub(crate) fn member_line_length(i: usize, set: Places, exponent: usize) -> usize
     ensures { λ r. ⌜ (r ≡ length (memberLine i (some (record { indexes = setIn set; exponent = exponent })))) × (r ≤ 2743) ⌝ }
 {
     number_length(i) + 7 + indexes_length(set) + 7 + number_length(exponent) + 1
 }
 
-pub fn put_member_line(out: &mut [u8], at: usize, i: usize, set: Places, exponent: usize) -> usize
+pub(crate) fn put_member_line(out: &mut [u8], at: usize, i: usize, set: Places, exponent: usize) -> usize
     requires { ⌜ at + length (memberLine i (some (record { indexes = setIn set; exponent = exponent }))) ≤ length (now out) ⌝ }
     ensures { λ r. ⌜ Put (now (out .entry)) at (memberLine i (some (record { indexes = setIn set; exponent = exponent }))) (now (out .exit)) r ⌝ }
 {
@@ -122,13 +122,13 @@ pub fn put_member_line(out: &mut [u8], at: usize, i: usize, set: Places, exponen
     put_text(out, end, b"\n")
 }
 
-pub fn other_line_length(i: usize) -> usize
+pub(crate) fn other_line_length(i: usize) -> usize
     ensures { λ r. ⌜ (r ≡ length (memberLine i none)) × (r ≤ 32) ⌝ }
 {
     number_length(i) + 12
 }
 
-pub fn put_other_line(out: &mut [u8], at: usize, i: usize) -> usize
+pub(crate) fn put_other_line(out: &mut [u8], at: usize, i: usize) -> usize
     requires { ⌜ at + length (memberLine i none) ≤ length (now out) ⌝ }
     ensures { λ r. ⌜ Put (now (out .entry)) at (memberLine i none) (now (out .exit)) r ⌝ }
 {
@@ -139,7 +139,7 @@ pub fn put_other_line(out: &mut [u8], at: usize, i: usize) -> usize
 
 // ---- the line of a refusal
 
-pub fn refused_line_length(refusal: Refusal, roll: usize) -> usize
+pub(crate) fn refused_line_length(refusal: Refusal, roll: usize) -> usize
     ensures { λ r. ⌜ (r ≡ length (refusedLine (numberOf (refusal .reason)) (refusal .place) roll)) × (r ≤ 82) ⌝ }
 {
     let reason = refusal.reason;
@@ -152,7 +152,7 @@ pub fn refused_line_length(refusal: Refusal, roll: usize) -> usize
         + 1
 }
 
-pub fn put_refused_line(out: &mut [u8], at: usize, refusal: Refusal, roll: usize) -> usize
+pub(crate) fn put_refused_line(out: &mut [u8], at: usize, refusal: Refusal, roll: usize) -> usize
     requires { ⌜ at + length (refusedLine (numberOf (refusal .reason)) (refusal .place) roll) ≤ length (now out) ⌝ }
     ensures { λ r. ⌜ Put (now (out .entry)) at (refusedLine (numberOf (refusal .reason)) (refusal .place) roll) (now (out .exit)) r ⌝ }
 {

@@ -20,7 +20,7 @@ use pauli::refusal::Refusal;
 use pauli::write::Wrote;
 
 // Writes the first line and the lines of the m results from word base on.
-pub fn write_listing(
+pub(crate) fn write_listing(
     rank: usize,
     step: u64,
     clash: u64,
@@ -46,7 +46,7 @@ pub fn write_listing(
 }
 
 // Writes the line of a refusal.
-pub fn write_refused(refusal: Refusal, roll: usize, out: &mut [u8]) -> Wrote
+pub(crate) fn write_refused(refusal: Refusal, roll: usize, out: &mut [u8]) -> Wrote
     ensures told { λ r. ⌜ toldWrote r ≡ toldBytes (answer (refusedLine (numberOf (refusal .reason)) (refusal .place) roll)) (now (out .entry)) ⌝ }
     ensures left { λ _. ⌜ now (out .exit) ≡ leftIn (answer (refusedLine (numberOf (refusal .reason)) (refusal .place) roll)) (now (out .entry)) ⌝ }
 {

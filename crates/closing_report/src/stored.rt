@@ -17,7 +17,7 @@ use pauli::places::Places;
 // The exponent's word of an element that is no member.
 const NO_MEMBER: u64 = 4;
 
-pub fn store_member(w: &mut [u64], at: usize, set: Places, exponent: u8)
+pub(crate) fn store_member(w: &mut [u64], at: usize, set: Places, exponent: u8)
     requires { ⌜ (at + 5 ≤ length (now w)) × (exponent < 4) ⌝ }
     ensures { λ _. ⌜ Stored (now (w .entry)) at (some (record { indexes = setIn set; exponent = exponent })) (now (w .exit)) ⌝ }
 {
@@ -26,7 +26,7 @@ pub fn store_member(w: &mut [u64], at: usize, set: Places, exponent: u8)
     w[at + 2] = set.high;
 }
 
-pub fn store_other(w: &mut [u64], at: usize)
+pub(crate) fn store_other(w: &mut [u64], at: usize)
     requires { ⌜ at + 5 ≤ length (now w) ⌝ }
     ensures { λ _. ⌜ Stored (now (w .entry)) at none (now (w .exit)) ⌝ }
 {

@@ -12,7 +12,7 @@ fn wide(x: u8) -> u32
 }
 
 // The number that the two bytes from byte i on write.
-pub fn u16_at(b: &[u8], i: usize) -> usize
+pub(crate) fn u16_at(b: &[u8], i: usize) -> usize
     requires { ⌜ i + 1 < length (now b) ⌝ }
     ensures { λ r. ⌜ (r ≡ u16At (now (b .entry)) i) × (r < 65536) ⌝ }
 {

@@ -32,13 +32,13 @@ pub struct Entry {
 }
 
 // What checking the entries tells: how many qubit numbers the bodies hold, or why the roll is refused.
-pub enum EntriesChecked {
+pub(crate) enum EntriesChecked {
     Numbers(usize),
     Refused(Refusal),
 }
 
 // What checking the numbers of sets tells: that they pass, or why the roll is refused.
-pub enum SetsChecked {
+pub(crate) enum SetsChecked {
     Passed,
     Refused(Refusal),
 }

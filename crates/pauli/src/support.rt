@@ -19,7 +19,7 @@ pub struct Qubit(pub u32);
 pub struct Place(pub usize);
 
 // How many qubits are known, and the place past the one that was met last.
-pub struct Known {
+pub(crate) struct Known {
     pub count: usize,
     pub next: Place,
 }

@@ -4,12 +4,12 @@
 // A work area has at least so many words, and only these are used.
 pub const WORK_WORDS: usize = 4096;
 // Where a row to solve for stands.
-pub const TARGET: usize = 1040;
+pub(crate) const TARGET: usize = 1040;
 // Where the generators stand, five words each.
-pub const LIST: usize = 1056;
+pub(crate) const LIST: usize = 1056;
 // Where the standard generators stand, five words each.
-pub const STANDARD: usize = 1712;
+pub(crate) const STANDARD: usize = 1712;
 // Where a further list stands, five words each.
 pub const SPARE: usize = 2368;
 // R's words of a row of the form.
-pub const ROW_WORDS: usize = 4;
+pub(crate) const ROW_WORDS: usize = 4;

@@ -35,7 +35,7 @@ use pauli::write::Wrote;
 use pauli::write::write_roll;
 
 // Checks the roll, then the work area of so many words; tells how many Paulis the roll has.
-pub fn check_list(b: &[u8], words: usize) -> Checked
+pub(crate) fn check_list(b: &[u8], words: usize) -> Checked
     ensures { λ r. ⌜ toldCount r ≡ mapTold length (oneList (now (b .entry)) words) ⌝ }
 {
     let checked = check_roll(b);

@@ -20,7 +20,7 @@ use pauli::signed::indexed_product;
 use pauli::signed::store;
 
 // The words of a row of a form of n rows.
-pub fn stride_of(n: usize) -> usize
+pub(crate) fn stride_of(n: usize) -> usize
     requires { ⌜ n ≤ 129 ⌝ }
     ensures { λ r. ⌜ r ≡ strideOf n ⌝ }
 {
@@ -28,7 +28,7 @@ pub fn stride_of(n: usize) -> usize
 }
 
 // The T part of the row at word at of a form of n rows, as a set of generators: the first 128 of them.
-pub fn named_by(w: &[u64], at: usize, n: usize) -> Places
+pub(crate) fn named_by(w: &[u64], at: usize, n: usize) -> Places
     requires { ⌜ (n ≤ 129) × (at + strideOf n ≤ length (now w)) ⌝ }
     ensures { λ r. ⌜ setIn r ≡ rowAt (now (w .entry)) at (strideOf n) / 2 ^ (64 * rowWords) % 2 ^ 128 ⌝ }
 {
@@ -48,7 +48,7 @@ pub fn named_by(w: &[u64], at: usize, n: usize) -> Places
 }
 
 // Makes the echelon form of the n Paulis over s places from word base on; tells its rank.
-pub fn form_of(w: &mut [u64], base: usize, n: usize, s: usize) -> usize
+pub(crate) fn form_of(w: &mut [u64], base: usize, n: usize, s: usize) -> usize
     requires { ⌜ (length (now w) ≡ 4096) × (n ≤ 129) × (targetAt ≤ base) × (base + 5 * n ≤ length (now w)) × (s ≤ 128) × OnPlaces s (listIn (now w) base n) ⌝ }
     ensures rank { λ r. ⌜ r ≡ echelonRank (formOver s (listIn (now (w .entry)) base n)) ⌝ }
     ensures form { λ r. ⌜ formIn (strideOf n) n rowWords (2 * s) r (now (w .exit)) ≡ formOver s (listIn (now (w .entry)) base n) ⌝ }
@@ -64,7 +64,7 @@ pub fn form_of(w: &mut [u64], base: usize, n: usize, s: usize) -> usize
 
 // Writes to the words from word to on the products that T names in count rows of a form of n rows, from row first on: those of the
 // m Paulis from word base on, in rising index.
-pub fn put_products(
+pub(crate) fn put_products(
     w: &mut [u64],
     n: usize,
     first: usize,

@@ -35,7 +35,7 @@ pub struct Group {
 }
 
 // What the calls tell of a group: its rank, the step between its phases, and 1 or 0 for not abelian and for a stabilizer group.
-pub struct Description {
+pub(crate) struct Description {
     pub rank: usize,
     pub step: u64,
     pub clash: u64,
@@ -43,7 +43,7 @@ pub struct Description {
 }
 
 // Makes the form and the standard generators of the n generators over s places.
-pub fn build(w: &mut [u64], n: usize, s: usize) -> Group
+fn build(w: &mut [u64], n: usize, s: usize) -> Group
     requires { ⌜ (length (now w) ≡ 4096) × (n ≤ 128) × (s ≤ 128) × OnPlaces s (listIn (now w) listAt n) ⌝ }
     ensures built { λ r. ⌜ Built (now (w .entry)) n s (now (w .exit)) (r .rank) (r .total) ⌝ }
     ensures places { λ r. ⌜ r .places ≡ s ⌝ }
@@ -70,7 +70,7 @@ pub fn group_of(b: &[u8], n: usize, known: &mut [u32], w: &mut [u64]) -> Group
 }
 
 // Reads two accepted rolls of nl and nr Paulis, which can be joined, one after the other, and builds the group of the joined list.
-pub fn group_of_two(
+fn group_of_two(
     left: &[u8],
     nl: usize,
     right: &[u8],
@@ -88,7 +88,7 @@ pub fn group_of_two(
 }
 
 // What the calls tell of the group of an accepted roll of n Paulis.
-pub fn describe(b: &[u8], n: usize, promise: Promise, w: &mut [u64]) -> Description
+pub(crate) fn describe(b: &[u8], n: usize, promise: Promise, w: &mut [u64]) -> Description
     requires { ⌜ (countOf (now b) ≡ answer n) × (length (now w) ≡ 4096) ⌝ }
     ensures { λ r. ⌜ Described (promiseOf promise) (paulis (listOf (now (b .entry)))) (r .rank) (r .step) (r .clash) (r .stabilizer) ⌝ }
 {
@@ -104,7 +104,7 @@ pub fn describe(b: &[u8], n: usize, promise: Promise, w: &mut [u64]) -> Descript
 }
 
 // The same of the joined list of two rolls, without promise.
-pub fn describe_two(left: &[u8], nl: usize, right: &[u8], nr: usize, w: &mut [u64]) -> Description
+pub(crate) fn describe_two(left: &[u8], nl: usize, right: &[u8], nr: usize, w: &mut [u64]) -> Description
     requires { ⌜ (countOf (now left) ≡ answer nl) × (countOf (now right) ≡ answer nr) × (nl + nr ≤ 128) × (length (support (listOf (now left) ++ listOf (now right))) ≤ mostQubits) × (length (now w) ≡ 4096) ⌝ }
     ensures { λ r. ⌜ Described none (paulis (listOf (now (left .entry)) ++ listOf (now (right .entry)))) (r .rank) (r .step) (r .clash) (r .stabilizer) ⌝ }
 {
@@ -120,7 +120,7 @@ pub fn describe_two(left: &[u8], nl: usize, right: &[u8], nr: usize, w: &mut [u6
 }
 
 // Describes the group, and clears the work area.
-pub fn describe_once(b: &[u8], n: usize, promise: Promise, w: &mut [u64]) -> Description
+pub(crate) fn describe_once(b: &[u8], n: usize, promise: Promise, w: &mut [u64]) -> Description
     requires { ⌜ (countOf (now b) ≡ answer n) × (length (now w) ≡ 4096) ⌝ }
     ensures told { λ r. ⌜ Described (promiseOf promise) (paulis (listOf (now (b .entry)))) (r .rank) (r .step) (r .clash) (r .stabilizer) ⌝ }
     ensures area { λ _. ⌜ now (w .exit) ≡ cleared (now (w .entry)) ⌝ }

@@ -42,7 +42,7 @@ use pauli::support::walk_start;
 use pauli::write::put_u16;
 
 // A set of generators whose rows add up to a row, or none.
-pub enum Solved {
+pub(crate) enum Solved {
     Set(Places),
     NoSet,
 }
@@ -99,7 +99,7 @@ fn is_supported(b: &[u8], n: usize, i: usize, support: &[u32], count: usize) -> 
 }
 
 // Finds the generators whose rows add up to that of p, by the form of n rows over s places.
-pub fn solve(w: &mut [u64], n: usize, s: usize, rank: usize, p: Pauli) -> Solved
+pub(crate) fn solve(w: &mut [u64], n: usize, s: usize, rank: usize, p: Pauli) -> Solved
     requires { ⌜ (length (now w) ≡ 4096) × (n ≤ 128) × (s ≤ 128) × (held p .x < 2 ^ s) × (held p .z < 2 ^ s) × Solvable (now w) (strideOf n) n (2 * s) rank targetAt ⌝ }
     ensures told { λ r. ⌜ setTold r ≡ transposeSolve (2 * s) (formIn (strideOf n) n rowWords (2 * s) rank (now (w .entry))) (rowOver s (held p)) ⌝ }
     ensures rest { λ _. ⌜ Outside targetAt (strideOf n) (now (w .entry)) (now (w .exit)) ⌝ }
@@ -152,7 +152,7 @@ pub fn factor(
 }
 
 // Writes the numbers below n in the set, rising, two bytes each.
-pub fn put_indexes(out: &mut [u8], set: Places, n: usize)
+pub(crate) fn put_indexes(out: &mut [u8], set: Places, n: usize)
     requires { ⌜ (n ≤ 128) × (setIn set < 2 ^ n) × (2 * weight (setIn set) ≤ length (now out)) ⌝ }
     ensures { λ _. ⌜ now (out .exit) ≡ putBytes (now (out .entry)) 0 (le16s (members (setIn set))) ⌝ }
 {

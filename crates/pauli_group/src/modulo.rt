@@ -130,7 +130,7 @@ fn remainder(
 }
 
 // Writes the remainder of two accepted rolls of nl and nr Paulis, which can be joined, and clears the work area.
-pub fn write_modulo(
+pub(crate) fn write_modulo(
     left: &[u8],
     nl: usize,
     right: &[u8],

@@ -38,7 +38,7 @@ fn move_set(set: Places, own: &[u32], count: usize, joined: &[u32], size: usize)
 }
 
 // A Pauli over the places of the first support as one over those of the second.
-pub fn move_pauli(p: Pauli, own: &[u32], count: usize, joined: &[u32], size: usize) -> Pauli
+pub(crate) fn move_pauli(p: Pauli, own: &[u32], count: usize, joined: &[u32], size: usize) -> Pauli
     requires { ⌜ (count ≤ 128) × (count ≤ length (now own)) × (size ≤ 128) × (size ≤ length (now joined)) × (held p .x < 2 ^ count) × (held p .z < 2 ^ count) × MovablePauli (take count (now own)) (take size (now joined)) (held p) ⌝ }
     ensures { λ r. ⌜ held r ≡ movedPauli (take count (now (own .entry))) (take size (now (joined .entry))) (held p) ⌝ }
 {
@@ -50,7 +50,7 @@ pub fn move_pauli(p: Pauli, own: &[u32], count: usize, joined: &[u32], size: usi
 }
 
 // The n Paulis from word base on, moved to the words from word to on, behind them or before.
-pub fn move_list(
+pub(crate) fn move_list(
     w: &mut [u64],
     base: usize,
     to: usize,

@@ -88,7 +88,7 @@ fn order_by(a: GroupRanks, b: GroupRanks, both: GroupRanks) -> Order
 }
 
 // How the groups of two accepted rolls of nl and nr Paulis, which can be joined, compare.
-pub fn order_of(
+pub(crate) fn order_of(
     left: &[u8],
     nl: usize,
     right: &[u8],

@@ -13,7 +13,7 @@ use pauli::signed::Pauli;
 use pauli::signed::load;
 
 // A word times a power of two, in two words.
-pub struct TwoWords {
+pub(crate) struct TwoWords {
     pub low: u64,
     pub high: u64,
 }
@@ -36,7 +36,7 @@ fn shifted(word: u64, k: usize) -> TwoWords
 }
 
 // Writes the row of a Pauli over s places to the four words from word at on.
-pub fn put_row(w: &mut [u64], at: usize, p: Pauli, s: usize)
+pub(crate) fn put_row(w: &mut [u64], at: usize, p: Pauli, s: usize)
     requires { ⌜ (at + 4 ≤ length (now w)) × (s ≤ 128) × (held p .x < 2 ^ s) × (held p .z < 2 ^ s) ⌝ }
     ensures { λ _. ⌜ now (w .exit) ≡ putRow (now (w .entry)) at 4 (rowOver s (held p)) ⌝ }
 {
@@ -60,7 +60,7 @@ pub fn put_row(w: &mut [u64], at: usize, p: Pauli, s: usize)
 
 // Writes the rows of the n Paulis from word base on, over s places, to the front of the slice: rows of stride words, whose words
 // past the first four are zero.
-pub fn put_rows(w: &mut [u64], base: usize, n: usize, s: usize, stride: usize)
+pub(crate) fn put_rows(w: &mut [u64], base: usize, n: usize, s: usize, stride: usize)
     requires { ⌜ (base + 5 * n ≤ length (now w)) × (n * stride ≤ base) × (4 ≤ stride) × (s ≤ 128) × OnPlaces s (listIn (now w) base n) ⌝ }
     ensures { λ _. ⌜ now (w .exit) ≡ image stride (map (rowOver s) (listIn (now (w .entry)) base n)) (drop (n * stride) (now (w .entry))) ⌝ }
 {

@@ -13,7 +13,7 @@ use pauli::signed::load;
 use pauli::signed::store;
 
 // The modulus of the n Paulis from word base on, which are powers of i: 4; 2 if one is -I; 1 if one is odd.
-pub fn modulus_of(w: &[u64], base: usize, n: usize) -> u64
+pub(crate) fn modulus_of(w: &[u64], base: usize, n: usize) -> u64
     requires { ⌜ base + 5 * n ≤ length (now w) ⌝ }
     ensures { λ r. ⌜ r ≡ modulusOf (map (λ (p : PauliOf). p .e) (listIn (now (w .entry)) base n)) ⌝ }
 {
@@ -33,7 +33,7 @@ pub fn modulus_of(w: &[u64], base: usize, n: usize) -> u64
 }
 
 // Takes the exponents of the n Paulis from word base on mod m.
-pub fn take_mod(w: &mut [u64], base: usize, n: usize, m: u64)
+pub(crate) fn take_mod(w: &mut [u64], base: usize, n: usize, m: u64)
     requires { ⌜ (base + 5 * n ≤ length (now w)) × (0 < m) ⌝ }
     ensures list { λ _. ⌜ listIn (now (w .exit)) base n ≡ map (exponentMod m) (listIn (now (w .entry)) base n) ⌝ }
     ensures rest { λ _. ⌜ Outside base (5 * n) (now (w .entry)) (now (w .exit)) ⌝ }
@@ -46,7 +46,7 @@ pub fn take_mod(w: &mut [u64], base: usize, n: usize, m: u64)
 }
 
 // 1 where one of the n Paulis from word base on is of order four, else 0.
-pub fn some_order_four(w: &[u64], base: usize, n: usize) -> u64
+pub(crate) fn some_order_four(w: &[u64], base: usize, n: usize) -> u64
     requires { ⌜ base + 5 * n ≤ length (now w) ⌝ }
     ensures { λ r. ⌜ r ≡ someOrderFour (listIn (now (w .entry)) base n) ⌝ }
 {
@@ -61,7 +61,7 @@ pub fn some_order_four(w: &[u64], base: usize, n: usize) -> u64
 }
 
 // 1 where one of the n Paulis from word base on anticommutes with p, else 0.
-pub fn anticommutes_with_some(w: &[u64], base: usize, n: usize, p: Pauli) -> u64
+fn anticommutes_with_some(w: &[u64], base: usize, n: usize, p: Pauli) -> u64
     requires { ⌜ base + 5 * n ≤ length (now w) ⌝ }
     ensures { λ r. ⌜ r ≡ anticommutesWithSome (held p) (listIn (now (w .entry)) base n) ⌝ }
 {
@@ -76,7 +76,7 @@ pub fn anticommutes_with_some(w: &[u64], base: usize, n: usize, p: Pauli) -> u64
 }
 
 // 1 where two of the n Paulis from word base on anticommute, else 0.
-pub fn some_anticommute(w: &[u64], base: usize, n: usize) -> u64
+pub(crate) fn some_anticommute(w: &[u64], base: usize, n: usize) -> u64
     requires { ⌜ base + 5 * n ≤ length (now w) ⌝ }
     ensures { λ r. ⌜ r ≡ someAnticommute (listIn (now (w .entry)) base n) ⌝ }
 {
@@ -92,7 +92,7 @@ pub fn some_anticommute(w: &[u64], base: usize, n: usize) -> u64
 }
 
 // Writes i^k to the five words from word at on.
-pub fn put_phase(w: &mut [u64], at: usize, k: u8)
+pub(crate) fn put_phase(w: &mut [u64], at: usize, k: u8)
     requires { ⌜ (at + 5 ≤ length (now w)) × (k < 4) ⌝ }
     ensures list { λ _. ⌜ listIn (now (w .exit)) at 1 ≡ phase k ∷ [] ⌝ }
     ensures rest { λ _. ⌜ Outside at 5 (now (w .entry)) (now (w .exit)) ⌝ }
@@ -109,7 +109,7 @@ pub fn put_phase(w: &mut [u64], at: usize, k: u8)
 }
 
 // Appends to the n Paulis from word base on what the modulus asks for; tells how many there are then.
-pub fn append_phase(w: &mut [u64], base: usize, n: usize, m: u64) -> usize
+pub(crate) fn append_phase(w: &mut [u64], base: usize, n: usize, m: u64) -> usize
     requires { ⌜ (base + 5 * n + 5 ≤ length (now w)) × (m ≤ 4) ⌝ }
     ensures count { λ r. ⌜ r ≡ length (listIn (now (w .entry)) base n ++ appended m (listIn (now (w .entry)) base n)) ⌝ }
     ensures list { λ r. ⌜ listIn (now (w .exit)) base r ≡ listIn (now (w .entry)) base n ++ appended m (listIn (now (w .entry)) base n) ⌝ }
@@ -130,7 +130,7 @@ pub fn append_phase(w: &mut [u64], base: usize, n: usize, m: u64) -> usize
 }
 
 // 1 where one of the n Paulis from word base on is of weight 0 and has an odd phase, else 0.
-pub fn some_imaginary(w: &[u64], base: usize, n: usize) -> u64
+pub(crate) fn some_imaginary(w: &[u64], base: usize, n: usize) -> u64
     requires { ⌜ base + 5 * n ≤ length (now w) ⌝ }
     ensures { λ r. ⌜ r ≡ someImaginary (listIn (now (w .entry)) base n) ⌝ }
 {
@@ -148,7 +148,7 @@ pub fn some_imaginary(w: &[u64], base: usize, n: usize) -> u64
 }
 
 // 1 where one of the n Paulis from word base on is -I, else 0.
-pub fn some_minus(w: &[u64], base: usize, n: usize) -> u64
+pub(crate) fn some_minus(w: &[u64], base: usize, n: usize) -> u64
     requires { ⌜ base + 5 * n ≤ length (now w) ⌝ }
     ensures { λ r. ⌜ r ≡ someMinus (listIn (now (w .entry)) base n) ⌝ }
 {

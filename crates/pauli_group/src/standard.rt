@@ -26,7 +26,7 @@ pub struct Signs {
 
 // Makes the standard generators of the n products that stand in their place, the first rank of them of nonzero rows; tells how
 // many there are.
-pub fn standardize(w: &mut [u64], n: usize, rank: usize) -> usize
+pub(crate) fn standardize(w: &mut [u64], n: usize, rank: usize) -> usize
     requires { ⌜ (length (now w) ≡ 4096) × (n ≤ 128) × (rank ≤ n) ⌝ }
     ensures count { λ r. ⌜ r ≡ length (fromProducts rank (listIn (now (w .entry)) standardAt n)) ⌝ }
     ensures list { λ r. ⌜ listIn (now (w .exit)) standardAt r ≡ fromProducts rank (listIn (now (w .entry)) standardAt n) ⌝ }
