@@ -9,7 +9,7 @@ COLOURS = {2: "#9ecae1", 10: "#4292c6", 16: "#807dba", 40: "#e6550d", 128: "#7f2
 KINDS = ["sparse", "dense", "commuting"]
 SIDES = [("ours_us", "this library", "#7f2704"), ("theirs_us", "Rust original", "#4292c6")]
 ROW = 30
-LEFT, PANEL, GAP, TOP = 250, 290, 24, 96
+LEFT, PANEL, GAP, TOP = 250, 290, 64, 96
 
 
 def text(x, y, words, size=12, anchor="start", more=""):

@@ -1,6 +1,6 @@
 """The calls of the program replay: a request as bytes, what it asks the oracle, and the line that it must give.
 
-Refusals 1 to 9 are found by document 01's table alone (roll.py). Everything else is asked from the oracle: 10 from its rank,
+Refusals 1 to 9 are found by the table of refusals in docs/REFERENCE.md alone (roll.py). Everything else is asked from the oracle: 10 from its rank,
 11 from its quotient, 12 from the length of its answer.
 """
 import struct
@@ -135,7 +135,7 @@ def refused_early(r):
 # ---- the oracle
 
 def questions(r):
-    """The oracle's lines for a request. Promises are given also where 01 says that they change nothing."""
+    """The oracle's lines for a request. Promises are given also where they change nothing."""
     kind = CALLS[r.op].kind
     p, q = PROMISES[r.p], PROMISES[r.q]
     first, second = [hexed(b) for b in (rolls_of(r) + (b"",))[:2]]

@@ -1,14 +1,15 @@
 #!/usr/bin/env python3
-"""compare.py ORACLE REPLAY [--seed S] [--count N] [--damaged N] [--every] [--generators G] [--qubits Q] [--kinds A,B]
-           [--lines REQUESTS LINES] [--bad] [--edges] [--built FOLDER]
+"""compare.py SOURCES REPLAY [--seed S] [--count N] [--damaged N] [--every] [--generators G] [--qubits Q] [--kinds A,B]
+           [--lines REQUESTS LINES] [--bad] [--edges]
 
-Makes random requests with the oracle's generator, N of each kind, answers them with the oracle (the Rust) and with the program
-replay, and compares every line. ORACLE is the oracle's folder, REPLAY the program (target/bin/replay after `rt check replay`).
+Builds the oracle (compare/oracle: the Rust behind a line protocol), makes random requests with its generator, N of each kind, answers
+them with the oracle and with the program replay, and compares every line. SOURCES is the folder of the Rust's sources
+(compare/oracle/README.md says how to get them), REPLAY the program (target/bin/replay after `rt check replay`).
 Each call is lent an output of the size of its answer or a few bytes more, and 4,096 words or a few more.
 
 --damaged N: N further requests of each kind with damaged rolls, numbers past a list, short areas and outputs, and lists at the limits.
-The refusal, its number and its place come from document 01's table (roll.py, calls.py), every other line from the oracle; the oracle
-must answer `bad` exactly where the table refuses with 1 to 8 or 10.
+The refusal, its number and its place come from the table of refusals in docs/REFERENCE.md (roll.py, calls.py), every other line from the
+oracle; the oracle must answer `bad` exactly where the table refuses with 1 to 8 or 10.
 --every: further one small request of each kind, its rolls cut at every place and every byte of them changed to every other value.
 --lines REQUESTS LINES: the lines of a file, one for each request of another, are compared with those made here and with the program's.
 --bad: requests outside the program's bounds, each after a good one.
@@ -23,7 +24,6 @@ import random
 import struct
 import subprocess
 import sys
-import tempfile
 
 import calls
 import damage
@@ -237,7 +237,7 @@ def compare_edges(args, oracle):
 
 def arguments():
     parser = argparse.ArgumentParser(description=__doc__, formatter_class=argparse.RawDescriptionHelpFormatter)
-    parser.add_argument("oracle")
+    parser.add_argument("sources")
     parser.add_argument("replay")
     parser.add_argument("--seed", type=int, default=1)
     parser.add_argument("--count", type=int, default=1000)
@@ -249,14 +249,17 @@ def arguments():
     parser.add_argument("--lines", nargs=2)
     parser.add_argument("--bad", action="store_true")
     parser.add_argument("--edges", action="store_true")
-    parser.add_argument("--built")
     return parser.parse_args()
 
 
-def built_in(oracle, folder):
-    """The oracle's generator and the oracle, built in a folder."""
-    subprocess.run([os.path.join(oracle, "build.sh"), folder], check=True, stdout=subprocess.DEVNULL, stderr=subprocess.DEVNULL)
-    return [os.path.join(folder, "release", name) for name in ("gen", "oracle")]
+def built_from(sources):
+    """The oracle's generator and the oracle, built from the Rust's sources."""
+    here = os.path.dirname(os.path.abspath(__file__))
+    built = subprocess.run(["sh", os.path.join(here, "oracle", "build.sh"), sources], stdout=subprocess.PIPE, text=True)
+    if built.returncode:
+        sys.exit(1)  # build.sh has said why
+    folder = os.path.join(os.path.dirname(built.stdout.strip()), "built", "release")
+    return [os.path.join(folder, name) for name in ("gen", "oracle")]
 
 
 def compare_kinds(args, programs):
@@ -270,16 +273,17 @@ def compare_kinds(args, programs):
 
 def main():
     args = arguments()
-    with tempfile.TemporaryDirectory() as temporary:
-        programs = built_in(args.oracle, args.built or temporary)
-        if args.lines:
-            compare_lines(args, programs[1])
-        if args.bad:
-            compare_bad(args)
-        if args.edges:
-            compare_edges(args, programs[1])
-        if args.count or args.damaged or args.every:
-            compare_kinds(args, programs)
+    if not os.access(args.replay, os.X_OK):
+        sys.exit(f"{args.replay} is missing: `rt check replay` makes target/bin/replay")
+    programs = built_from(args.sources)
+    if args.lines:
+        compare_lines(args, programs[1])
+    if args.bad:
+        compare_bad(args)
+    if args.edges:
+        compare_edges(args, programs[1])
+    if args.count or args.damaged or args.every:
+        compare_kinds(args, programs)
 
 
 if __name__ == "__main__":

@@ -1,4 +1,4 @@
-"""Requests damaged in every way that document 01's table names, made from whole ones. The same random numbers, the same requests."""
+"""Requests damaged in every way that the table of refusals names, made from whole ones. The same random numbers, the same requests."""
 import struct
 
 import roll

@@ -1,4 +1,4 @@
-"""Requests at the edges that document 01 and the table name: rank 16 and 17, the last element and those past it, 128 and 129 Paulis and
+"""Requests at the edges: rank 16 and 17, the last element and those past it, 128 and 129 Paulis and
 qubits, in one list and in two joined."""
 import roll
 from calls import CALLS, WORK_WORDS, Request

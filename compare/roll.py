@@ -1,4 +1,4 @@
-"""Rolls and the refusals 1 to 7 by document 01's sections Roll and Turned back. Nothing here uses the oracle."""
+"""Rolls and the refusals 1 to 7 as docs/REFERENCE.md has them. Nothing here uses the oracle."""
 from typing import NamedTuple
 
 MOST_PAULIS = 128

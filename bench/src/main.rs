@@ -24,7 +24,6 @@ struct Options {
     plan: Plan,
     only: Option<String>,
     csv: Option<String>,
-    table: Option<String>,
 }
 
 /// Stops the run unless both sides tell the same, and what the case is named for.
@@ -132,13 +131,8 @@ fn run(options: &Options) {
     if rows.is_empty() {
         stop("no such call");
     }
-    write(&options.csv, print::csv(&rows));
-    write(&options.table, print::markdown(&rows));
-}
-
-fn write(file: &Option<String>, text: String) {
-    if let Some(name) = file {
-        std::fs::write(name, text).unwrap_or_else(|error| stop(&format!("{name}: {error}")));
+    if let Some(name) = &options.csv {
+        std::fs::write(name, print::csv(&rows)).unwrap_or_else(|error| stop(&format!("{name}: {error}")));
     }
 }
 
@@ -173,7 +167,7 @@ fn ours_alone(words: &[String]) {
 
 fn main() {
     let words: Vec<String> = std::env::args().skip(1).collect();
-    let mut options = Options { plan: timing::FULL, only: None, csv: None, table: None };
+    let mut options = Options { plan: timing::FULL, only: None, csv: None };
     let mut i = 0;
     while i < words.len() {
         let next = || Some(words.get(i + 1).unwrap_or_else(|| stop("a word is missing")).clone());
@@ -182,7 +176,6 @@ fn main() {
             "--quick" => options.plan = timing::QUICK,
             "--only" => options.only = next(),
             "--csv" => options.csv = next(),
-            "--table" => options.table = next(),
             other => stop(&format!("{other}: no such option")),
         }
         i += if words[i] == "--quick" { 1 } else { 2 };

@@ -29,7 +29,7 @@ fn roll(answer: Result<usize, Refusal>) -> Told {
 }
 
 fn refused(refusal: Refusal) -> Told {
-    ([REFUSED, refusal.reason as u64, refusal.place as u64], 0)
+    ([REFUSED, refusal.reason.number(), refusal.place as u64], 0)
 }
 
 fn phases(answer: Result<Phases, Refusal>) -> Told {

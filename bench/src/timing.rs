@@ -20,7 +20,7 @@ pub const FULL: Plan =
 pub const QUICK: Plan =
     Plan { qubits: &[5, 128], kinds: &[Kind::Sparse, Kind::Dense], shortest: 1, repeats: 5, fewest: 3, least: 1e-4, most: 0.015 };
 
-/// Seconds a call as medians; the ratio theirs / ours of the medians; and the quartiles of the ratios of the single repeats.
+/// Seconds a call as medians; the median and the quartiles of the ratios theirs / ours of the single repeats.
 #[derive(Clone, Copy)]
 pub struct Figures {
     pub ours: f64,
@@ -91,6 +91,6 @@ pub fn compare(plan: Plan, calls: usize, mut ours: impl FnMut(), mut theirs: imp
     let theirs = quantile(&rising(pairs.iter().map(|pair| pair.1).collect()), 0.5);
     let ratios = rising(pairs.iter().map(|pair| pair.1 / pair.0).collect());
     let each = |turn: f64| turn / calls as f64;
-    let (low, high) = (quantile(&ratios, 0.25), quantile(&ratios, 0.75));
-    Figures { ours: each(ours), theirs: each(theirs), ratio: theirs / ours, low, high }
+    let [low, ratio, high] = [0.25, 0.5, 0.75].map(|part| quantile(&ratios, part));
+    Figures { ours: each(ours), theirs: each(theirs), ratio, low, high }
 }

@@ -1,0 +1,4 @@
+//! The line protocol around the Rust, and plain rolls; ../../README.md has the requests.
+pub mod answer;
+pub mod prng;
+pub mod roll;
