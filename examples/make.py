@@ -1,10 +1,10 @@
 #!/usr/bin/env python3
 """make.py [--oracle PROGRAM]
 
-Writes the inputs of this folder (NAME.in) for the closing listing of document 01, and beside each the listing that it must give
-(NAME.out). The listings come from a small model: the group is the set of all products, made by multiplying until nothing is new;
-rank, phases and membership are read off it. The indexes are the row set of document 01's echelon form. PROGRAM is the oracle, where it
-is built: with it every listing is compared with the oracle's.
+Writes the inputs of this folder (NAME.in) for the report program, and beside each the listing that it must give (NAME.out). The
+listings come from a small model: the group is the set of all products, made by multiplying until nothing is new; rank, phases and
+membership are read off it. The indexes are the row set that the echelon form names. PROGRAM is the oracle, where it is built
+(compare/oracle): with it every listing is compared with the oracle's.
 """
 import argparse
 import os
@@ -51,7 +51,7 @@ def minus(pauli):
 
 
 def times(a, b):
-    """Document 01's product."""
+    """a times b: each Z that passes an X changes the sign."""
     swaps = len(set(a.z) & set(b.x))
     return Pauli((a.e + b.e + 2 * swaps) % 4, tuple(sorted(set(a.x) ^ set(b.x))), tuple(sorted(set(a.z) ^ set(b.z))))
 

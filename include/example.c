@@ -38,7 +38,7 @@ int main(void)
     printf("rank %llu\n", (unsigned long long)a.first);
     for (size_t number = 0; number < 2; number++) {
         a = howhiruke_indexed_factorization_of(generators, sizeof generators, elements, sizeof elements, number,
-                                               HOWHIRUKE_NONE, work, HOWHIRUKE_WORK_WORDS, out, sizeof out);
+                                               HOWHIRUKE_PROMISE_NONE, work, HOWHIRUKE_WORK_WORDS, out, sizeof out);
         if (refused(a))
             return 1;
         if (a.first == 0) {

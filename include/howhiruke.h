@@ -1,30 +1,24 @@
-/* Signed Pauli groups: the calls of crates/capi, for C on x86-64 Linux. Link target/staticlib/libcapi.a.
+/* Signed Pauli groups: the calls of crates/capi, for C and C++ on x86-64 Linux. Link target/staticlib/libcapi.a, which
+ * `sh include/build.sh` makes. docs/REFERENCE.md is the manual.
  *
- * A Pauli (e, x, z) is i^e times X on the qubits x, then Z on the qubits z; Y on one qubit has e = 1. A list of Paulis is given
- * as a roll of bytes, all little-endian: the count n (2 bytes), n entries of 10 bytes (given 1, exponent 1, start 4, x count 2,
- * z count 2), then the bodies: x numbers, then z numbers, 4 bytes each, strictly rising in each set. `given` is 1, and `start` is
- * how many qubit numbers stand in earlier bodies. At most 128 Paulis, 128 distinct qubits, qubit number 65,535.
+ * Paulis. (e, x, z) is i^e times X on the qubits x, then Z on the qubits z. Y is i X Z, so each Y of a word puts its qubit into x and
+ * into z and adds 1 to e: Y is e = 1, YY is e = 2, -Y is e = 3.
  *
- * Every slice is a pointer and a length: bytes of a roll or an output, 64-bit words of a work area. The pointer is not NULL, also
- * where the length is 0. Slices lent to one call must not overlap where one of them is written (work, out, words). A work area has
- * 4,096 words or more; it may hold anything. Its first 4,096 words end as zeros, but are untouched at refusals 1 to 9; its other words
- * are never touched. An output is written from its front, and only the result's own bytes; a refusal leaves it alone.
+ * Rolls. A list of Paulis is given as bytes, all little-endian: the count n (2 bytes), n entries of 10 bytes (given 1, exponent 1, start 4,
+ * x count 2, z count 2), then the bodies: x numbers, then z numbers, 4 bytes each, strictly rising in each set. `given` is 1, and `start`
+ * is how many qubit numbers stand in earlier bodies.
+ *
+ * Slices. Every slice is a pointer and a length: bytes of a roll or an output, 64-bit words of a work area. A length may be 0. The pointer
+ * must not be NULL, also where the length is 0: any other address will do. Slices lent to one call do not overlap where one of them is written (work, out, words).
+ *
+ * A work area has HOWHIRUKE_WORK_WORDS words or more and may hold anything. Its first HOWHIRUKE_WORK_WORDS words are zero at the end, but
+ * untouched at refusals 1 to 9; its other words are never touched. An output is written from its front, and only the result's own bytes;
+ * a refusal leaves it alone. An output of HOWHIRUKE_LARGEST_ROLL bytes is never too short for a roll.
  *
  * Nothing is asked of the contents: a call on any bytes ends, and answers or refuses.
  *
- * Refusals, in this order; per roll 1 to 7, left before right, generators before elements:
- *    1  under 2 bytes, table cut, or length not that of the table
- *    2  over 128 Paulis, or joined list over 128
- *    3  `given` above 1, or start wrong
- *    4  exponent missing (`given` 0)
- *    5  qubit above 65,535
- *    6  a set not strictly rising
- *    7  over 128 distinct qubits, also joined
- *    8  generator or element number past its list
- *    9  work area under 4,096 words
- *   10  listing with rank above 16
- *   11  divisor not a subgroup
- *   12  output shorter than the result
+ * Threads. There is no state outside of what is lent, and nothing is allocated: calls may run at once as long as none of them writes to
+ * what another one is lent.
  */
 #ifndef HOWHIRUKE_H
 #define HOWHIRUKE_H
@@ -36,7 +30,44 @@
 extern "C" {
 #endif
 
-#define HOWHIRUKE_WORK_WORDS 4096
+#define HOWHIRUKE_VERSION_MAJOR 4
+#define HOWHIRUKE_VERSION_MINOR 0
+#define HOWHIRUKE_VERSION_PATCH 0
+#define HOWHIRUKE_VERSION "4.0.0"
+
+/* Limits. */
+#define HOWHIRUKE_MOST_PAULIS 128       /* of a roll, and of two lists joined */
+#define HOWHIRUKE_MOST_QUBITS 128       /* distinct ones, of a roll and of two lists joined */
+#define HOWHIRUKE_HIGHEST_QUBIT 65535   /* the largest qubit number */
+#define HOWHIRUKE_MOST_LISTED_RANK 16   /* of a group whose elements are listed */
+#define HOWHIRUKE_DEFAULT_PAGE 16       /* elements of a page with count 0 */
+#define HOWHIRUKE_LARGEST_PAGE 128      /* elements of a page with a count of 128 or more */
+
+/* Sizes. */
+#define HOWHIRUKE_WORK_WORDS 4096       /* 64-bit words of a work area */
+#define HOWHIRUKE_LARGEST_ROLL 132354   /* bytes of the longest roll that is accepted or written */
+#define HOWHIRUKE_LARGEST_PRODUCT 1036  /* bytes of the longest roll of one Pauli */
+#define HOWHIRUKE_LARGEST_INDEXES 256   /* bytes of the indexes of a member */
+#define HOWHIRUKE_LARGEST_INPUT 65536   /* bytes of the longest input of the closing listing */
+#define HOWHIRUKE_LARGEST_LISTING 53924 /* bytes of the longest closing listing */
+
+/* Refusals, in the order in which they are looked for: 1 to 7 for each roll, left before right and generators before elements; then 2 and
+ * 7 for both lists together, where a call counts them so; then 8 to 12. Within a roll: under 2 bytes (1), 2, table cut (1), each entry's
+ * 3 and 4 in turn, length (1), each qubit number's 5 and 6 in turn, 7. */
+enum {
+    HOWHIRUKE_REFUSED_LENGTH = 1,    /* under 2 bytes, table cut, or length not that of the table */
+    HOWHIRUKE_REFUSED_PAULIS = 2,    /* over 128 Paulis, or joined list over 128 */
+    HOWHIRUKE_REFUSED_ENTRY = 3,     /* `given` above 1, or start wrong */
+    HOWHIRUKE_REFUSED_EXPONENT = 4,  /* exponent missing (`given` 0) */
+    HOWHIRUKE_REFUSED_QUBIT = 5,     /* qubit above 65,535 */
+    HOWHIRUKE_REFUSED_RISING = 6,    /* a set not strictly rising */
+    HOWHIRUKE_REFUSED_QUBITS = 7,    /* over 128 distinct qubits, also joined */
+    HOWHIRUKE_REFUSED_NUMBER = 8,    /* generator or element number past its list */
+    HOWHIRUKE_REFUSED_WORK = 9,      /* work area under 4,096 words */
+    HOWHIRUKE_REFUSED_LISTING = 10,  /* listing with rank above 16 */
+    HOWHIRUKE_REFUSED_SUBGROUP = 11, /* divisor not a subgroup */
+    HOWHIRUKE_REFUSED_OUTPUT = 12    /* output shorter than the result */
+};
 
 /* refusal is 0 for an answer, which is in first, second and third; what a call does not name is 0. At a refusal, place is the
  * Pauli's index in its own roll for 3 to 6, else 0, and the others are 0. */
@@ -48,11 +79,12 @@ typedef struct {
     uint64_t third;
 } howhiruke_answer;
 
-/* What the caller promises of a list; every other number is read as none. A false promise changes answers. */
-enum { HOWHIRUKE_NONE = 0, HOWHIRUKE_ABELIAN = 1, HOWHIRUKE_NOT_ABELIAN = 2 };
+/* What the caller promises of a list: nothing, that no two of its Paulis anticommute, or that some two do. Every other number is read as
+ * none. A false promise changes answers. */
+enum { HOWHIRUKE_PROMISE_NONE = 0, HOWHIRUKE_PROMISE_ABELIAN = 1, HOWHIRUKE_PROMISE_NOT_ABELIAN = 2 };
 
-/* How two groups compare. */
-enum { HOWHIRUKE_EQUAL = 0, HOWHIRUKE_LESS = 1, HOWHIRUKE_GREATER = 2, HOWHIRUKE_NO_ORDER = 3 };
+/* How the left group compares with the right one: equal, inside it, holding it, or neither. */
+enum { HOWHIRUKE_ORDER_EQUAL = 0, HOWHIRUKE_ORDER_LESS = 1, HOWHIRUKE_ORDER_GREATER = 2, HOWHIRUKE_ORDER_NONE = 3 };
 
 /* ---- rolls: no work area */
 
@@ -69,26 +101,27 @@ howhiruke_answer howhiruke_product(const uint8_t *left, size_t left_len, size_t 
 howhiruke_answer howhiruke_join(const uint8_t *left, size_t left_len, const uint8_t *right, size_t right_len,
                                 uint8_t *out, size_t out_len);
 
-/* Generator n of the joined list. first: its exponent, 0 to 3; second: its x count; third: its z count. Refusals 1 to 8. */
+/* Generator n of the joined list. first: its exponent, 0 to 3; second: its x count; third: its z count. Refusals 1 to 8; 2 and 7 also
+ * joined. */
 howhiruke_answer howhiruke_joined_entry(const uint8_t *left, size_t left_len, const uint8_t *right, size_t right_len, size_t n);
 
 /* Where its body stands. first: 0 for left, 1 for right; second: the body's first byte in that roll; third: its length in bytes.
- * Refusals 1 to 8. */
+ * Refusals as those of howhiruke_joined_entry. */
 howhiruke_answer howhiruke_joined_body(const uint8_t *left, size_t left_len, const uint8_t *right, size_t right_len, size_t n);
 
 /* ---- groups: refusals 1 to 7 and 9, and those named */
 
-/* Writes the standard generators. first: the roll's length. Also 12. */
+/* Writes the standard generators: the same bytes exactly for lists that generate the same group. first: the roll's length. Also 12. */
 howhiruke_answer howhiruke_standard_generators(const uint8_t *roll, size_t roll_len, uint64_t *work, size_t work_len,
                                                uint8_t *out, size_t out_len);
 
-/* first: the rank. */
+/* first: the rank, which is how many independent Paulis the list has, signs left aside. */
 howhiruke_answer howhiruke_rank(const uint8_t *roll, size_t roll_len, uint64_t *work, size_t work_len);
 
-/* first: how many phases the group has: 1 (0), 2 (0, 2) or 4 (0, 1, 2, 3). */
+/* first: how many powers of i are in the group: 1 (exponent 0), 2 (0, 2) or 4 (0, 1, 2, 3). */
 howhiruke_answer howhiruke_phases(const uint8_t *roll, size_t roll_len, uint64_t promise, uint64_t *work, size_t work_len);
 
-/* first: 1 for yes, 0 for no. */
+/* first: 1 where no two Paulis of the list anticommute, else 0. */
 howhiruke_answer howhiruke_is_abelian(const uint8_t *roll, size_t roll_len, uint64_t promise, uint64_t *work, size_t work_len);
 
 /* first: 1 where the group is abelian and does not have -I, else 0. */
@@ -112,19 +145,19 @@ howhiruke_answer howhiruke_indexed_factorization_of(const uint8_t *generators, s
 howhiruke_answer howhiruke_elements(const uint8_t *roll, size_t roll_len, uint64_t promise, uint32_t start, uint32_t count,
                                     uint64_t *work, size_t work_len, uint8_t *out, size_t out_len);
 
-/* Writes generators of the same group in pairs: the two of a pair anticommute, all else commutes. first: the roll's length.
- * Also 12. */
+/* Writes generators of the same group, as many as the list has, pairs first: the two of a pair anticommute, all else commutes.
+ * first: the roll's length. Also 12. */
 howhiruke_answer howhiruke_symplectic_form_of(const uint8_t *roll, size_t roll_len, uint64_t *work, size_t work_len,
                                               uint8_t *out, size_t out_len);
 
 /* ---- two groups: refusals 1 to 7 and 9, and those named; 2 and 7 also joined */
 
-/* first: HOWHIRUKE_EQUAL, HOWHIRUKE_LESS (left is inside right), HOWHIRUKE_GREATER or HOWHIRUKE_NO_ORDER. */
+/* first: HOWHIRUKE_ORDER_EQUAL, HOWHIRUKE_ORDER_LESS (left is inside right), HOWHIRUKE_ORDER_GREATER or HOWHIRUKE_ORDER_NONE. */
 howhiruke_answer howhiruke_partial_cmp(const uint8_t *left, size_t left_len, const uint8_t *right, size_t right_len,
                                        uint64_t left_promise, uint64_t right_promise, uint64_t *work, size_t work_len);
 
-/* Writes left's generators, each multiplied by the standard generators of right at whose pivots it has a one. The left promise is
- * not read. first: the roll's length. Also 12. */
+/* Writes left's standard generators, each multiplied by the standard generators of right at whose pivots it has a one; its exponent is
+ * then taken mod 4, 2 or 1 where right has 1, 2 or 4 phases. The left promise is not read. first: the roll's length. Also 12. */
 howhiruke_answer howhiruke_modulo(const uint8_t *left, size_t left_len, const uint8_t *right, size_t right_len,
                                   uint64_t left_promise, uint64_t right_promise, uint64_t *work, size_t work_len,
                                   uint8_t *out, size_t out_len);
@@ -143,8 +176,9 @@ howhiruke_answer howhiruke_bitand(const uint8_t *left, size_t left_len, const ui
 
 /* ---- the report */
 
-/* Writes the closing listing of an input: a 4-byte length, a generator roll of that length, an element roll. first: the text's length,
- * at most 53,924 bytes. An input that is refused gives the line `refused N at K in roll R`. Refusals: 9 and 12. */
+/* Writes the closing listing of an input: a 4-byte length, a generator roll of that length, an element roll. first: the text's length.
+ * Refusals 9 and 12 alone, 9 first, whatever the input: an input that is refused (1 to 7) gives the line `refused N at K in roll R`, which
+ * is an answer. */
 howhiruke_answer howhiruke_closing_report(const uint8_t *input, size_t input_len, uint64_t *work, size_t work_len,
                                           uint8_t *out, size_t out_len);
 

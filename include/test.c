@@ -4,7 +4,7 @@
 #include <string.h>
 #include "howhiruke.h"
 
-enum { WORDS = HOWHIRUKE_WORK_WORDS, ROOM = 65536 };
+enum { WORDS = HOWHIRUKE_WORK_WORDS, ROOM = HOWHIRUKE_LARGEST_ROLL + 3 };
 
 typedef struct {
     int e;
@@ -110,6 +110,14 @@ static int untouched(void)
     return same_words(0, WORDS + 3, FILL);
 }
 
+static void holds(const char *row, int right)
+{
+    if (right)
+        return;
+    printf("%s: the output, the work area or the matrix is wrong\n", row);
+    exit(1);
+}
+
 static void told(const char *row, howhiruke_answer a, uint64_t first, uint64_t second, uint64_t third)
 {
     rows++;
@@ -139,13 +147,17 @@ static void listed(const char *row, howhiruke_answer a, roll r)
         wrong(row, a);
 }
 
-static void refused(const char *row, howhiruke_answer a, uint64_t number, uint64_t place)
+/* A refusal leaves the output alone; `area` says what it leaves of the work area. */
+static void refused_with(const char *row, howhiruke_answer a, uint64_t number, uint64_t place, int (*area)(void))
 {
     rows++;
-    if (a.refusal != number || a.place != place || a.first || a.second || a.third || !kept(0))
+    if (a.refusal != number || a.place != place || a.first || a.second || a.third || !kept(0) || !area())
         wrong(row, a);
-    if (number <= 9 ? !untouched() : !used())
-        wrong(row, a);
+}
+
+static void refused(const char *row, howhiruke_answer a, uint64_t number, uint64_t place)
+{
+    refused_with(row, a, number, place, number <= 9 ? untouched : used);
 }
 
 #define ROLL(r) (r).b, (r).n
@@ -158,21 +170,20 @@ static void marked(void)
     roll none = of(0, NULL);
     roll minus = LIST(MINUS_I), imaginary = LIST(I_I), y = LIST(Y), xz = LIST(XZ), both = LIST(X, Z), opposite = LIST(X, MINUS_X);
     listed("[] standard", CALL(standard_generators, ROLL(none), WORK, OUT), LIST(I));
-    worked("[] phases", CALL(phases, ROLL(none), HOWHIRUKE_NONE, WORK), 1);
+    worked("[] phases", CALL(phases, ROLL(none), HOWHIRUKE_PROMISE_NONE, WORK), 1);
     listed("[-I] standard", CALL(standard_generators, ROLL(minus), WORK, OUT), minus);
-    worked("[-I] phases", CALL(phases, ROLL(minus), HOWHIRUKE_NONE, WORK), 2);
+    worked("[-I] phases", CALL(phases, ROLL(minus), HOWHIRUKE_PROMISE_NONE, WORK), 2);
     listed("[iI] standard", CALL(standard_generators, ROLL(imaginary), WORK, OUT), imaginary);
-    worked("[iI] phases", CALL(phases, ROLL(imaginary), HOWHIRUKE_NONE, WORK), 4);
-    worked("[Y] phases", CALL(phases, ROLL(y), HOWHIRUKE_NONE, WORK), 1);
-    worked("[XZ] phases", CALL(phases, ROLL(xz), HOWHIRUKE_NONE, WORK), 2);
-    worked("[X,Z] log2 size", CALL(log2_size, ROLL(both), HOWHIRUKE_NONE, WORK), 3);
+    worked("[iI] phases", CALL(phases, ROLL(imaginary), HOWHIRUKE_PROMISE_NONE, WORK), 4);
+    worked("[Y] phases", CALL(phases, ROLL(y), HOWHIRUKE_PROMISE_NONE, WORK), 1);
+    worked("[XZ] phases", CALL(phases, ROLL(xz), HOWHIRUKE_PROMISE_NONE, WORK), 2);
+    worked("[X,Z] log2 size", CALL(log2_size, ROLL(both), HOWHIRUKE_PROMISE_NONE, WORK), 3);
     listed("[X,-X] standard", CALL(standard_generators, ROLL(opposite), WORK, OUT), LIST(X, MINUS_I));
     roll zx = LIST(Z, X);
-    told("[Z,X] on XZ", CALL(indexed_factorization_of, ROLL(zx), ROLL(xz), 0, HOWHIRUKE_NONE, WORK, OUT), 1, 2, 2);
-    if (memcmp(out, "\0\0\1\0", 4) || !kept(4) || !used())
-        exit(1);
+    told("[Z,X] on XZ", CALL(indexed_factorization_of, ROLL(zx), ROLL(xz), 0, HOWHIRUKE_PROMISE_NONE, WORK, OUT), 1, 2, 2);
+    holds("[Z,X] on XZ", !memcmp(out, "\0\0\1\0", 4) && kept(4) && used());
     roll x = LIST(X), minus_x = LIST(MINUS_X);
-    worked("[X] and [-X]", CALL(partial_cmp, ROLL(x), ROLL(minus_x), 0, 0, WORK), HOWHIRUKE_NO_ORDER);
+    worked("[X] and [-X]", CALL(partial_cmp, ROLL(x), ROLL(minus_x), 0, 0, WORK), HOWHIRUKE_ORDER_NONE);
     roll bell = LIST(XX, ZZ), xx = LIST(XX);
     listed("<XX,ZZ> modulo <XX>", CALL(modulo, ROLL(bell), ROLL(xx), 0, 0, WORK, OUT), LIST(I, ZZ));
     listed("<XX,ZZ> by <XX>", CALL(try_quotient, ROLL(bell), ROLL(xx), 0, 0, WORK, OUT), LIST(I, ZZ));
@@ -185,30 +196,28 @@ static void others(void)
     roll bell = LIST(XX, ZZ), xx = LIST(XX), x = LIST(X), z = LIST(Z), x1 = LIST(X1);
     told("check", CALL(check_roll, ROLL(bell)), 2, 0, 0);
     worked("rank", CALL(rank, ROLL(bell), WORK), 2);
-    worked("abelian", CALL(is_abelian, ROLL(bell), HOWHIRUKE_NONE, WORK), 1);
-    worked("promised not abelian", CALL(is_abelian, ROLL(bell), HOWHIRUKE_NOT_ABELIAN, WORK), 0);
+    worked("abelian", CALL(is_abelian, ROLL(bell), HOWHIRUKE_PROMISE_NONE, WORK), 1);
+    worked("promised not abelian", CALL(is_abelian, ROLL(bell), HOWHIRUKE_PROMISE_NOT_ABELIAN, WORK), 0);
     worked("promise 3 is none", CALL(is_abelian, ROLL(bell), 3, WORK), 1);
-    worked("stabilizer", CALL(is_stabilizer_group, ROLL(bell), HOWHIRUKE_ABELIAN, WORK), 1);
-    worked("equal", CALL(partial_cmp, ROLL(bell), ROLL(bell), 0, 0, WORK), HOWHIRUKE_EQUAL);
-    worked("less", CALL(partial_cmp, ROLL(xx), ROLL(bell), 0, 0, WORK), HOWHIRUKE_LESS);
-    worked("greater", CALL(partial_cmp, ROLL(bell), ROLL(xx), 0, 0, WORK), HOWHIRUKE_GREATER);
-    told("not a member", CALL(indexed_factorization_of, ROLL(bell), ROLL(x), 0, HOWHIRUKE_NONE, WORK, OUT), 0, 0, 0);
+    worked("stabilizer", CALL(is_stabilizer_group, ROLL(bell), HOWHIRUKE_PROMISE_ABELIAN, WORK), 1);
+    worked("equal", CALL(partial_cmp, ROLL(bell), ROLL(bell), 0, 0, WORK), HOWHIRUKE_ORDER_EQUAL);
+    worked("less", CALL(partial_cmp, ROLL(xx), ROLL(bell), 0, 0, WORK), HOWHIRUKE_ORDER_LESS);
+    worked("greater", CALL(partial_cmp, ROLL(bell), ROLL(xx), 0, 0, WORK), HOWHIRUKE_ORDER_GREATER);
+    told("not a member", CALL(indexed_factorization_of, ROLL(bell), ROLL(x), 0, HOWHIRUKE_PROMISE_NONE, WORK, OUT), 0, 0, 0);
     pauli minus_xz = {2, {0, E}, {0, E}};
     wrote("Z times X", CALL(product, ROLL(z), 0, ROLL(x), 0, OUT), LIST(minus_xz));
     wrote("join", CALL(join, ROLL(bell), ROLL(x1), OUT), LIST(XX, ZZ, X1));
     told("joined entry", CALL(joined_entry, ROLL(bell), ROLL(x1), 1), 0, 0, 2);
     told("joined body", CALL(joined_body, ROLL(bell), ROLL(x1), 1), 0, 30, 8);
     told("joined body of right", CALL(joined_body, ROLL(bell), ROLL(x1), 2), 1, 12, 4);
-    listed("elements", CALL(elements, ROLL(xx), HOWHIRUKE_NONE, 0, 0, WORK, OUT), LIST(I, XX));
-    listed("elements past the end", CALL(elements, ROLL(xx), HOWHIRUKE_NONE, 2, 0, WORK, OUT), of(0, NULL));
+    listed("elements", CALL(elements, ROLL(xx), HOWHIRUKE_PROMISE_NONE, 0, 0, WORK, OUT), LIST(I, XX));
+    listed("elements past the end", CALL(elements, ROLL(xx), HOWHIRUKE_PROMISE_NONE, 2, 0, WORK, OUT), of(0, NULL));
     uint64_t words[] = {3, 9, 1, 9, 7, 7, 5};
     told("echelon form", howhiruke_echelon_form(words, 7, 1, 2, 2), 1, 2, 0);
     uint64_t form[] = {1, 2, 2, 3, 0, 1, 5};
-    if (memcmp(words, form, sizeof form))
-        exit(1);
+    holds("echelon form", !memcmp(words, form, sizeof form));
     told("misfit", howhiruke_echelon_form(words, 5, 1, 2, 2), 0, 0, 0);
-    if (memcmp(words, form, sizeof form))
-        exit(1);
+    holds("misfit", !memcmp(words, form, sizeof form));
 }
 
 /* The common part, and the closing example. */
@@ -224,20 +233,20 @@ static void common_and_report(void)
     memcpy(input + 4, bell.b, bell.n);
     memcpy(input + 4 + bell.n, elements.b, elements.n);
     told("closing example", CALL(closing_report, input, 4 + bell.n + elements.n, WORK, OUT), strlen(text), 0, 0);
-    if (memcmp(out, text, strlen(text)))
-        exit(1);
+    holds("closing example", !memcmp(out, text, strlen(text)) && kept(strlen(text)) && used());
     told("closing refusal", CALL(closing_report, input, 3, WORK, OUT), 25, 0, 0);
-    if (memcmp(out, "refused 1 at 0 in roll 1\n", 25))
-        exit(1);
+    holds("closing refusal", !memcmp(out, "refused 1 at 0 in roll 1\n", 25) && kept(25) && used());
     refused("closing 9", CALL(closing_report, input, 4 + bell.n + elements.n, work, WORDS - 1, OUT), 9, 0);
+    refused("closing 9 before the input's refusal", CALL(closing_report, input, 3, work, WORDS - 1, OUT), 9, 0);
     refused("closing 12", CALL(closing_report, input, 4 + bell.n + elements.n, WORK, out, strlen(text) - 1), 12, 0);
+    refused("closing 12 for a refusal's line", CALL(closing_report, input, 3, WORK, out, 24), 12, 0);
 }
 
 static void refusals(void)
 {
     roll bell = LIST(XX, ZZ), x = LIST(X), z = LIST(Z), xx = LIST(XX);
     pauli high = {0, {65536, E}, {E}}, falling = {0, {1, 0, E}, {E}};
-    refused("1", CALL(rank, bell.b, bell.n - 1, WORK), 1, 0);
+    refused("1", CALL(rank, bell.b, bell.n - 1, WORK), HOWHIRUKE_REFUSED_LENGTH, 0);
     roll changed = bell;
     changed.b[12] = 2;
     refused("3", CALL(rank, ROLL(changed), WORK), 3, 1);
@@ -275,6 +284,47 @@ static void edges(void)
     refused("rank 17", CALL(elements, ROLL(larger), 0, 0, 1, WORK, OUT), 10, 0);
 }
 
+/* Slices of no bytes and no words. */
+static void nothing(void)
+{
+    roll none = of(0, NULL), identity = LIST(I), x = LIST(X);
+    refused("no bytes", CALL(check_roll, x.b, 0), 1, 0);
+    refused("no words", CALL(rank, ROLL(x), work, 0), 9, 0);
+    refused("no output", CALL(standard_generators, ROLL(none), WORK, out, 0), 12, 0);
+    refused_with("no output, no area", CALL(join, ROLL(none), ROLL(none), out, 0), 12, 0, untouched);
+    told("no indexes", CALL(indexed_factorization_of, ROLL(none), ROLL(identity), 0, 0, WORK, out, 0), 1, 0, 0);
+    told("no member", CALL(indexed_factorization_of, ROLL(none), ROLL(x), 0, 0, WORK, out, 0), 0, 0, 0);
+    told("no matrix", howhiruke_echelon_form(work, 0, 0, 0, 0), 1, 0, 0);
+}
+
+/* The longest roll, which the empty list joined with it writes again, and the longest product. */
+static void longest(void)
+{
+    static uint8_t b[HOWHIRUKE_LARGEST_ROLL];
+    roll none = of(0, NULL), entry, number;
+    size_t at = 2;
+    b[0] = HOWHIRUKE_MOST_PAULIS;
+    for (unsigned k = 0; k < HOWHIRUKE_MOST_PAULIS; k++, at += 10) {
+        entry.n = 0;
+        put(&entry, 1, 2);
+        put(&entry, 256 * k, 4);
+        put(&entry, 128, 2);
+        put(&entry, 128, 2);
+        memcpy(b + at, entry.b, 10);
+    }
+    for (unsigned k = 0; k < 256 * HOWHIRUKE_MOST_PAULIS; k++, at += 4) {
+        number.n = 0;
+        put(&number, HOWHIRUKE_HIGHEST_QUBIT - 127 + k % 128, 4);
+        memcpy(b + at, number.b, 4);
+    }
+    told("longest roll", CALL(check_roll, b, sizeof b), HOWHIRUKE_MOST_PAULIS, 0, 0);
+    refused_with("longest, short", CALL(join, ROLL(none), b, sizeof b, out, sizeof b - 1), 12, 0, untouched);
+    told("longest joined", CALL(join, ROLL(none), b, sizeof b, OUT), sizeof b, 0, 0);
+    holds("longest joined", !memcmp(out, b, sizeof b) && kept(sizeof b));
+    roll identity = LIST(I);
+    told("longest product", CALL(product, b, sizeof b, 0, ROLL(identity), 0, OUT), HOWHIRUKE_LARGEST_PRODUCT, 0, 0);
+}
+
 int main(void)
 {
     marked();
@@ -282,6 +332,8 @@ int main(void)
     common_and_report();
     refusals();
     edges();
+    nothing();
+    longest();
     printf("C: %d rows equal\n", rows);
     return 0;
 }

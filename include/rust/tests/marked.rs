@@ -97,6 +97,26 @@ fn two_groups() {
 }
 
 #[test]
+fn common_part() {
+    let none = Promise::None;
+    let common = |l: &[u8], r: &[u8]| written(|w, o| bitand(l, r, none, none, w, o));
+    assert_eq!(common(&roll(&[XX, ZZ]), &roll(&[XX])), Ok(roll(&[XX])));
+    assert_eq!(common(&roll(&[X]), &roll(&[Z])), Ok(roll(&[I])));
+}
+
+#[test]
+fn closing_listing() {
+    let generators = roll(&[XX, ZZ]);
+    let elements = roll(&[(0, &[0, 1], &[0, 1]), (2, &[0, 1], &[0, 1]), (0, &[], &[2])]);
+    let input = [&(generators.len() as u32).to_le_bytes(), &generators[..], &elements[..]].concat();
+    let text = "rank 2 phases 0 abelian yes\n0 member 0 1 phase 0\n1 not member\n2 not member\n";
+    assert_eq!(written(|w, o| closing_report(&input, w, o)), Ok(text.into()));
+    assert_eq!(written(|w, o| closing_report(&input[..3], w, o)), Ok("refused 1 at 0 in roll 1\n".into()));
+    assert_eq!(closing_report(&input[..3], &mut work()[1..], &mut [0; 64]), refused(Reason::Work, 0));
+    assert_eq!(closing_report(&input[..3], &mut work(), &mut [0; 24]), refused(Reason::Output, 0));
+}
+
+#[test]
 fn lists() {
     let three = roll(&[X, Z, X1]);
     assert_eq!(written(|w, o| symplectic_form_of(&three, w, o)), Ok(roll(&[Z, X, X1])));
@@ -138,6 +158,15 @@ fn refusals() {
     let listed = |n: usize| written(|w, o| elements(&roll(&zs[..n]), Promise::None, 0, 1, w, o));
     assert_eq!(listed(16), Ok(roll(&[I])));
     assert_eq!(listed(17), refused(Reason::Listing, 0));
+}
+
+#[test]
+fn words_of_a_refusal() {
+    let refusal = Refusal { reason: Reason::Exponent, place: 3 };
+    assert_eq!(refusal.to_string(), "refused 4 at 3: the exponent is missing");
+    let error: Box<dyn std::error::Error> = refusal.into();
+    assert!(error.source().is_none());
+    assert_eq!(Reason::Unknown(99).number(), 99);
 }
 
 #[test]
