@@ -5,4 +5,6 @@ pub mod Shapes
 pub mod Sweep
 pub mod Formed
 pub mod Reading
+pub mod Alike
+pub mod Solving
 pub mod Theorems

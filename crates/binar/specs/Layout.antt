@@ -1,15 +1,15 @@
--- What the functions of the module echelon answer and leave in the slice lent.
+-- What the functions of the module matrix_form answer and leave in the slice lent.
 use mathlib.Core.Path.{_≡_}
 use mathlib.Core.Bool.{Bool, true, false}
 use mathlib.Core.List.{List, map}
 use Prim.Native.Nat.{ℕ, _+_, _*_, _/_, _%_, _^_, _≤_, _<_}
-use lib.Dec.{leb}
+use lib.Dec.{leb, eqb}
 use lib.ListN.{length, getD, take, drop}
 use Rattle.binar.specs.declared.matrix_form.Formation.{Formation}
 use Rattle.binar.specs.declared.matrix_form.Formation.the-variants.{Rank, Misfit}
 use Rattle.binar.specs.declared.matrix_form.Solution.{Solution}
 use Rattle.binar.specs.declared.matrix_form.Solution.the-variants.{Set, NoSet}
-use Rattle.binar.specs.Words.{rowAt, matrix}
+use Rattle.binar.specs.Words.{rowAt, putRow, matrix}
 use Rattle.binar.specs.Echelon.{Reduction, echelonize, besideIdentity, EchelonForm}
 use Rattle.binar.specs.Solve.{sweep}
 use Rattle.binar.specs.Laid.{laidOut}
@@ -50,8 +50,9 @@ formIn s n width cols rank l = record {
   pivots = take rank (drop (n * s) l);
 }
 
--- n rows of s words with the pivots of the first `rank` of them behind, and past these a target of s words at word `place`
-pub record Solvable (l : List ℕ) (s n cols rank place : ℕ) : Type 0 where
+-- here is a form as `echelon_form` leaves it, n rows of s words and behind them the pivots of the first `rank`, with a target of s words
+-- at word `place`
+pub record FormLeft (l : List ℕ) (s n cols rank place : ℕ) : Type 0 where
   pub rows : rank ≤ n
   pub pivots : n * s + rank ≤ place
   pub target : place + s ≤ length l
@@ -66,3 +67,8 @@ swept s n rank place l = sweep (take rank (drop (n * s) l)) (matrix s n l) (rowA
 abbrev pub solution : Bool → Solution
 solution true = Set
 solution false = NoSet
+
+-- `transpose_solve`: whether there is a set, and the target's row with what is left of the target and, beside it, the set
+pub record SolutionIs (l : List ℕ) (s n cols rank place : ℕ) (answer : Solution) (exit : List ℕ) : Type 0 where
+  pub told : answer ≡ solution (eqb (swept s n rank place l % 2 ^ cols) 0)
+  pub left : exit ≡ putRow l place s (swept s n rank place l)

@@ -4,15 +4,17 @@ use mathlib.Core.Path.{_≡_}
 use mathlib.Core.Bool.{true, false}
 use mathlib.Core.List.{List, map}
 use mathlib.Core.Option.{Option, some, none}
-use Prim.Native.Nat.{ℕ, _*_, _/_, _%_, _^_, _≤_, _<_}
+use Prim.Native.Nat.{ℕ, _+_, _*_, _/_, _%_, _^_, _≤_, _<_}
 use lib.ListN.{length, getD, take}
 use Rattle.binar.specs.Row.{columns, rowSum, units}
 use Rattle.binar.specs.Echelon.{EchelonForm, echelon, R, T, rank}
 use Rattle.binar.specs.Solve.{solved, transposeSolve}
 use Rattle.binar.specs.Words.{rowAt, matrix}
-use Rattle.binar.specs.Layout.{formStride, fits, formIn, Solvable, swept}
+use Rattle.binar.specs.Layout.{formStride, fits, FormIs, formIn, FormLeft, swept, SolutionIs}
 use Rattle.binar.specs.declared.matrix_form.Formation.{Formation}
 use Rattle.binar.specs.declared.matrix_form.Formation.the-variants.{Rank, Misfit}
+use Rattle.binar.specs.declared.matrix_form.Solution.{Solution}
+use Rattle.binar.specs.declared.matrix_form.Solution.the-variants.{Set, NoSet}
 use Rattle.binar.specs.Space.{RowSpace, SameSpace, ReducedForm, Independent, Dimension}
 
 -- 1. T·A = R over GF(2), where T is a square matrix
@@ -57,5 +59,33 @@ pub record FormLaw (l : List ℕ) (width n cols : ℕ) (answer : Formation) (exi
 -- 7. What `transpose_solve` leaves is the solution by the form in the slice, where the target's T words are zero at entry
 abbrev pub SolutionLaw : List ℕ → ℕ → ℕ → ℕ → ℕ → ℕ → ℕ → Type 0
 SolutionLaw l s n width cols rank place =
-    Solvable l s n cols rank place → cols ≤ 64 * width → rowAt l place s < 2 ^ (64 * width)
+    FormLeft l s n cols rank place → cols ≤ 64 * width → rowAt l place s < 2 ^ (64 * width)
     → solved (swept s n rank place l % 2 ^ cols) (swept s n rank place l / 2 ^ (64 * width)) ≡ transposeSolve cols (formIn s n width cols rank l) (rowAt l place s)
+
+-- `echelon_form` told the rank r and left x; in w its rows and pivots are as they were left, and behind them, at word `place`, stands a row
+-- with the target v in its R words and zeros in its T words
+pub record Targeted (x w : List ℕ) (width n r place v : ℕ) : Type 0 where
+  pub size : length w ≡ length x
+  pub kept : (i : ℕ) → i < n * formStride width n + r → getD w i 0 ≡ getD x i 0
+  pub behind : n * formStride width n + r ≤ place
+  pub room : place + formStride width n ≤ length w
+  pub target : rowAt w place (formStride width n) ≡ v
+  pub narrow : v < 2 ^ (64 * width)
+
+-- "`transpose_solve` gives the row set of A that sums to a target through R and T, or none exactly when no set does": A is the matrix
+-- that was in l. What the call requires is met; whatever it answers and leaves, a set told is in the T words of the target's row
+pub record SetLaw (l w : List ℕ) (width n cols r place v : ℕ) : Type 0 where
+  pub required : FormLeft w (formStride width n) n cols r place
+  pub set-sums : (answer : Solution) (w′ : List ℕ) → SolutionIs w (formStride width n) n cols r place answer w′ → answer ≡ Set
+      → let set = rowAt w′ place (formStride width n) / 2 ^ (64 * width) in
+      (set < 2 ^ n) × (rowSum set (columns cols (matrix (formStride width n) n l)) ≡ v % 2 ^ cols)
+  pub none-right : (answer : Solution) (w′ : List ℕ) → SolutionIs w (formStride width n) n cols r place answer w′ → answer ≡ NoSet
+      → RowSpace (columns cols (matrix (formStride width n) n l)) (v % 2 ^ cols) → ⊥
+  pub none-only : (answer : Solution) (w′ : List ℕ) → SolutionIs w (formStride width n) n cols r place answer w′
+      → (RowSpace (columns cols (matrix (formStride width n) n l)) (v % 2 ^ cols) → ⊥) → answer ≡ NoSet
+
+-- 8. That sentence, of the two calls as their contracts have them
+abbrev pub CallsLaw : Type 0
+CallsLaw =
+    (l x w : List ℕ) (width n cols r place v : ℕ) → FormIs l width n cols (Rank r) x → Targeted x w width n r place v
+    → SetLaw l w width n cols r place v

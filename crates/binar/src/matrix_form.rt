@@ -1,11 +1,10 @@
 // The echelon form of a matrix of any shape, and solving with it.
 ghost use mathlib.Core.Path.{_≡_};
 ghost use Prim.Native.Nat.{_+_, _*_, _/_, _%_, _^_, _≤_, _<_};
-ghost use lib.Dec.{eqb};
 ghost use lib.ListN.{length, drop};
 ghost use Rattle.binar.specs.Words.{rowAt, putRow, matrix, image};
 ghost use Rattle.binar.specs.Echelon.{besideIdentity};
-ghost use Rattle.binar.specs.Layout.{fits, FormIs, Solvable, swept, solution};
+ghost use Rattle.binar.specs.Layout.{fits, FormIs, FormLeft, SolutionIs};
 use crate::echelon::echelonize;
 use crate::row::clear_bits;
 use crate::row::index;
@@ -89,9 +88,8 @@ pub fn transpose_solve(
     rank: usize,
     at: usize,
 ) -> Solution
-    requires { ⌜ Solvable (now w) stride rows cols rank at ⌝ }
-    ensures told { λ r. ⌜ r ≡ solution (eqb (swept stride rows rank at (now (w .entry)) % 2 ^ cols) 0) ⌝ }
-    ensures left { λ _. ⌜ now (w .exit) ≡ putRow (now (w .entry)) at stride (swept stride rows rank at (now (w .entry))) ⌝ }
+    requires { ⌜ FormLeft (now w) stride rows cols rank at ⌝ }
+    ensures { λ r. ⌜ SolutionIs (now (w .entry)) stride rows cols rank at r (now (w .exit)) ⌝ }
 {
     let mut k = 0;
     while k < rank {

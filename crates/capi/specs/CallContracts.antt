@@ -9,13 +9,12 @@ use Rattle.binar.specs.Layout.{formStride, fits, formed, pick}
 use Rattle.binar.specs.Laid.{laidOut}
 use Rattle.pauli.specs.Told.{Told}
 use Rattle.pauli.specs.Writing.{toldBytes, leftIn}
-use Rattle.pauli.specs.JoinCalls.{bodyOf}
+use Rattle.pauli.specs.JoinCalls.{stretchOf, rollNumbered, bodyOf}
 use Rattle.pauli_theory.specs.Membership.{Factorization}
-use Rattle.pauli_group.specs.Inner.Area.{areaAfter}
+use Rattle.pauli_group.specs.WorkArea.{areaAfter}
 use Rattle.pauli_group.specs.Calls.{toldMember, memberLeft}
 use Rattle.capi.specs.declared.answer.Answer.{Answer}
 use Rattle.capi.specs.Code.{codeNumber, codeBody, codeMember, codeForm}
-use Rattle.capi.specs.Stretch.{stretchOf, rollNumbered}
 
 -- a call that writes a roll, and uses no work area
 pub record Writing (result : Told (List ℕ)) (out : List ℕ) (r : Answer) (out′ : List ℕ) : Type 0 where

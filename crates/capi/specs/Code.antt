@@ -1,16 +1,17 @@
 -- The five numbers of each answer, and promises by number.
 use mathlib.Core.Option.{Option, some}
 use mathlib.Core.Option.{none as nothing}
-use Prim.Native.Nat.{ℕ, zero, suc, _/_}
+use mathlib.Core.List.{List}
+use Prim.Native.Nat.{ℕ, zero, suc}
+use lib.ListN.{length}
 use Rattle.binar.specs.declared.matrix_form.Formation.{Formation}
 use Rattle.binar.specs.declared.matrix_form.Formation.the-variants.{Rank, Misfit}
 use Rattle.pauli.specs.Told.{Told, answer, refused}
-use Rattle.pauli.specs.JoinCalls.{Looked}
+use Rattle.pauli.specs.JoinCalls.{Looked, Stretch}
 use Rattle.pauli_theory.specs.Group.{Promise, none, abelian, notAbelian}
 use Rattle.pauli_theory.specs.Order.{Order, equal, less, greater, noOrder}
 use Rattle.pauli_group.specs.Calls.{Factored}
 use Rattle.capi.specs.declared.answer.Answer.{Answer}
-use Rattle.capi.specs.Stretch.{Stretch}
 
 -- "A refusal carries its number and its place"; all else is 0
 abbrev pub codeRefusal : ℕ → ℕ → Answer
@@ -25,9 +26,9 @@ abbrev pub codeNumber : Told ℕ → Answer
 codeNumber (answer n) = codeValues n 0 0
 codeNumber (refused n p) = codeRefusal n p
 
--- how many phases there are, by the step between them: 1 (0), 2 (0,2) or 4 (0,1,2,3)
-abbrev pub codePhases : Told ℕ → Answer
-codePhases (answer step) = codeValues (4 / step) 0 0
+-- how many phases there are: 1 (0), 2 (0,2) or 4 (0,1,2,3)
+abbrev pub codePhases : Told (List ℕ) → Answer
+codePhases (answer phases) = codeValues (length phases) 0 0
 codePhases (refused n p) = codeRefusal n p
 
 -- "its exponent value and its x and z counts, or the refusal"

@@ -1,11 +1,11 @@
 // The answer of a call as five numbers, and what codes each kind of answer.
 ghost use mathlib.Core.Path.{_≡_};
-ghost use Prim.Native.Nat.{_/_};
+ghost use lib.ListN.{length};
 ghost use Rattle.pauli.specs.RollAnswers.{toldCount};
 ghost use Rattle.pauli.specs.Refusals.{numberOf};
 ghost use Rattle.pauli.specs.WriteAnswers.{toldWrote};
 ghost use Rattle.pauli.specs.Lookups.{toldLooked};
-ghost use Rattle.pauli_group.specs.Answers.{stepTold, toldRank, toldPhases, toldDecided, toldSize, toldFactored};
+ghost use Rattle.pauli_group.specs.Answers.{phasesTold, toldRank, toldPhases, toldDecided, toldSize, toldFactored};
 ghost use Rattle.pauli_group.specs.Answers.{orderOf, toldOrder};
 ghost use Rattle.capi.specs.Code.{codeRefusal, codeValues, codeNumber, codePhases, codeLooked, codeMember, orderNumber, codeOrder, codeForm};
 use binar::matrix_form::Formation;
@@ -98,7 +98,7 @@ pub(crate) fn code_rank(found: RankFound) -> Answer
 
 // How many phases there are.
 fn phase_count(phases: Phases) -> usize
-    ensures { λ r. ⌜ r ≡ 4 / stepTold phases ⌝ }
+    ensures { λ r. ⌜ r ≡ length (phasesTold phases) ⌝ }
 {
     match phases {
         Phases::Zero => 1,

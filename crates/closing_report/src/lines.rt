@@ -111,7 +111,13 @@ pub(crate) fn member_line_length(i: usize, set: Places, exponent: usize) -> usiz
     number_length(i) + 7 + indexes_length(set) + 7 + number_length(exponent) + 1
 }
 
-pub(crate) fn put_member_line(out: &mut [u8], at: usize, i: usize, set: Places, exponent: usize) -> usize
+pub(crate) fn put_member_line(
+    out: &mut [u8],
+    at: usize,
+    i: usize,
+    set: Places,
+    exponent: usize,
+) -> usize
     requires { ⌜ at + length (memberLine i (some (record { indexes = setIn set; exponent = exponent }))) ≤ length (now out) ⌝ }
     ensures { λ r. ⌜ Put (now (out .entry)) at (memberLine i (some (record { indexes = setIn set; exponent = exponent }))) (now (out .exit)) r ⌝ }
 {

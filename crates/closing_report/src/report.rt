@@ -9,12 +9,13 @@ ghost use Rattle.pauli.specs.WriteAnswers.{toldWrote};
 ghost use Rattle.pauli.specs.Condense.{listOf};
 ghost use Rattle.pauli.specs.Writing.{toldBytes, leftIn};
 ghost use Rattle.pauli_theory.specs.Membership.{factorizationOf};
-ghost use Rattle.pauli_group.specs.Inner.Area.{spareAt, cleared};
-ghost use Rattle.pauli_group.specs.Inner.Groups.{paulis};
+ghost use Rattle.pauli_group.specs.Inner.Area.{spareAt};
+ghost use Rattle.pauli_group.specs.WorkArea.{cleared};
+ghost use Rattle.pauli_group.specs.Calls.{paulis};
 ghost use Rattle.pauli_group.specs.Inner.Members.{factoringTold, Asked};
 ghost use Rattle.closing_report.specs.Contract.{ReportCall};
 ghost use Rattle.closing_report.specs.Lines.{refusedLine};
-ghost use Rattle.closing_report.specs.Listing.{report};
+ghost use Rattle.closing_report.specs.Listing.{report, textOf};
 ghost use Rattle.closing_report.specs.Stored.{storedIn, Storable, Stored};
 use crate::input::Split;
 use crate::input::split_input;
@@ -65,7 +66,7 @@ fn factor_all(b: &[u8], m: usize, known: &[u32], n: usize, group: Group, step: u
     }
 }
 
-// Writes the listing for two accepted rolls of n generators and m elements, and clears the work area.
+// Writes the listing for two accepted rolls of n generators and m elements.
 fn write_report(
     b: &[u8],
     n: usize,
@@ -77,15 +78,12 @@ fn write_report(
     requires { ⌜ (countOf (now b) ≡ answer n) × (countOf (now elements) ≡ answer m) × (length (now w) ≡ 4096) ⌝ }
     ensures told { λ r. ⌜ toldWrote r ≡ toldBytes (answer (report (paulis (listOf (now (b .entry)))) (paulis (listOf (now (elements .entry)))))) (now (out .entry)) ⌝ }
     ensures left { λ _. ⌜ now (out .exit) ≡ leftIn (answer (report (paulis (listOf (now (b .entry)))) (paulis (listOf (now (elements .entry)))))) (now (out .entry)) ⌝ }
-    ensures area { λ _. ⌜ now (w .exit) ≡ cleared (now (w .entry)) ⌝ }
 {
     let mut known = [0u32; 129];
     let g = group_of(b, n, &mut known, w);
     let signs = signs_of(w, g.total, Promise::None);
     factor_all(elements, m, &known, n, g, signs.step, w);
-    let wrote = write_listing(g.rank, signs.step, signs.clash, w, SPARE, m, out);
-    clear_bits(w, 0, WORK_WORDS);
-    wrote
+    write_listing(g.rank, signs.step, signs.clash, w, SPARE, m, out)
 }
 
 // Writes the line for an input without a whole first roll.
@@ -103,9 +101,11 @@ fn write_cut(out: &mut [u8]) -> Wrote
     )
 }
 
-// Writes the closing listing of an input: a text for two accepted rolls, or the line of the first refusal.
-pub fn closing_report(input: &[u8], work: &mut [u64], out: &mut [u8]) -> Wrote
-    ensures { λ r. ⌜ ReportCall (now (input .entry)) (now (work .entry)) (now (out .entry)) r (now (work .exit)) (now (out .exit)) ⌝ }
+// Writes what is printed for an input: the listing of its two rolls, or the line of the first refusal.
+fn write_text(input: &[u8], w: &mut [u64], out: &mut [u8]) -> Wrote
+    requires { ⌜ length (now w) ≡ 4096 ⌝ }
+    ensures told { λ r. ⌜ toldWrote r ≡ toldBytes (answer (textOf (now (input .entry)))) (now (out .entry)) ⌝ }
+    ensures left { λ _. ⌜ now (out .exit) ≡ leftIn (answer (textOf (now (input .entry)))) (now (out .entry)) ⌝ }
 {
     let split = split_input(input);
     let end = match split {
@@ -128,18 +128,30 @@ pub fn closing_report(input: &[u8], work: &mut [u64], out: &mut [u8]) -> Wrote
         }
         Checked::Count(m) => m,
     };
+    write_report(&input[4..end], n, &input[end..], m, w, out)
+}
+
+// The same, and the work area is zero at the end.
+fn write_and_clear(input: &[u8], w: &mut [u64], out: &mut [u8]) -> Wrote
+    requires { ⌜ length (now w) ≡ 4096 ⌝ }
+    ensures told { λ r. ⌜ toldWrote r ≡ toldBytes (answer (textOf (now (input .entry)))) (now (out .entry)) ⌝ }
+    ensures left { λ _. ⌜ now (out .exit) ≡ leftIn (answer (textOf (now (input .entry)))) (now (out .entry)) ⌝ }
+    ensures area { λ _. ⌜ now (w .exit) ≡ cleared (now (w .entry)) ⌝ }
+{
+    let wrote = write_text(input, w, out);
+    clear_bits(w, 0, WORK_WORDS);
+    wrote
+}
+
+// Writes the closing listing of an input: a text for two accepted rolls, or the line of the first refusal.
+pub fn closing_report(input: &[u8], work: &mut [u64], out: &mut [u8]) -> Wrote
+    ensures { λ r. ⌜ ReportCall (now (input .entry)) (now (work .entry)) (now (out .entry)) r (now (work .exit)) (now (out .exit)) ⌝ }
+{
     if work.len() < WORK_WORDS {
         return Wrote::Refused(Refusal {
             reason: Reason::Work,
             place: 0,
         });
     }
-    write_report(
-        &input[4..end],
-        n,
-        &input[end..],
-        m,
-        &mut work[..WORK_WORDS],
-        out,
-    )
+    write_and_clear(input, &mut work[..WORK_WORDS], out)
 }

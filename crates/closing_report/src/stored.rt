@@ -1,13 +1,11 @@
 // Results of membership, kept in the work area, five words each: the exponent, or 4 for an element that is no member, and the two
 // words of the index set.
 ghost use mathlib.Core.Path.{_≡_};
-ghost use mathlib.Core.Option.{some, none};
-ghost use Prim.Native.Nat.{_+_, _*_, _≤_, _<_};
+ghost use Prim.Native.Nat.{_+_, _*_, _≤_};
 ghost use lib.ListN.{length};
-ghost use Rattle.pauli.specs.PlaceSet.{setIn};
 ghost use Rattle.closing_report.specs.Lines.{memberLine, memberLines};
 ghost use Rattle.closing_report.specs.Put.{Put};
-ghost use Rattle.closing_report.specs.Stored.{resultIn, storedIn, Stored};
+ghost use Rattle.closing_report.specs.Stored.{resultIn, putMember, putOther, storedIn};
 use crate::lines::member_line_length;
 use crate::lines::other_line_length;
 use crate::lines::put_member_line;
@@ -18,8 +16,8 @@ use pauli::places::Places;
 const NO_MEMBER: u64 = 4;
 
 pub(crate) fn store_member(w: &mut [u64], at: usize, set: Places, exponent: u8)
-    requires { ⌜ (at + 5 ≤ length (now w)) × (exponent < 4) ⌝ }
-    ensures { λ _. ⌜ Stored (now (w .entry)) at (some (record { indexes = setIn set; exponent = exponent })) (now (w .exit)) ⌝ }
+    requires { ⌜ at + 5 ≤ length (now w) ⌝ }
+    ensures { λ _. ⌜ now (w .exit) ≡ putMember (now (w .entry)) at exponent (set .low) (set .high) ⌝ }
 {
     w[at] = exponent as u64;
     w[at + 1] = set.low;
@@ -28,7 +26,7 @@ pub(crate) fn store_member(w: &mut [u64], at: usize, set: Places, exponent: u8)
 
 pub(crate) fn store_other(w: &mut [u64], at: usize)
     requires { ⌜ at + 5 ≤ length (now w) ⌝ }
-    ensures { λ _. ⌜ Stored (now (w .entry)) at none (now (w .exit)) ⌝ }
+    ensures { λ _. ⌜ now (w .exit) ≡ putOther (now (w .entry)) at ⌝ }
 {
     w[at] = NO_MEMBER;
 }

@@ -16,6 +16,7 @@ use Rattle.pauli.specs.Support.{mostQubits, All}
 use Rattle.pauli.specs.Sets.{pauliOf}
 use Rattle.pauli.specs.Told.{answer, refuseIf, andThen, mapTold}
 use Rattle.pauli.specs.Writing.{toldBytes}
+use Rattle.pauli.proofs.join.ReadBack.{told-bytes}
 use Rattle.pauli.proofs.join.JoinedLists.{join-is, joined-law as join-law}
 use Rattle.pauli.proofs.roll.RollLaws.{answer-parts}
 use Rattle.pauli.proofs.roll.ListSupport.{numbers-append, numbers-byValue, support-length}
@@ -26,12 +27,11 @@ use Rattle.pauli_theory.specs.Theorems.{OrderLaw}
 use Rattle.pauli_theory.proofs.Group.{inside-by, all-inside, inside-join, joined-law, joined-left}
 use Rattle.pauli_theory.proofs.Theorems.{group-laws}
 use Rattle.pauli_group.specs.Answers.{toldOrder}
-use Rattle.pauli_group.specs.Inner.Area.{enough}
-use Rattle.pauli_group.specs.Inner.Groups.{paulis}
-use Rattle.pauli_group.specs.Calls.{twoLists, orderCall}
+use Rattle.pauli_group.specs.WorkArea.{enough}
+use Rattle.pauli_group.specs.Calls.{paulis, twoLists, orderCall}
 use Rattle.demand_three.specs.DemandThree.{Generators, list, Element, pauli, generator, Joining, Comparing, Member, AllMembers, JoinedList, Limits, ifArea, ifRoom}
 use Rattle.pauli_group.proofs.group.GroupLaws.{paulis-append}
-use Rattle.demand_three.proofs.DemandLists.{byValue-group, told-bytes}
+use Rattle.demand_three.proofs.DemandLists.{byValue-group}
 use Rattle.demand_three.proofs.DemandMember.{member-when, member-only}
 
 module _ (A B : Generators) where

@@ -1,28 +1,26 @@
 -- Indexes in an output, index sets and the generators that they name; and lists whose exponents are taken by value.
 use mathlib.Core.Path.{_≡_, refl, sym, ap, _∙_}
-use mathlib.Core.List.{List, [], _∷_, _++_, map, map-map}
+use mathlib.Core.List.{List, [], _∷_, _++_, map}
 use Prim.Native.Nat.{ℕ, zero, suc, _+_, _*_, _/_, _%_, _^_, _<_}
 use native.Mathlib.Omega.{arith}
-use lib.ListN.{length, getD, take, drop, length-map, List·getD-map}
-use lib.Seq.{take-at, ext-getD}
+use lib.ListN.{length, getD, drop, length-map, List·getD-map}
+use lib.Seq.{ext-getD}
 use Rattle.binar.proofs.echelon.Lists.{all-map, all-over, all-under}
 use Rattle.pauli.specs.Bytes.{u16At, le16}
 use Rattle.pauli.specs.Pauli.{Pauli, I, normal, consIf, select}
-use Rattle.pauli.specs.Roll.{Sparse, read, byValue}
+use Rattle.pauli.specs.Roll.{Sparse, byValue}
 use Rattle.pauli.specs.Support.{All}
-use Rattle.pauli.specs.Sets.{members, pauliOf}
-use Rattle.pauli.specs.Told.{Told, answer, refused}
-use Rattle.pauli.specs.Writing.{putBytes, toldBytes, leftIn}
+use Rattle.pauli.specs.Sets.{members}
+use Rattle.pauli.specs.Writing.{putBytes}
 use Rattle.pauli.proofs.roll.BytesLaws.{length-le16, u16-read}
 use Rattle.pauli.proofs.roll.Items.{itemsAt, itemsBytes, length-itemsAt, length-itemsBytes, items-read}
-use Rattle.pauli.proofs.roll.Told.{refused-none, test-passed}
+use Rattle.pauli.proofs.join.ReadBack.{paulis-byValue as lists-byValue}
 use Rattle.pauli_theory.specs.Group.{Generated, Inside, SameGroup}
 use Rattle.pauli_theory.proofs.Agree.{four, agree-normal, agree-flip}
 use Rattle.pauli_theory.proofs.Group.{generated-subgroup, generators, inside-by}
 use Rattle.pauli_theory.proofs.IndexSets.{members-upTo}
 use Rattle.pauli_theory.proofs.OverPlaces.{upTo, upTo-length, upTo-at}
-use Rattle.pauli_group.specs.Inner.Groups.{paulis}
-use Rattle.pauli_group.specs.Inner.Members.{le16s}
+use Rattle.pauli_group.specs.Calls.{paulis, le16s}
 use Rattle.demand_three.specs.DemandThree.{indexesAt}
 
 -- ---- indexes of two bytes each
@@ -51,11 +49,6 @@ indexes-read out ns low =
     let rest = drop (0 + length (le16s ns)) out in
     indexes-items b 0 (length ns)
     ∙ items-read 2 le16 length-le16 b (u16At b) (λ n. n < 2 ^ 16) (u16-read b) ns 0 rest low (ap (_++ rest) (le16s-items ns))
-
--- bytes at the front of an output
-pub put-front : (out bs : List ℕ) → take (length bs) (putBytes out 0 bs) ≡ bs
-unfolding putBytes
-put-front out bs = take-at bs (drop (0 + length bs) out) (length bs) refl
 
 -- ---- index sets
 
@@ -95,8 +88,8 @@ module _ (gs : List Pauli) where
 -- ---- exponents by value
 
 paulis-byValue : (ps : List Sparse) → paulis (map byValue ps) ≡ map normal (paulis ps)
-unfolding paulis pauliOf byValue normal
-paulis-byValue ps = map-map pauliOf byValue ps ∙ sym (map-map normal pauliOf ps)
+unfolding paulis
+paulis-byValue ps = lists-byValue ps
 
 normal-inside : (gs : List Pauli) → Inside (map normal gs) gs
 normal-inside gs =
@@ -113,15 +106,3 @@ inside-normal gs =
 
 pub byValue-group : (ps : List Sparse) → SameGroup (paulis ps) (paulis (map byValue ps))
 byValue-group ps = rw paulis-byValue (record { there = inside-normal (paulis ps); back = normal-inside (paulis ps) })
-
--- ---- what is told
-
--- where a call tells a size, its output begins with its result
-pub told-bytes : (t : Told (List ℕ)) (out : List ℕ) (n : ℕ) → toldBytes t out ≡ answer n
-    → (bs : List ℕ) × (t ≡ answer bs) × (take n (leftIn t out) ≡ bs)
-unfolding toldBytes leftIn
-told-bytes (refused m p) out n e = absurd (refused-none m p n e)
-told-bytes (answer bs) out n e =
-    let (room, size) = test-passed _ 12 0 _ n e in
-    let same : n ≡ length bs = cc in
-    (bs, refl, rw (room, same) (put-front out bs))

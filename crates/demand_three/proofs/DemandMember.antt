@@ -7,7 +7,7 @@ use Prim.Native.Nat.{ℕ, _*_, _≤_}
 use native.Mathlib.Omega.{arith}
 use borrow.Author.Tests.{ltb-false, le-ltb, lt-leb}
 use lib.Dec.{ltb}
-use lib.ListN.{length, replicate, length-replicate, length-map}
+use lib.ListN.{length, replicate, length-replicate}
 use Rattle.binar.specs.Row.{weight}
 use Rattle.binar.proofs.echelon.Lists.{all-map}
 use Rattle.pauli.specs.JoinCalls.{readBoth, within}
@@ -16,7 +16,6 @@ use Rattle.pauli.specs.Roll.{mostPaulis}
 use Rattle.pauli.specs.Sets.{members, pauliOf}
 use Rattle.pauli.specs.Told.{answer, refuseIf, andThen, mapTold}
 use Rattle.pauli.specs.Writing.{putBytes}
-use Rattle.pauli.proofs.roll.RollLaws.{answer-parts, parts-count}
 use Rattle.pauli.proofs.condense.Sets.{members-rise, members-count}
 use Rattle.pauli.proofs.support.SupportLaws.{rising-bound}
 use Rattle.pauli.proofs.roll.Told.{test-pass, test-passed, map-test}
@@ -28,10 +27,10 @@ use Rattle.pauli_theory.proofs.Theorems.{group-laws}
 use Rattle.pauli_group.specs.declared.answers.MemberFound.{MemberFound}
 use Rattle.pauli_group.specs.declared.answers.MemberFound.the-variants.{Member as MemberTold, NotMember}
 use Rattle.pauli_group.specs.Answers.{toldFactored}
-use Rattle.pauli_group.specs.Inner.Area.{enough, areaAfter}
-use Rattle.pauli_group.specs.Inner.Groups.{paulis}
-use Rattle.pauli_group.specs.Calls.{question, factorizationCall, indexBytes, Factored, factored, toldMember, memberLeft}
+use Rattle.pauli_group.specs.WorkArea.{enough, areaAfter}
+use Rattle.pauli_group.specs.Calls.{paulis, question, factorizationCall, indexBytes, Factored, factored, toldMember, memberLeft}
 use Rattle.demand_three.specs.DemandThree.{Generators, list, Element, pauli, Asked, Member, indexesAt, Gives, ifArea, ifRoom, bytesOf}
+use Rattle.demand_three.proofs.ReadBack.{read-few}
 use Rattle.demand_three.proofs.DemandLists.{length-le16s, indexes-read, named-select}
 
 -- ---- what a call tells of a factorization
@@ -78,10 +77,8 @@ room n = (replicate n 0, length-replicate n 0)
 
 module _ (A : Generators) where
   pub list-few : length (list A) ≤ 128
-  unfolding paulis mostPaulis
-  list-few =
-      let p = answer-parts (A .roll) (A .held) (A .accepted) in
-      omega (arith, p .few, parts-count (A .roll) _ _ (A .held) p, length-map (A .held) pauliOf)
+  unfolding mostPaulis
+  list-few = read-few (A .roll) (A .held) (A .accepted)
 
 module _ (A : Generators) (x : Element) where
   law : MembershipLaw (A .promise) (list A) (pauli x)

@@ -3,3 +3,4 @@ pub mod DemandMember
 pub mod DemandJoined
 pub mod DemandStandard
 pub mod DemandThree
+pub mod ReadBack

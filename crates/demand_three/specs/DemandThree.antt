@@ -21,12 +21,9 @@ use Rattle.pauli_theory.specs.Group.{Generated, SameGroup, Promise, Honest}
 use Rattle.pauli_theory.specs.Order.{Order, equal, less}
 use Rattle.pauli_group.specs.declared.answers.MemberFound.{MemberFound}
 use Rattle.pauli_group.specs.declared.answers.OrderFound.{OrderFound}
-use Rattle.pauli_group.specs.Answers.{toldFactored}
-use Rattle.pauli_group.specs.Answers.{toldOrder}
-use Rattle.pauli_group.specs.Inner.Groups.{paulis}
-use Rattle.pauli_group.specs.Calls.{Factored}
-use Rattle.pauli_group.specs.CallContracts.{StandardCall, MemberCall}
-use Rattle.pauli_group.specs.CallContracts.{OrderCall}
+use Rattle.pauli_group.specs.Answers.{toldFactored, toldOrder}
+use Rattle.pauli_group.specs.Calls.{paulis, Factored}
+use Rattle.pauli_group.specs.CallContracts.{StandardCall, MemberCall, OrderCall}
 use Rattle.pauli.specs.JoinContract.{JoinCall}
 
 -- ---- lists and elements

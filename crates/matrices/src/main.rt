@@ -5,7 +5,7 @@
 ghost use mathlib.Core.Path.{_≡_};
 ghost use Prim.Native.Nat.{_+_, _*_, _/_, _^_, _≤_, _<_};
 ghost use lib.ListN.{length};
-ghost use Rattle.binar.specs.Layout.{Solvable};
+ghost use Rattle.binar.specs.Layout.{FormLeft};
 ghost use Rattle.matrices.specs.Room.{Room, SameBefore};
 use binar::matrix_form::Formation;
 use binar::matrix_form::Solution;
@@ -191,8 +191,8 @@ fn print_solution(
     rank: usize,
     at: usize,
 )
-    requires { ⌜ Solvable (now w) stride rows cols rank at × (stride ≡ width + (rows + 63) / 64) ⌝ }
-    ensures { λ _. ⌜ Solvable (now (w .exit)) stride rows cols rank at ⌝ }
+    requires { ⌜ FormLeft (now w) stride rows cols rank at × (stride ≡ width + (rows + 63) / 64) ⌝ }
+    ensures { λ _. ⌜ FormLeft (now (w .exit)) stride rows cols rank at ⌝ }
 {
     match transpose_solve(w, stride, rows, cols, rank, at) {
         Solution::NoSet => {

@@ -1,7 +1,7 @@
 -- The calls on two rolls: product, joining and the two lookups of a joined generator, in document 01's order of refusals.
 use mathlib.Core.Bool.{Bool, cond}
 use mathlib.Core.List.{List, [], _∷_, _++_, map}
-use Prim.Native.Nat.{ℕ, _+_, _-_, _*_, _%_}
+use Prim.Native.Nat.{ℕ, zero, suc, _+_, _-_, _*_, _%_}
 use lib.Dec.{leb, ltb}
 use lib.ListN.{length, getD, take, drop}
 use Rattle.pauli.specs.Told.{Told, answer, refused, refuseIf, andThen, mapTold}
@@ -68,14 +68,48 @@ lookedUp p = record { exponent = p .e % 4; xcount = length (p .xs); zcount = len
 unfoldable pub entryOf : List ℕ → List ℕ → ℕ → Told Looked
 entryOf l r n = andThen (joinedOf l r) λ ps. within n ps (answer (lookedUp (getD ps n nothing)))
 
--- the stretch of a roll's bytes that is the body of its Pauli n
-unfoldable pub bodyIn : List ℕ → ℕ → List ℕ
-bodyIn b n = let a = entryAt b (2 + 10 * n) in take (4 * (a .xcount + a .zcount)) (drop (2 + 10 * u16At b 0 + 4 * a .start) b)
+-- where a body stands: in the left roll (0) or the right one (1), its first byte there, and its length
+pub record Stretch : Type 0 where
+  pub roll : ℕ
+  pub start : ℕ
+  pub size : ℕ
 
--- "its own stretch of the left roll's bytes or of the right roll's"; "at a refusal the stretch is empty"
-unfoldable pub orEmpty : {A : Type 0} → Told A → List ℕ → List ℕ
-orEmpty (answer a) body = body
-orEmpty (refused n p) body = []
+-- the body of Pauli i of the bytes b, the roll with this number: behind the table and as many qubit numbers as its entry tells
+unfoldable pub stretchIn : ℕ → List ℕ → ℕ → Stretch
+stretchIn roll b i =
+    let a = entryAt b (2 + 10 * i) in
+    record { roll = roll; start = 2 + 10 * u16At b 0 + 4 * a .start; size = 4 * (a .xcount + a .zcount) }
+
+-- "its own stretch of the left roll's bytes or of the right roll's"; refused exactly as the lookup of the entry is
+unfoldable pub stretchOf : List ℕ → List ℕ → ℕ → Told Stretch
+stretchOf l r n = mapTold (λ _. cond (ltb n (u16At l 0)) (stretchIn 0 l n) (stretchIn 1 r (n - u16At l 0))) (entryOf l r n)
+
+-- of the left roll and the right one, that with this number
+abbrev pub rollNumbered : {A : Type 0} → ℕ → A → A → A
+rollNumbered zero l r = l
+rollNumbered (suc n) l r = r
+
+-- the bytes of a stretch of two rolls
+unfoldable pub bytesOf : List ℕ → List ℕ → Stretch → List ℕ
+bytesOf l r s = take (s .size) (drop (s .start) (rollNumbered (s .roll) l r))
+
+-- the body of Pauli i of one roll
+unfoldable pub bodyIn : List ℕ → ℕ → List ℕ
+bodyIn b i = bytesOf b b (stretchIn 0 b i)
+
+-- "at a refusal the stretch is empty"
+unfoldable pub orEmpty : Told (List ℕ) → List ℕ
+orEmpty (answer bytes) = bytes
+orEmpty (refused n p) = []
 
 unfoldable pub bodyOf : List ℕ → List ℕ → ℕ → List ℕ
-bodyOf l r n = orEmpty (entryOf l r n) (cond (ltb n (u16At l 0)) (bodyIn l n) (bodyIn r (n - u16At l 0)))
+bodyOf l r n = orEmpty (mapTold (bytesOf l r) (stretchOf l r n))
+
+-- the place in memory k bytes past a place: a block, and an offset in it
+abbrev pub bytesPast : ℕ → ℕ × ℕ → ℕ × ℕ
+bytesPast k p = (p .0, k + p .1)
+
+-- "as its own stretch": the place of its first byte, by the places of the two rolls; at a refusal the left roll's
+unfoldable pub addressOf : ℕ × ℕ → ℕ × ℕ → Told Stretch → ℕ × ℕ
+addressOf l r (answer s) = bytesPast (s .start) (rollNumbered (s .roll) l r)
+addressOf l r (refused n p) = bytesPast 0 l

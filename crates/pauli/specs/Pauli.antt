@@ -1,5 +1,5 @@
 -- Signed Paulis: document 01, "Pauli"; products: "Words of demand 3". A set of qubits is a number, read by its binary digits as
--- a row of crate bit_rows: qubit q is in the set if the digit of weight 2^q is 1.
+-- a row of crate binar: qubit q is in the set if the digit of weight 2^q is 1.
 use mathlib.Core.Path.{_≡_}
 use mathlib.Core.Bool.{Bool}
 use mathlib.Core.List.{List, [], _∷_}
@@ -17,6 +17,14 @@ pub record Pauli : Type 0 where
 -- "I = (0,{},{})"
 unfoldable pub I : Pauli
 I = record { e = 0; x = 0; z = 0 }
+
+-- the phase i^k, (k,{},{})
+unfoldable pub phase : ℕ → Pauli
+phase k = record { e = k; x = 0; z = 0 }
+
+-- "Y on one qubit has e = 1": Y on qubit 0
+unfoldable pub Y : Pauli
+Y = record { e = 1; x = 1; z = 1 }
 
 -- the exponent's "value is the remainder by 4"
 unfoldable pub normal : Pauli → Pauli

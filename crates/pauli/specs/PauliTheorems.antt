@@ -7,7 +7,7 @@ use lib.ListN.{length, getD}
 use Rattle.binar.specs.Row.{_⊕_, bit, dot, weight}
 use Rattle.pauli.specs.Roll.{Sparse, support}
 use Rattle.pauli.specs.Support.{All, Rising}
-use Rattle.pauli.specs.Pauli.{Pauli, I, normal, Same, times, turned, anticommute, pauliWeight, orderFour, product, State, act}
+use Rattle.pauli.specs.Pauli.{Pauli, I, phase, Y, normal, Same, times, turned, anticommute, pauliWeight, orderFour, product, State, act}
 use Rattle.pauli.specs.Sets.{setOf, members, pauliOf, condense, expand, rowOf, pauliOfRow}
 use Rattle.pauli.specs.Known.{placeOf}
 
@@ -17,6 +17,12 @@ pub record ActionLaw : Type 0 where
   pub same-acts : (p q : Pauli) → Same p q → (s : State) → act p s ≡ act q s
   pub acts-same : (p q : Pauli) → ((s : State) → s .phase < 4 → act p s ≡ act q s) → Same p q
 
+-- Y takes the state 0 to i times the state 1, and that to -i times the state 0; its order is two
+pub record YLaw : Type 0 where
+  pub on-zero : act Y (record { phase = 0; basis = 0 }) ≡ record { phase = 1; basis = 1 }
+  pub on-one : act Y (record { phase = 0; basis = 1 }) ≡ record { phase = 3; basis = 0 }
+  pub order-two : orderFour Y ≡ 0
+
 -- 2. The algebra of products
 pub record AlgebraLaw : Type 0 where
   pub associative : (p q r : Pauli) → times (times p q) r ≡ times p (times q r)
@@ -24,6 +30,8 @@ pub record AlgebraLaw : Type 0 where
   pub I-right : (p : Pauli) → times p I ≡ normal p
   -- products are products of values
   pub by-value : (p q r s : Pauli) → Same p r → Same q s → times p q ≡ times r s
+  -- i^k times p is the product of the phase i^k and p
+  pub turned-is : (k : ℕ) (p : Pauli) → turned k p ≡ times (phase k) p
   pub four-turns : (p : Pauli) → turned 4 p ≡ normal p
   pub swapped : (p q : Pauli) → times p q ≡ turned (2 * anticommute p q) (times q p)
   pub square : (p : Pauli) → times p p ≡ turned (2 * orderFour p) I

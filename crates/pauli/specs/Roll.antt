@@ -88,7 +88,7 @@ read b =
     refuseIf (ltb mostQubits (length (support ps))) 7 0
     (answer ps)))))
 
--- "check one roll tells its count"
+-- how many Paulis an accepted roll has; else its refusal
 unfoldable pub countOf : List ℕ → Told ℕ
 countOf b = mapTold length (read b)
 

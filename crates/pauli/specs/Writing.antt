@@ -41,10 +41,6 @@ OnPlaces n ps = All (λ p. (p .x < 2 ^ n) × (p .z < 2 ^ n)) ps
 unfoldable pub rollOver : List ℕ → List Pauli → List ℕ
 rollOver qs ps = encode (map (sparseOver qs) ps)
 
--- a roll's length in bytes, by its count of Paulis and of qubit numbers
-unfoldable pub rollLength : ℕ → ℕ → ℕ
-rollLength n numbers = 2 + 10 * n + 4 * numbers
-
 -- what a call tells whose result is these bytes: their number, or 12 where the output is shorter
 unfoldable pub toldBytes : Told (List ℕ) → List ℕ → Told ℕ
 toldBytes (answer bs) out = refuseIf (ltb (length out) (length bs)) 12 0 (answer (length bs))

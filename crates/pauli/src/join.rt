@@ -5,10 +5,9 @@ ghost use Prim.Native.Nat.{_+_, _*_, _≤_, _<_};
 ghost use lib.ListN.{length};
 ghost use Rattle.pauli.specs.Roll.{numbers, byValue, table, bodies, write, countOf};
 ghost use Rattle.pauli.specs.Told.{answer};
-ghost use Rattle.pauli.specs.WriteAnswers.{toldWrote};
 ghost use Rattle.pauli.specs.Condense.{listOf};
-ghost use Rattle.pauli.specs.JoinCalls.{joinOf};
-ghost use Rattle.pauli.specs.Writing.{putBytes, toldBytes, leftIn};
+ghost use Rattle.pauli.specs.JoinContract.{JoinCall};
+ghost use Rattle.pauli.specs.Writing.{putBytes};
 use crate::joined::CountsFound;
 use crate::joined::joined_counts;
 use crate::joined::numbers_of;
@@ -74,8 +73,7 @@ fn put_joined(out: &mut [u8], left: &[u8], nl: usize, right: &[u8], nr: usize)
 
 // Writes the joined roll, if the output has room.
 pub fn join(left: &[u8], right: &[u8], out: &mut [u8]) -> Wrote
-    ensures told { λ r. ⌜ toldWrote r ≡ toldBytes (joinOf (now (left .entry)) (now (right .entry))) (now (out .entry)) ⌝ }
-    ensures left { λ _. ⌜ now (out .exit) ≡ leftIn (joinOf (now (left .entry)) (now (right .entry))) (now (out .entry)) ⌝ }
+    ensures { λ r. ⌜ JoinCall (now (left .entry)) (now (right .entry)) (now (out .entry)) r (now (out .exit)) ⌝ }
 {
     let found = joined_counts(left, right);
     let counts = match found {

@@ -19,14 +19,14 @@ use crate::support::MOST_QUBITS;
 use crate::support::gather;
 
 // How many Paulis each of two rolls has.
-pub struct JoinedCounts {
+pub struct RollCounts {
     pub left: usize,
     pub right: usize,
 }
 
 // What checking two rolls for joining tells: their counts, or why they are refused.
 pub enum CountsFound {
-    Counts(JoinedCounts),
+    Counts(RollCounts),
     Refused(Refusal),
 }
 
@@ -86,7 +86,7 @@ pub fn joined_counts(left: &[u8], right: &[u8]) -> CountsFound
             place: 0,
         });
     }
-    CountsFound::Counts(JoinedCounts {
+    CountsFound::Counts(RollCounts {
         left: nl,
         right: nr,
     })

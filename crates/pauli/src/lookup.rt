@@ -6,7 +6,7 @@ ghost use Rattle.pauli.specs.Roll.{countOf};
 ghost use Rattle.pauli.specs.Told.{answer};
 ghost use Rattle.pauli.specs.Lookups.{lookedIn, toldLooked};
 ghost use Rattle.pauli.specs.Condense.{listOf, nothing};
-ghost use Rattle.pauli.specs.JoinCalls.{lookedUp, entryOf, bodyIn, bodyOf};
+ghost use Rattle.pauli.specs.JoinCalls.{lookedUp, entryOf, stretchIn, stretchOf, bodyIn, bodyOf, bytesPast, addressOf};
 use crate::joined::CountsFound;
 use crate::joined::joined_counts;
 use crate::refusal::Reason;
@@ -67,7 +67,8 @@ pub fn joined_entry(left: &[u8], right: &[u8], n: usize) -> EntryFound
 // The body of Pauli i of an accepted roll of n.
 fn body_in<'a>(b: &'a [u8], n: usize, i: usize) -> &'a [u8]
     requires { ⌜ (countOf (now b) ≡ answer n) × (i < n) ⌝ }
-    ensures { λ r. ⌜ now r ≡ bodyIn (now (b .entry)) i ⌝ }
+    ensures bytes { λ r. ⌜ now r ≡ bodyIn (now (b .entry)) i ⌝ }
+    ensures place { λ r. ⌜ r .ptr ≡ bytesPast (stretchIn 0 (now (b .entry)) i .start) (b .entry .ptr) ⌝ }
 {
     let e = entry_at(b, i);
     let start = 2 + 10 * n + 4 * e.start;
@@ -77,7 +78,8 @@ fn body_in<'a>(b: &'a [u8], n: usize, i: usize) -> &'a [u8]
 
 // The body of generator n of the joined list, where it stands; empty at a refusal.
 pub fn joined_body<'a>(left: &'a [u8], right: &'a [u8], n: usize) -> &'a [u8]
-    ensures { λ r. ⌜ now r ≡ bodyOf (now (left .entry)) (now (right .entry)) n ⌝ }
+    ensures bytes { λ r. ⌜ now r ≡ bodyOf (now (left .entry)) (now (right .entry)) n ⌝ }
+    ensures place { λ r. ⌜ r .ptr ≡ addressOf (left .entry .ptr) (right .entry .ptr) (stretchOf (now (left .entry)) (now (right .entry)) n) ⌝ }
 {
     let found = joined_counts(left, right);
     let counts = match found {

@@ -3,9 +3,9 @@ ghost use mathlib.Core.Path.{_≡_};
 ghost use Prim.Native.Nat.{_≤_};
 ghost use lib.ListN.{length, take};
 ghost use Rattle.pauli.specs.WriteAnswers.{toldWrote};
-ghost use Rattle.pauli.specs.JoinCalls.{productOf};
 ghost use Rattle.pauli.specs.Condense.{Readable, listOf};
 ghost use Rattle.pauli.specs.Product.{productBytes};
+ghost use Rattle.pauli.specs.ProductContract.{ProductCall};
 ghost use Rattle.pauli.specs.Told.{answer};
 ghost use Rattle.pauli.specs.Writing.{toldBytes, leftIn};
 use crate::condense::condense_from;
@@ -45,8 +45,7 @@ fn write_product(
 
 // Multiplies factor i of the one roll by factor j of the other, and writes the product as a roll.
 pub fn product(left: &[u8], i: usize, right: &[u8], j: usize, out: &mut [u8]) -> Wrote
-    ensures told { λ r. ⌜ toldWrote r ≡ toldBytes (productOf (now (left .entry)) i (now (right .entry)) j) (now (out .entry)) ⌝ }
-    ensures left { λ _. ⌜ now (out .exit) ≡ leftIn (productOf (now (left .entry)) i (now (right .entry)) j) (now (out .entry)) ⌝ }
+    ensures { λ r. ⌜ ProductCall (now (left .entry)) i (now (right .entry)) j (now (out .entry)) r (now (out .exit)) ⌝ }
 {
     let l = check_roll(left);
     let nl = match l {

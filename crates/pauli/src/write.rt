@@ -43,7 +43,14 @@ fn put_u32(out: &mut [u8], at: usize, number: u32)
 }
 
 // Writes the entry of a Pauli.
-pub(crate) fn put_entry(out: &mut [u8], at: usize, exponent: u8, start: u32, xcount: usize, zcount: usize)
+pub(crate) fn put_entry(
+    out: &mut [u8],
+    at: usize,
+    exponent: u8,
+    start: u32,
+    xcount: usize,
+    zcount: usize,
+)
     requires { ⌜ (at + 10 ≤ length (now out)) × (xcount < 65536) × (zcount < 65536) ⌝ }
     ensures { λ _. ⌜ now (out .exit) ≡ putBytes (now (out .entry)) at (entryBytes exponent start xcount zcount) ⌝ }
 {

@@ -1,3 +1,2 @@
-pub mod PairLaws
 pub mod RemainderLaws
 pub mod ModuloLaws

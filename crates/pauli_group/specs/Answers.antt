@@ -1,5 +1,6 @@
 -- What the answers of the group calls tell: document 01's numbers and values for each of their cases.
 use Prim.Native.Nat.{ℕ}
+use mathlib.Core.List.{List, [], _∷_}
 use mathlib.Core.Option.{Option, some, none as nothing}
 use Rattle.pauli.specs.Refusals.{toldRefusal}
 use Rattle.pauli.specs.Told.{Told, answer}
@@ -23,18 +24,18 @@ use Rattle.pauli_group.specs.declared.answers.Order.the-variants.{Equal,
 use Rattle.pauli_group.specs.declared.answers.OrderFound.{OrderFound}
 use Rattle.pauli_group.specs.declared.answers.OrderFound.the-variants.{Order as OrderTold, Refused as OrderRefused}
 
--- the phases are the multiples, below 4, of this number
-abbrev pub stepTold : Phases → ℕ
-stepTold Zero = 4
-stepTold ZeroTwo = 2
-stepTold All = 1
+-- the phases that each case is
+abbrev pub phasesTold : Phases → List ℕ
+phasesTold Zero = 0 ∷ []
+phasesTold ZeroTwo = 0 ∷ 2 ∷ []
+phasesTold All = 0 ∷ 1 ∷ 2 ∷ 3 ∷ []
 
 abbrev pub toldRank : RankFound → Told ℕ
 toldRank (Rank n) = answer n
 toldRank (RankRefused r) = toldRefusal r
 
-abbrev pub toldPhases : PhasesFound → Told ℕ
-toldPhases (PhasesTold p) = answer (stepTold p)
+abbrev pub toldPhases : PhasesFound → Told (List ℕ)
+toldPhases (PhasesTold p) = answer (phasesTold p)
 toldPhases (PhasesRefused r) = toldRefusal r
 
 -- 1 for yes, 0 for no

@@ -13,7 +13,7 @@ use Rattle.pauli_group.specs.declared.answers.Decided.{Decided}
 use Rattle.pauli_group.specs.declared.answers.SizeFound.{SizeFound}
 use Rattle.pauli_group.specs.declared.answers.MemberFound.{MemberFound}
 use Rattle.pauli_group.specs.Answers.{toldRank, toldPhases, toldDecided, toldSize, toldFactored, toldOrder}
-use Rattle.pauli_group.specs.Inner.Area.{areaAfter}
+use Rattle.pauli_group.specs.WorkArea.{areaAfter}
 use Rattle.pauli_group.specs.Calls.{oneList, standardGenerators, rankCall, phasesCall, abelianCall, stabilizerCall, sizeCall, question, factorizationCall, toldMember, memberLeft, symplecticCall, elementsCall, twoLists, orderCall, moduloCall, quotientCall, commonCall}
 use Rattle.pauli_group.specs.declared.answers.OrderFound.{OrderFound}
 

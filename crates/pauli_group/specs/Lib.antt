@@ -1,5 +1,6 @@
-pub mod Inner
+pub mod WorkArea
 pub mod Promises
 pub mod Answers
 pub mod Calls
 pub mod CallContracts
+pub mod Inner

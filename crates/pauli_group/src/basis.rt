@@ -7,7 +7,7 @@ ghost use Rattle.pauli.specs.Told.{answer};
 ghost use Rattle.pauli.specs.Condense.{listOf};
 ghost use Rattle.pauli.specs.Signed.{listIn};
 ghost use Rattle.pauli_group.specs.Inner.Area.{spareAt};
-ghost use Rattle.pauli_group.specs.Inner.Groups.{paulis};
+ghost use Rattle.pauli_group.specs.Calls.{paulis};
 ghost use Rattle.pauli_group.specs.Inner.Shared.{Joint, Stack, basisOver};
 use crate::area::SPARE;
 use crate::area::STANDARD;

@@ -2,19 +2,17 @@
 ghost use mathlib.Core.Path.{_≡_};
 ghost use Prim.Native.Nat.{_≤_, _<_};
 ghost use lib.ListN.{length};
-ghost use Rattle.pauli.specs.RollAnswers.{toldCount};
 ghost use Rattle.pauli.specs.WriteAnswers.{toldWrote};
-ghost use Rattle.pauli.specs.Sets.{sparseOf};
 ghost use Rattle.pauli.specs.Condense.{listOf};
-ghost use Rattle.pauli.specs.Roll.{countOf, write};
-ghost use Rattle.pauli.specs.Told.{answer, mapTold};
+ghost use Rattle.pauli.specs.Roll.{countOf};
+ghost use Rattle.pauli.specs.Told.{answer};
 ghost use Rattle.pauli.specs.Writing.{toldBytes, leftIn};
-ghost use Rattle.pauli_theory.specs.Standard.{standard};
 ghost use Rattle.pauli_group.specs.Promises.{promiseOf};
-ghost use Rattle.pauli_group.specs.Answers.{stepTold, toldDecided};
-ghost use Rattle.pauli_group.specs.Inner.Area.{cleared};
-ghost use Rattle.pauli_group.specs.Inner.Groups.{paulis};
-ghost use Rattle.pauli_group.specs.Calls.{oneList, standardBytes};
+ghost use Rattle.pauli_group.specs.Answers.{toldDecided};
+ghost use Rattle.pauli_group.specs.WorkArea.{cleared};
+ghost use Rattle.pauli_group.specs.Calls.{paulis, standardBytes};
+ghost use Rattle.pauli_group.specs.Inner.Groups.{DescriptionCall};
+ghost use Rattle.pauli_group.specs.Inner.Lists.{stepTold};
 ghost use Rattle.pauli_group.specs.CallContracts.{StandardCall, RankCall, PhasesCall, AbelianCall, StabilizerCall, SizeCall};
 use crate::answers::Decided;
 use crate::answers::Phases;
@@ -23,36 +21,16 @@ use crate::answers::RankFound;
 use crate::answers::SizeFound;
 use crate::area::STANDARD;
 use crate::area::WORK_WORDS;
+use crate::checks::check_list;
+use crate::group::Description;
 use crate::group::describe_once;
 use crate::group::group_of;
 use crate::promise::Promise;
 use binar::row::clear_bits;
-use pauli::refusal::Reason;
 use pauli::refusal::Refusal;
 use pauli::roll::Checked;
-use pauli::roll::check_roll;
 use pauli::write::Wrote;
 use pauli::write::write_roll;
-
-// Checks the roll, then the work area of so many words; tells how many Paulis the roll has.
-pub(crate) fn check_list(b: &[u8], words: usize) -> Checked
-    ensures { λ r. ⌜ toldCount r ≡ mapTold length (oneList (now (b .entry)) words) ⌝ }
-{
-    let checked = check_roll(b);
-    let n = match checked {
-        Checked::Refused(r) => {
-            return Checked::Refused(r);
-        }
-        Checked::Count(n) => n,
-    };
-    if words < WORK_WORDS {
-        return Checked::Refused(Refusal {
-            reason: Reason::Work,
-            place: 0,
-        });
-    }
-    Checked::Count(n)
-}
 
 // Writes the standard generators of an accepted roll of n Paulis, and clears the work area.
 fn write_standard(b: &[u8], n: usize, w: &mut [u64], out: &mut [u8]) -> Wrote
@@ -82,19 +60,36 @@ pub fn standard_generators(b: &[u8], work: &mut [u64], out: &mut [u8]) -> Wrote
     write_standard(b, n, &mut work[..WORK_WORDS], out)
 }
 
-// The rank of a list: the dimension of the space of its rows.
-pub fn rank(b: &[u8], work: &mut [u64]) -> RankFound
-    ensures { λ r. ⌜ RankCall (now (b .entry)) (now (work .entry)) r (now (work .exit)) ⌝ }
+// What the calls tell of the group of a list, or why they are refused.
+pub(crate) enum DescriptionFound {
+    Description(Description),
+    Refused(Refusal),
+}
+
+// Describes the group of a list, and clears the work area.
+fn describe_list(b: &[u8], promise: Promise, work: &mut [u64]) -> DescriptionFound
+    ensures { λ r. ⌜ DescriptionCall (promiseOf promise) (now (b .entry)) (now (work .entry)) r (now (work .exit)) ⌝ }
 {
     let checked = check_list(b, work.len());
     let n = match checked {
         Checked::Refused(r) => {
-            return RankFound::Refused(r);
+            return DescriptionFound::Refused(r);
         }
         Checked::Count(n) => n,
     };
-    let d = describe_once(b, n, Promise::None, &mut work[..WORK_WORDS]);
-    RankFound::Rank(d.rank)
+    let d = describe_once(b, n, promise, &mut work[..WORK_WORDS]);
+    DescriptionFound::Description(d)
+}
+
+// The rank of a list: the dimension of the space of its rows.
+pub fn rank(b: &[u8], work: &mut [u64]) -> RankFound
+    ensures { λ r. ⌜ RankCall (now (b .entry)) (now (work .entry)) r (now (work .exit)) ⌝ }
+{
+    let found = describe_list(b, Promise::None, work);
+    match found {
+        DescriptionFound::Refused(r) => RankFound::Refused(r),
+        DescriptionFound::Description(d) => RankFound::Rank(d.rank),
+    }
 }
 
 // The phases with this step.
@@ -115,15 +110,11 @@ fn phases_by(step: u64) -> Phases
 pub fn phases(b: &[u8], promise: Promise, work: &mut [u64]) -> PhasesFound
     ensures { λ r. ⌜ PhasesCall (promiseOf promise) (now (b .entry)) (now (work .entry)) r (now (work .exit)) ⌝ }
 {
-    let checked = check_list(b, work.len());
-    let n = match checked {
-        Checked::Refused(r) => {
-            return PhasesFound::Refused(r);
-        }
-        Checked::Count(n) => n,
-    };
-    let d = describe_once(b, n, promise, &mut work[..WORK_WORDS]);
-    PhasesFound::Phases(phases_by(d.step))
+    let found = describe_list(b, promise, work);
+    match found {
+        DescriptionFound::Refused(r) => PhasesFound::Refused(r),
+        DescriptionFound::Description(d) => PhasesFound::Phases(phases_by(d.step)),
+    }
 }
 
 // Yes for 1.
@@ -141,43 +132,31 @@ fn decided(n: u64) -> Decided
 pub fn is_abelian(b: &[u8], promise: Promise, work: &mut [u64]) -> Decided
     ensures { λ r. ⌜ AbelianCall (promiseOf promise) (now (b .entry)) (now (work .entry)) r (now (work .exit)) ⌝ }
 {
-    let checked = check_list(b, work.len());
-    let n = match checked {
-        Checked::Refused(r) => {
-            return Decided::Refused(r);
-        }
-        Checked::Count(n) => n,
-    };
-    let d = describe_once(b, n, promise, &mut work[..WORK_WORDS]);
-    decided(1 - d.clash)
+    let found = describe_list(b, promise, work);
+    match found {
+        DescriptionFound::Refused(r) => Decided::Refused(r),
+        DescriptionFound::Description(d) => decided(1 - d.clash),
+    }
 }
 
 // Whether the group is abelian and does not have -I.
 pub fn is_stabilizer_group(b: &[u8], promise: Promise, work: &mut [u64]) -> Decided
     ensures { λ r. ⌜ StabilizerCall (promiseOf promise) (now (b .entry)) (now (work .entry)) r (now (work .exit)) ⌝ }
 {
-    let checked = check_list(b, work.len());
-    let n = match checked {
-        Checked::Refused(r) => {
-            return Decided::Refused(r);
-        }
-        Checked::Count(n) => n,
-    };
-    let d = describe_once(b, n, promise, &mut work[..WORK_WORDS]);
-    decided(d.stabilizer)
+    let found = describe_list(b, promise, work);
+    match found {
+        DescriptionFound::Refused(r) => Decided::Refused(r),
+        DescriptionFound::Description(d) => decided(d.stabilizer),
+    }
 }
 
 // The binary logarithm of the number of elements.
 pub fn log2_size(b: &[u8], promise: Promise, work: &mut [u64]) -> SizeFound
     ensures { λ r. ⌜ SizeCall (promiseOf promise) (now (b .entry)) (now (work .entry)) r (now (work .exit)) ⌝ }
 {
-    let checked = check_list(b, work.len());
-    let n = match checked {
-        Checked::Refused(r) => {
-            return SizeFound::Refused(r);
-        }
-        Checked::Count(n) => n,
-    };
-    let d = describe_once(b, n, promise, &mut work[..WORK_WORDS]);
-    SizeFound::Log2(d.rank + (2 - (d.step / 2) as usize))
+    let found = describe_list(b, promise, work);
+    match found {
+        DescriptionFound::Refused(r) => SizeFound::Refused(r),
+        DescriptionFound::Description(d) => SizeFound::Log2(d.rank + (2 - (d.step / 2) as usize)),
+    }
 }

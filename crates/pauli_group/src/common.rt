@@ -12,12 +12,13 @@ ghost use Rattle.pauli.specs.Signed.{held, pauliIn, listIn};
 ghost use Rattle.pauli.specs.Writing.{OnPlaces, toldBytes, leftIn};
 ghost use Rattle.pauli_theory.specs.Standard.{supportOf, phaseStep};
 ghost use Rattle.pauli_theory.specs.Common.{withExponent, phasesFrom, commonPart, lesser};
-ghost use Rattle.pauli_theory.specs.CommonPlaces.{sharedExponent, sharedWith};
-ghost use Rattle.pauli_group.specs.Inner.Area.{targetAt, spareAt, strideOf, cleared, Outside};
-ghost use Rattle.pauli_group.specs.Inner.Groups.{paulis};
+ghost use Rattle.pauli_theory.specs.Inner.CommonPlaces.{sharedExponent, sharedWith};
+ghost use Rattle.pauli_group.specs.Inner.Area.{targetAt, spareAt, strideOf, Outside};
+ghost use Rattle.pauli_group.specs.WorkArea.{cleared};
+ghost use Rattle.pauli_group.specs.Inner.Lists.{Joinable};
+ghost use Rattle.pauli_group.specs.Calls.{paulis, listBytes, commonBytes};
 ghost use Rattle.pauli_group.specs.Promises.{promiseOf};
 ghost use Rattle.pauli_group.specs.Answers.{orderOf};
-ghost use Rattle.pauli_group.specs.Calls.{listBytes, commonBytes};
 ghost use Rattle.pauli_group.specs.CallContracts.{CommonCall};
 ghost use Rattle.pauli_group.specs.Inner.Moved.{MovablePauli};
 ghost use Rattle.pauli_group.specs.Inner.Shared.{Solving, exponentOver, exponentFor, noted, sharedNoted, exponentFound};
@@ -26,6 +27,7 @@ use crate::area::LIST;
 use crate::area::SPARE;
 use crate::area::WORK_WORDS;
 use crate::basis::common_basis;
+use crate::checks::check_pair;
 use crate::group::Group;
 use crate::group::group_of;
 use crate::member::Solved;
@@ -38,9 +40,6 @@ use crate::standard::signs_of;
 use binar::row::clear_bits;
 use pauli::joined::CountsFound;
 use pauli::joined::join_support;
-use pauli::joined::joined_counts;
-use pauli::refusal::Reason;
-use pauli::refusal::Refusal;
 use pauli::signed::Pauli;
 use pauli::signed::indexed_product;
 use pauli::signed::load;
@@ -198,7 +197,7 @@ fn write_part(
     w: &mut [u64],
     out: &mut [u8],
 ) -> Wrote
-    requires { ⌜ (countOf (now left) ≡ answer nl) × (countOf (now right) ≡ answer nr) × (nl + nr ≤ 128) × (length (support (listOf (now left) ++ listOf (now right))) ≤ mostQubits) × (length (now w) ≡ 4096) ⌝ }
+    requires { ⌜ Joinable (now left) (now right) nl nr × (length (now w) ≡ 4096) ⌝ }
     ensures told { λ r. ⌜ toldWrote r ≡ toldBytes (answer (listBytes (commonPart (promiseOf «left_promise») (promiseOf «right_promise») (paulis (listOf (now (left .entry)))) (paulis (listOf (now (right .entry))))))) (now (out .entry)) ⌝ }
     ensures left { λ _. ⌜ now (out .exit) ≡ leftIn (answer (listBytes (commonPart (promiseOf «left_promise») (promiseOf «right_promise») (paulis (listOf (now (left .entry)))) (paulis (listOf (now (right .entry))))))) (now (out .entry)) ⌝ }
 {
@@ -235,7 +234,7 @@ fn write_lesser(
     w: &mut [u64],
     out: &mut [u8],
 ) -> Wrote
-    requires { ⌜ (countOf (now left) ≡ answer nl) × (countOf (now right) ≡ answer nr) × (nl + nr ≤ 128) × (length (support (listOf (now left) ++ listOf (now right))) ≤ mostQubits) × (length (now w) ≡ 4096) ⌝ }
+    requires { ⌜ Joinable (now left) (now right) nl nr × (length (now w) ≡ 4096) ⌝ }
     ensures told { λ r. ⌜ toldWrote r ≡ toldBytes (answer (listBytes (lesser (orderOf order) (paulis (listOf (now (left .entry)))) (paulis (listOf (now (right .entry)))) (commonPart (promiseOf «left_promise») (promiseOf «right_promise») (paulis (listOf (now (left .entry)))) (paulis (listOf (now (right .entry)))))))) (now (out .entry)) ⌝ }
     ensures left { λ _. ⌜ now (out .exit) ≡ leftIn (answer (listBytes (lesser (orderOf order) (paulis (listOf (now (left .entry)))) (paulis (listOf (now (right .entry)))) (commonPart (promiseOf «left_promise») (promiseOf «right_promise») (paulis (listOf (now (left .entry)))) (paulis (listOf (now (right .entry)))))))) (now (out .entry)) ⌝ }
 {
@@ -258,7 +257,7 @@ fn write_common(
     w: &mut [u64],
     out: &mut [u8],
 ) -> Wrote
-    requires { ⌜ (countOf (now left) ≡ answer nl) × (countOf (now right) ≡ answer nr) × (nl + nr ≤ 128) × (length (support (listOf (now left) ++ listOf (now right))) ≤ mostQubits) × (length (now w) ≡ 4096) ⌝ }
+    requires { ⌜ Joinable (now left) (now right) nl nr × (length (now w) ≡ 4096) ⌝ }
     ensures told { λ r. ⌜ toldWrote r ≡ toldBytes (answer (commonBytes (promiseOf «left_promise») (promiseOf «right_promise») (record { left = paulis (listOf (now (left .entry))); right = paulis (listOf (now (right .entry))) }))) (now (out .entry)) ⌝ }
     ensures left { λ _. ⌜ now (out .exit) ≡ leftIn (answer (commonBytes (promiseOf «left_promise») (promiseOf «right_promise») (record { left = paulis (listOf (now (left .entry))); right = paulis (listOf (now (right .entry))) }))) (now (out .entry)) ⌝ }
     ensures area { λ _. ⌜ now (w .exit) ≡ cleared (now (w .entry)) ⌝ }
@@ -290,19 +289,13 @@ pub fn bitand(
 ) -> Wrote
     ensures { λ r. ⌜ CommonCall (promiseOf «left_promise») (promiseOf «right_promise») (now (left .entry)) (now (right .entry)) (now (work .entry)) (now (out .entry)) r (now (work .exit)) (now (out .exit)) ⌝ }
 {
-    let found = joined_counts(left, right);
+    let found = check_pair(left, right, work.len());
     let counts = match found {
         CountsFound::Refused(r) => {
             return Wrote::Refused(r);
         }
         CountsFound::Counts(counts) => counts,
     };
-    if work.len() < WORK_WORDS {
-        return Wrote::Refused(Refusal {
-            reason: Reason::Work,
-            place: 0,
-        });
-    }
     write_common(
         left,
         counts.left,

@@ -2,21 +2,20 @@
 ghost use mathlib.Core.Path.{_≡_};
 ghost use Prim.Native.Nat.{_<_};
 ghost use lib.ListN.{length, getD};
-ghost use Rattle.pauli.specs.JoinAnswers.{toldCounts};
 ghost use Rattle.pauli.specs.Condense.{listOf, nothing};
 ghost use Rattle.pauli.specs.Roll.{countOf};
 ghost use Rattle.pauli.specs.Sets.{pauliOf};
 ghost use Rattle.pauli.specs.Told.{answer};
 ghost use Rattle.pauli_theory.specs.Membership.{factorizationOf};
 ghost use Rattle.pauli_group.specs.Promises.{promiseOf};
-ghost use Rattle.pauli_group.specs.Inner.Area.{cleared};
-ghost use Rattle.pauli_group.specs.Inner.Groups.{paulis};
-ghost use Rattle.pauli_group.specs.Calls.{questionCounts};
+ghost use Rattle.pauli_group.specs.WorkArea.{cleared};
+ghost use Rattle.pauli_group.specs.Calls.{paulis};
 ghost use Rattle.pauli_group.specs.CallContracts.{MemberCall};
 ghost use Rattle.pauli_group.specs.Inner.Members.{factoringTold};
 use crate::answers::Factors;
 use crate::answers::MemberFound;
 use crate::area::WORK_WORDS;
+use crate::checks::check_question;
 use crate::group::group_of;
 use crate::member::Factoring;
 use crate::member::factor;
@@ -25,44 +24,8 @@ use crate::promise::Promise;
 use crate::standard::signs_of;
 use binar::row::clear_bits;
 use pauli::joined::CountsFound;
-use pauli::joined::JoinedCounts;
 use pauli::refusal::Reason;
 use pauli::refusal::Refusal;
-use pauli::roll::Checked;
-use pauli::roll::check_roll;
-
-// Checks the generators' roll, the elements' roll, the element's number and the work area of so many words.
-fn check_question(b: &[u8], elements: &[u8], number: usize, words: usize) -> CountsFound
-    ensures { λ r. ⌜ toldCounts r ≡ questionCounts (now (b .entry)) (now (elements .entry)) number words ⌝ }
-{
-    let c = check_roll(b);
-    let n = match c {
-        Checked::Refused(r) => {
-            return CountsFound::Refused(r);
-        }
-        Checked::Count(n) => n,
-    };
-    let d = check_roll(elements);
-    let m = match d {
-        Checked::Refused(r) => {
-            return CountsFound::Refused(r);
-        }
-        Checked::Count(m) => m,
-    };
-    if number >= m {
-        return CountsFound::Refused(Refusal {
-            reason: Reason::Number,
-            place: 0,
-        });
-    }
-    if words < WORK_WORDS {
-        return CountsFound::Refused(Refusal {
-            reason: Reason::Work,
-            place: 0,
-        });
-    }
-    CountsFound::Counts(JoinedCounts { left: n, right: m })
-}
 
 // Factors one element by the group of an accepted roll of n, and clears the work area.
 fn factor_once(

@@ -11,8 +11,11 @@ ghost use Rattle.pauli.specs.Told.{answer};
 ghost use Rattle.pauli.specs.Writing.{OnPlaces};
 ghost use Rattle.pauli_theory.specs.Group.{none};
 ghost use Rattle.pauli_group.specs.Promises.{promiseOf};
-ghost use Rattle.pauli_group.specs.Inner.Area.{listAt, spareAt, cleared, Outside};
-ghost use Rattle.pauli_group.specs.Inner.Groups.{paulis, Built, Grouped, Described};
+ghost use Rattle.pauli_group.specs.Inner.Area.{listAt, spareAt, Outside};
+ghost use Rattle.pauli_group.specs.WorkArea.{cleared};
+ghost use Rattle.pauli_group.specs.Inner.Groups.{Built, Grouped, factsIn, factsOf};
+ghost use Rattle.pauli_group.specs.Inner.Lists.{Joinable};
+ghost use Rattle.pauli_group.specs.Calls.{paulis};
 use crate::area::LIST;
 use crate::area::STANDARD;
 use crate::area::WORK_WORDS;
@@ -78,7 +81,7 @@ fn group_of_two(
     known: &mut [u32],
     w: &mut [u64],
 ) -> Group
-    requires { ⌜ (countOf (now left) ≡ answer nl) × (countOf (now right) ≡ answer nr) × (nl + nr ≤ 128) × (length (support (listOf (now left) ++ listOf (now right))) ≤ mostQubits) × (mostQubits < length (now known)) × (length (now w) ≡ 4096) ⌝ }
+    requires { ⌜ Joinable (now left) (now right) nl nr × (mostQubits < length (now known)) × (length (now w) ≡ 4096) ⌝ }
     ensures { λ r. ⌜ Grouped (paulis (listOf (now (left .entry)) ++ listOf (now (right .entry)))) (now (known .exit)) (now (w .exit)) (r .places) (r .rank) (r .total) ⌝ }
 {
     let places = join_support(left, nl, right, nr, known);
@@ -90,7 +93,7 @@ fn group_of_two(
 // What the calls tell of the group of an accepted roll of n Paulis.
 pub(crate) fn describe(b: &[u8], n: usize, promise: Promise, w: &mut [u64]) -> Description
     requires { ⌜ (countOf (now b) ≡ answer n) × (length (now w) ≡ 4096) ⌝ }
-    ensures { λ r. ⌜ Described (promiseOf promise) (paulis (listOf (now (b .entry)))) (r .rank) (r .step) (r .clash) (r .stabilizer) ⌝ }
+    ensures { λ r. ⌜ factsIn r ≡ factsOf (promiseOf promise) (paulis (listOf (now (b .entry)))) ⌝ }
 {
     let mut known = [0u32; 129];
     let g = group_of(b, n, &mut known, w);
@@ -103,10 +106,16 @@ pub(crate) fn describe(b: &[u8], n: usize, promise: Promise, w: &mut [u64]) -> D
     }
 }
 
-// The same of the joined list of two rolls, without promise.
-pub(crate) fn describe_two(left: &[u8], nl: usize, right: &[u8], nr: usize, w: &mut [u64]) -> Description
-    requires { ⌜ (countOf (now left) ≡ answer nl) × (countOf (now right) ≡ answer nr) × (nl + nr ≤ 128) × (length (support (listOf (now left) ++ listOf (now right))) ≤ mostQubits) × (length (now w) ≡ 4096) ⌝ }
-    ensures { λ r. ⌜ Described none (paulis (listOf (now (left .entry)) ++ listOf (now (right .entry)))) (r .rank) (r .step) (r .clash) (r .stabilizer) ⌝ }
+// What the calls tell of the group of two accepted rolls joined, without promise.
+pub(crate) fn describe_two(
+    left: &[u8],
+    nl: usize,
+    right: &[u8],
+    nr: usize,
+    w: &mut [u64],
+) -> Description
+    requires { ⌜ Joinable (now left) (now right) nl nr × (length (now w) ≡ 4096) ⌝ }
+    ensures { λ r. ⌜ factsIn r ≡ factsOf none (paulis (listOf (now (left .entry)) ++ listOf (now (right .entry)))) ⌝ }
 {
     let mut known = [0u32; 129];
     let g = group_of_two(left, nl, right, nr, &mut known, w);
@@ -122,7 +131,7 @@ pub(crate) fn describe_two(left: &[u8], nl: usize, right: &[u8], nr: usize, w: &
 // Describes the group, and clears the work area.
 pub(crate) fn describe_once(b: &[u8], n: usize, promise: Promise, w: &mut [u64]) -> Description
     requires { ⌜ (countOf (now b) ≡ answer n) × (length (now w) ≡ 4096) ⌝ }
-    ensures told { λ r. ⌜ Described (promiseOf promise) (paulis (listOf (now (b .entry)))) (r .rank) (r .step) (r .clash) (r .stabilizer) ⌝ }
+    ensures told { λ r. ⌜ factsIn r ≡ factsOf (promiseOf promise) (paulis (listOf (now (b .entry)))) ⌝ }
     ensures area { λ _. ⌜ now (w .exit) ≡ cleared (now (w .entry)) ⌝ }
 {
     let d = describe(b, n, promise, w);

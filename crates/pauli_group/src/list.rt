@@ -11,7 +11,14 @@ use pauli::condense::condense_from;
 use pauli::signed::store;
 
 // Reads the n Paulis of a roll, over the places of a support that has their qubits, to the words from word base on.
-pub(crate) fn read_list(b: &[u8], n: usize, support: &[u32], count: usize, w: &mut [u64], base: usize)
+pub(crate) fn read_list(
+    b: &[u8],
+    n: usize,
+    support: &[u32],
+    count: usize,
+    w: &mut [u64],
+    base: usize,
+)
     requires { ⌜ ReadableAll (now b) n (take count (now support)) × (count ≤ 128) × (count ≤ length (now support)) × (base + 5 * n ≤ length (now w)) × (length (listOf (now b)) ≡ n) ⌝ }
     ensures list { λ _. ⌜ listIn (now (w .exit)) base n ≡ map (overPlaces (take count (now (support .entry)))) (listOf (now (b .entry))) ⌝ }
     ensures rest { λ _. ⌜ Outside base (5 * n) (now (w .entry)) (now (w .exit)) ⌝ }

@@ -3,7 +3,7 @@ ghost use mathlib.Core.Path.{_≡_};
 ghost use mathlib.Core.List.{_++_};
 ghost use Prim.Native.Nat.{_+_, _*_, _^_, _≤_, _<_};
 ghost use lib.ListN.{length, getD, take};
-ghost use Rattle.binar.specs.Layout.{formIn, Solvable};
+ghost use Rattle.binar.specs.Layout.{formIn, FormLeft};
 ghost use Rattle.binar.specs.Row.{weight};
 ghost use Rattle.binar.specs.Solve.{transposeSolve};
 ghost use Rattle.pauli.specs.Bytes.{numbersAt};
@@ -17,7 +17,8 @@ ghost use Rattle.pauli.specs.Told.{answer};
 ghost use Rattle.pauli.specs.Writing.{putBytes};
 ghost use Rattle.pauli_theory.specs.Membership.{factorizationOf};
 ghost use Rattle.pauli_group.specs.Inner.Area.{targetAt, rowWords, strideOf, Outside};
-ghost use Rattle.pauli_group.specs.Inner.Members.{le16s, covered, setTold, factoringTold, Asked};
+ghost use Rattle.pauli_group.specs.Inner.Members.{covered, setTold, factoringTold, Asked};
+ghost use Rattle.pauli_group.specs.Calls.{le16s};
 ghost use Rattle.pauli_group.specs.Inner.Lists.{rowOver};
 use crate::area::LIST;
 use crate::area::ROW_WORDS;
@@ -100,7 +101,7 @@ fn is_supported(b: &[u8], n: usize, i: usize, support: &[u32], count: usize) -> 
 
 // Finds the generators whose rows add up to that of p, by the form of n rows over s places.
 pub(crate) fn solve(w: &mut [u64], n: usize, s: usize, rank: usize, p: Pauli) -> Solved
-    requires { ⌜ (length (now w) ≡ 4096) × (n ≤ 128) × (s ≤ 128) × (held p .x < 2 ^ s) × (held p .z < 2 ^ s) × Solvable (now w) (strideOf n) n (2 * s) rank targetAt ⌝ }
+    requires { ⌜ (length (now w) ≡ 4096) × (n ≤ 128) × (s ≤ 128) × (held p .x < 2 ^ s) × (held p .z < 2 ^ s) × FormLeft (now w) (strideOf n) n (2 * s) rank targetAt ⌝ }
     ensures told { λ r. ⌜ setTold r ≡ transposeSolve (2 * s) (formIn (strideOf n) n rowWords (2 * s) rank (now (w .entry))) (rowOver s (held p)) ⌝ }
     ensures rest { λ _. ⌜ Outside targetAt (strideOf n) (now (w .entry)) (now (w .exit)) ⌝ }
 {

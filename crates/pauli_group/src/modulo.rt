@@ -3,7 +3,7 @@ ghost use mathlib.Core.Path.{_≡_};
 ghost use mathlib.Core.List.{_++_, map};
 ghost use Prim.Native.Nat.{_+_, _*_, _^_, _≤_, _<_};
 ghost use lib.ListN.{length, take};
-ghost use Rattle.pauli.specs.Roll.{support, countOf, write};
+ghost use Rattle.pauli.specs.Roll.{support, countOf};
 ghost use Rattle.pauli.specs.Support.{mostQubits, All};
 ghost use Rattle.pauli.specs.Told.{answer};
 ghost use Rattle.pauli.specs.WriteAnswers.{toldWrote};
@@ -11,18 +11,20 @@ ghost use Rattle.pauli.specs.Condense.{listOf};
 ghost use Rattle.pauli.specs.Pauli.{normal};
 ghost use Rattle.pauli.specs.Signed.{held, listIn};
 ghost use Rattle.pauli.specs.Writing.{toldBytes, leftIn};
-ghost use Rattle.pauli.specs.Sets.{sparseOf};
 ghost use Rattle.pauli_theory.specs.Modulo.{modulo};
-ghost use Rattle.pauli_theory.specs.ModuloPlaces.{multipliedAt};
+ghost use Rattle.pauli_theory.specs.Inner.ModuloPlaces.{multipliedAt};
 ghost use Rattle.pauli_theory.specs.Standard.{supportOf};
-ghost use Rattle.pauli_group.specs.Inner.Area.{spareAt, cleared, Outside};
-ghost use Rattle.pauli_group.specs.Inner.Groups.{paulis};
+ghost use Rattle.pauli_group.specs.Inner.Area.{spareAt, Outside};
+ghost use Rattle.pauli_group.specs.WorkArea.{cleared};
+ghost use Rattle.pauli_group.specs.Inner.Lists.{Joinable};
+ghost use Rattle.pauli_group.specs.Calls.{paulis, listBytes};
 ghost use Rattle.pauli_group.specs.Promises.{promiseOf};
 ghost use Rattle.pauli_group.specs.CallContracts.{ModuloCall};
 ghost use Rattle.pauli_group.specs.Inner.Remainder.{Other, remainderBy, Remainder};
 use crate::area::SPARE;
 use crate::area::STANDARD;
 use crate::area::WORK_WORDS;
+use crate::checks::check_pair;
 use crate::form::stride_of;
 use crate::group::Group;
 use crate::group::group_of;
@@ -34,9 +36,6 @@ use crate::standard::signs_of;
 use binar::row::clear_bits;
 use pauli::joined::CountsFound;
 use pauli::joined::join_support;
-use pauli::joined::joined_counts;
-use pauli::refusal::Reason;
-use pauli::refusal::Refusal;
 use pauli::signed::Pauli;
 use pauli::signed::load;
 use pauli::signed::store;
@@ -139,9 +138,9 @@ pub(crate) fn write_modulo(
     w: &mut [u64],
     out: &mut [u8],
 ) -> Wrote
-    requires { ⌜ (countOf (now left) ≡ answer nl) × (countOf (now right) ≡ answer nr) × (length (support (listOf (now left) ++ listOf (now right))) ≤ mostQubits) × (length (now w) ≡ 4096) ⌝ }
-    ensures told { λ r. ⌜ toldWrote r ≡ toldBytes (answer (write (map sparseOf (modulo (promiseOf promise) (paulis (listOf (now (left .entry)))) (paulis (listOf (now (right .entry)))))))) (now (out .entry)) ⌝ }
-    ensures left { λ _. ⌜ now (out .exit) ≡ leftIn (answer (write (map sparseOf (modulo (promiseOf promise) (paulis (listOf (now (left .entry)))) (paulis (listOf (now (right .entry)))))))) (now (out .entry)) ⌝ }
+    requires { ⌜ Joinable (now left) (now right) nl nr × (length (now w) ≡ 4096) ⌝ }
+    ensures told { λ r. ⌜ toldWrote r ≡ toldBytes (answer (listBytes (modulo (promiseOf promise) (paulis (listOf (now (left .entry)))) (paulis (listOf (now (right .entry))))))) (now (out .entry)) ⌝ }
+    ensures left { λ _. ⌜ now (out .exit) ≡ leftIn (answer (listBytes (modulo (promiseOf promise) (paulis (listOf (now (left .entry)))) (paulis (listOf (now (right .entry))))))) (now (out .entry)) ⌝ }
     ensures area { λ _. ⌜ now (w .exit) ≡ cleared (now (w .entry)) ⌝ }
 {
     let mut joined = [0u32; 129];
@@ -163,19 +162,13 @@ pub fn modulo(
 ) -> Wrote
     ensures { λ r. ⌜ ModuloCall (promiseOf «right_promise») (now (left .entry)) (now (right .entry)) (now (work .entry)) (now (out .entry)) r (now (work .exit)) (now (out .exit)) ⌝ }
 {
-    let found = joined_counts(left, right);
+    let found = check_pair(left, right, work.len());
     let counts = match found {
         CountsFound::Refused(r) => {
             return Wrote::Refused(r);
         }
         CountsFound::Counts(counts) => counts,
     };
-    if work.len() < WORK_WORDS {
-        return Wrote::Refused(Refusal {
-            reason: Reason::Work,
-            place: 0,
-        });
-    }
     write_modulo(
         left,
         counts.left,

@@ -8,7 +8,7 @@ ghost use Rattle.pauli.specs.Signed.{held, listIn};
 ghost use Rattle.pauli.specs.PlaceSet.{setIn};
 ghost use Rattle.pauli.specs.Writing.{OnPlaces};
 ghost use Rattle.pauli.specs.Support.{All};
-ghost use Rattle.pauli_theory.specs.ModuloPlaces.{movedSet, movedPauli};
+ghost use Rattle.pauli_theory.specs.Inner.ModuloPlaces.{movedSet, movedPauli};
 ghost use Rattle.pauli_group.specs.Inner.Area.{Outside};
 ghost use Rattle.pauli_group.specs.Inner.Moved.{Movable, MovablePauli};
 use pauli::condense::with_place;

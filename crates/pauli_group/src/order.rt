@@ -10,22 +10,21 @@ ghost use Rattle.pauli.specs.Told.{answer};
 ghost use Rattle.pauli_theory.specs.Order.{partialCmp, and, sameRanks, noMore};
 ghost use Rattle.pauli_group.specs.Promises.{promiseOf};
 ghost use Rattle.pauli_group.specs.Answers.{orderOf};
-ghost use Rattle.pauli_group.specs.Inner.Area.{cleared};
-ghost use Rattle.pauli_group.specs.Inner.Groups.{paulis};
+ghost use Rattle.pauli_group.specs.WorkArea.{cleared};
+ghost use Rattle.pauli_group.specs.Inner.Lists.{Joinable};
+ghost use Rattle.pauli_group.specs.Calls.{paulis};
 ghost use Rattle.pauli_group.specs.Inner.Compare.{ranksIn, orderBy};
 ghost use Rattle.pauli_group.specs.CallContracts.{OrderCall};
 use crate::answers::Order;
 use crate::answers::OrderFound;
 use crate::area::WORK_WORDS;
+use crate::checks::check_pair;
 use crate::group::Description;
 use crate::group::describe;
 use crate::group::describe_two;
 use crate::promise::Promise;
 use binar::row::clear_bits;
 use pauli::joined::CountsFound;
-use pauli::joined::joined_counts;
-use pauli::refusal::Reason;
-use pauli::refusal::Refusal;
 
 // How many phases a group has, and its rank.
 pub(crate) struct GroupRanks {
@@ -97,7 +96,7 @@ pub(crate) fn order_of(
     right_promise: Promise,
     w: &mut [u64],
 ) -> Order
-    requires { ⌜ (countOf (now left) ≡ answer nl) × (countOf (now right) ≡ answer nr) × (nl + nr ≤ 128) × (length (support (listOf (now left) ++ listOf (now right))) ≤ mostQubits) × (length (now w) ≡ 4096) ⌝ }
+    requires { ⌜ Joinable (now left) (now right) nl nr × (length (now w) ≡ 4096) ⌝ }
     ensures { λ r. ⌜ orderOf r ≡ partialCmp (promiseOf «left_promise») (promiseOf «right_promise») (paulis (listOf (now (left .entry)))) (paulis (listOf (now (right .entry)))) ⌝ }
 {
     let a = describe(left, nl, left_promise, w);
@@ -116,7 +115,7 @@ fn compare(
     right_promise: Promise,
     w: &mut [u64],
 ) -> Order
-    requires { ⌜ (countOf (now left) ≡ answer nl) × (countOf (now right) ≡ answer nr) × (nl + nr ≤ 128) × (length (support (listOf (now left) ++ listOf (now right))) ≤ mostQubits) × (length (now w) ≡ 4096) ⌝ }
+    requires { ⌜ Joinable (now left) (now right) nl nr × (length (now w) ≡ 4096) ⌝ }
     ensures told { λ r. ⌜ orderOf r ≡ partialCmp (promiseOf «left_promise») (promiseOf «right_promise») (paulis (listOf (now (left .entry)))) (paulis (listOf (now (right .entry)))) ⌝ }
     ensures area { λ _. ⌜ now (w .exit) ≡ cleared (now (w .entry)) ⌝ }
 {
@@ -135,19 +134,13 @@ pub fn partial_cmp(
 ) -> OrderFound
     ensures { λ r. ⌜ OrderCall (promiseOf «left_promise») (promiseOf «right_promise») (now (left .entry)) (now (right .entry)) (now (work .entry)) r (now (work .exit)) ⌝ }
 {
-    let found = joined_counts(left, right);
+    let found = check_pair(left, right, work.len());
     let counts = match found {
         CountsFound::Refused(r) => {
             return OrderFound::Refused(r);
         }
         CountsFound::Counts(counts) => counts,
     };
-    if work.len() < WORK_WORDS {
-        return OrderFound::Refused(Refusal {
-            reason: Reason::Work,
-            place: 0,
-        });
-    }
     let order = compare(
         left,
         counts.left,

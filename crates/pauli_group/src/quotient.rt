@@ -10,21 +10,21 @@ ghost use Rattle.pauli.specs.WriteAnswers.{toldWrote};
 ghost use Rattle.pauli.specs.Condense.{listOf};
 ghost use Rattle.pauli.specs.Writing.{toldBytes, leftIn};
 ghost use Rattle.pauli_theory.specs.Modulo.{tryQuotient};
-ghost use Rattle.pauli_group.specs.Inner.Area.{cleared};
-ghost use Rattle.pauli_group.specs.Inner.Groups.{paulis};
+ghost use Rattle.pauli_group.specs.WorkArea.{cleared};
+ghost use Rattle.pauli_group.specs.Inner.Lists.{Joinable};
+ghost use Rattle.pauli_group.specs.Calls.{paulis, quotientBytes};
 ghost use Rattle.pauli_group.specs.Promises.{promiseOf};
 ghost use Rattle.pauli_group.specs.Answers.{orderOf};
-ghost use Rattle.pauli_group.specs.Calls.{quotientBytes};
 ghost use Rattle.pauli_group.specs.Inner.Compare.{isBelow};
 ghost use Rattle.pauli_group.specs.CallContracts.{QuotientCall};
 use crate::answers::Order;
 use crate::area::WORK_WORDS;
+use crate::checks::check_pair;
 use crate::modulo::write_modulo;
 use crate::order::order_of;
 use crate::promise::Promise;
 use binar::row::clear_bits;
 use pauli::joined::CountsFound;
-use pauli::joined::joined_counts;
 use pauli::refusal::Reason;
 use pauli::refusal::Refusal;
 use pauli::write::Wrote;
@@ -53,7 +53,7 @@ fn write_quotient(
     w: &mut [u64],
     out: &mut [u8],
 ) -> Wrote
-    requires { ⌜ (countOf (now left) ≡ answer nl) × (countOf (now right) ≡ answer nr) × (nl + nr ≤ 128) × (length (support (listOf (now left) ++ listOf (now right))) ≤ mostQubits) × (length (now w) ≡ 4096) ⌝ }
+    requires { ⌜ Joinable (now left) (now right) nl nr × (length (now w) ≡ 4096) ⌝ }
     ensures told { λ r. ⌜ toldWrote r ≡ toldBytes (quotientBytes (tryQuotient (promiseOf «left_promise») (promiseOf «right_promise») (paulis (listOf (now (left .entry)))) (paulis (listOf (now (right .entry)))))) (now (out .entry)) ⌝ }
     ensures left { λ _. ⌜ now (out .exit) ≡ leftIn (quotientBytes (tryQuotient (promiseOf «left_promise») (promiseOf «right_promise») (paulis (listOf (now (left .entry)))) (paulis (listOf (now (right .entry)))))) (now (out .entry)) ⌝ }
     ensures area { λ _. ⌜ now (w .exit) ≡ cleared (now (w .entry)) ⌝ }
@@ -80,19 +80,13 @@ pub fn try_quotient(
 ) -> Wrote
     ensures { λ r. ⌜ QuotientCall (promiseOf «left_promise») (promiseOf «right_promise») (now (left .entry)) (now (right .entry)) (now (work .entry)) (now (out .entry)) r (now (work .exit)) (now (out .exit)) ⌝ }
 {
-    let found = joined_counts(left, right);
+    let found = check_pair(left, right, work.len());
     let counts = match found {
         CountsFound::Refused(r) => {
             return Wrote::Refused(r);
         }
         CountsFound::Counts(counts) => counts,
     };
-    if work.len() < WORK_WORDS {
-        return Wrote::Refused(Refusal {
-            reason: Reason::Work,
-            place: 0,
-        });
-    }
     write_quotient(
         left,
         counts.left,

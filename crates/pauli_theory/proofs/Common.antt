@@ -12,13 +12,13 @@ use Rattle.binar.proofs.echelon.Lists.{all-map, all-join, all-left, all-right, 
 use Rattle.binar.proofs.echelon.Span.{below-subspace, space-rows, space-in}
 use Rattle.pauli.specs.Roll.{mostPaulis}
 use Rattle.pauli.specs.Support.{All}
-use Rattle.pauli.specs.Pauli.{Pauli, I}
+use Rattle.pauli.specs.Pauli.{Pauli, I, phase}
 use Rattle.pauli.specs.Sets.{rowOf, pauliOfRow}
 use Rattle.pauli.specs.PauliTheorems.{PauliOn}
 use Rattle.pauli.proofs.condense.Places.{expand-on}
 use Rattle.pauli.proofs.condense.Rows.{back-row, on-I}
 use Rattle.pauli_theory.specs.Group.{Promise}
-use Rattle.pauli_theory.specs.Standard.{supportOf, ifZero, phase, standard, phaseStep}
+use Rattle.pauli_theory.specs.Standard.{supportOf, ifZero, standard, phaseStep}
 use Rattle.pauli_theory.specs.Membership.{Factorization, factorizationOf}
 use Rattle.pauli_theory.specs.Order.{Order, equal, less, greater, noOrder, partialCmp}
 use Rattle.pauli_theory.specs.Common.{commonRows, commonBasis, withExponent, ifBoth, commonPhaseFrom, commonPhase, consSome, sharedOf, phasesFrom, commonPhases, commonPart, lesser, bitand}

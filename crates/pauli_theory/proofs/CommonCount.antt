@@ -10,8 +10,8 @@ use Rattle.pauli.specs.Pauli.{Pauli}
 use Rattle.pauli.specs.Sets.{rowOf}
 use Rattle.pauli_theory.specs.Group.{Inside}
 use Rattle.pauli_theory.specs.Standard.{supportOf, formOf, rank, appended, ifZero, standard}
-use Rattle.pauli_theory.specs.CommonPlaces.{formOfPlaces}
-use Rattle.pauli_theory.specs.ModuloPlaces.{movedPauli}
+use Rattle.pauli_theory.specs.Inner.CommonPlaces.{formOfPlaces}
+use Rattle.pauli_theory.specs.Inner.ModuloPlaces.{movedPauli}
 use Rattle.pauli_theory.proofs.Group.{inside-join, joined-law, joined-least}
 use Rattle.pauli_theory.proofs.Rows.{support-rises, support-same}
 use Rattle.pauli_theory.proofs.Grade.{signTest, grade}

@@ -19,7 +19,8 @@ use Rattle.pauli_theory.specs.Group.{Inside, Promise}
 use Rattle.pauli_theory.specs.Standard.{supportOf, formOf, ifZero, phaseStep}
 use Rattle.pauli_theory.specs.Membership.{Factorization, outside, exponentLeft, withPhase, factorizationOf}
 use Rattle.pauli_theory.specs.Common.{commonBasis, withExponent, ifBoth, commonPhaseFrom, commonPhase}
-use Rattle.pauli_theory.specs.CommonPlaces.{sharedExponentFrom, sharedExponent, withSome}
+use Rattle.pauli_theory.specs.Inner.CommonPlaces.{sharedExponentFrom, sharedExponent, withSome}
+use Rattle.pauli_theory.proofs.Phases.{with-phase}
 use Rattle.pauli_theory.proofs.IfZero.{ifZero-zero, ifZero-more, ifZero-map}
 use Rattle.pauli_theory.proofs.Agree.{Agree, agree-flip}
 use Rattle.pauli_theory.proofs.Group.{generated-indexed, joined-law}
@@ -73,13 +74,13 @@ module _ (gs hs : List Pauli) where
 pub solved-factorization : (promise : Promise) (gs : List Pauli) (p : Pauli) (w : Solved gs p) (e : ℕ) → e < 4
     → let d = (e + 4 - indexedProduct (w .set) gs .e) % 4 in
     factorizationOf promise gs (withExponent e p) ≡ ifZero (d % phaseStep promise gs) (some (record { indexes = w .set; exponent = d })) none
-unfolding factorizationOf outside rowOf withExponent withPhase exponentLeft
+unfolding factorizationOf outside rowOf withExponent exponentLeft
 solved-factorization promise gs p w e l =
     let u = indexedProduct (w .set) gs .e in
     let r = withExponent e p in
     let told : ℕ → Option Factorization = λ d. ifZero (d % phaseStep promise gs) (some (record { indexes = w .set; exponent = d })) none in
     ifZero-zero (withPhase promise gs r (solve gs p)) none (on-outside gs p (w .on)) ∙ ap (withPhase promise gs r) (w .solution)
-    ∙ ap (λ (n : ℕ). told ((n + 4 - u) % 4)) (mod-eq-of-lt l)
+    ∙ with-phase promise gs r (w .set) ∙ ap (λ (n : ℕ). told ((n + 4 - u) % 4)) (mod-eq-of-lt l)
 
 ifBoth-ifZero {ℓ} : {X : Type ℓ} (m n : ℕ) (f g : Factorization) (x y : X)
     → ifBoth (ifZero m (some f) none) (ifZero n (some g) none) x y ≡ ifZero (max m n) x y

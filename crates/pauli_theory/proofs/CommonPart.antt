@@ -26,7 +26,7 @@ use Rattle.pauli_theory.proofs.Powers.{Power, power-value, powers, turn
 use Rattle.pauli_theory.proofs.Grade.{grade-divisor, grade-power}
 use Rattle.pauli_theory.proofs.Elements.{same-sets}
 use Rattle.pauli_theory.proofs.Standard.{phase-in, in-phase}
-use Rattle.pauli_theory.proofs.Phases.{phases-law}
+use Rattle.pauli_theory.proofs.Phases.{step-in, step-only}
 use Rattle.pauli_theory.proofs.Membership.{membership-law}
 use Rattle.pauli_theory.proofs.Order.{Outcome, compared}
 use Rattle.pauli_theory.proofs.Common.{basis-back, Variant, variant, not-found, phases-have, part-by}
@@ -62,13 +62,13 @@ module _ (left right : Promise) (gs hs : List Pauli) (hl : Honest left gs) (hr :
   part-left =
       inside-by (commonPart left right gs hs) gs
       (part-by gs hs left right (λ p. Unit {0}) (Generated gs) (λ p q t. variant-left p q) (all-of (λ p. tt) (commonBasis gs hs))
-      (λ k l u v. phase-in gs k (phases-law left gs hl .in-group k u)))
+      (λ k l u v. phase-in gs k (step-in left gs hl k u)))
 
   part-right : Inside (commonPart left right gs hs) hs
   part-right =
       inside-by (commonPart left right gs hs) hs
       (part-by gs hs left right (λ p. Unit {0}) (Generated hs) (λ p q t. variant-right p q) (all-of (λ p. tt) (commonBasis gs hs))
-      (λ k l u v. phase-in hs k (phases-law right hs hr .in-group k v)))
+      (λ k l u v. phase-in hs k (step-in right hs hr k v)))
 
   part-phases : (k : ℕ) → Power gs k → Power hs k → Power (commonPart left right gs hs) k
   unfolding commonPart commonPhases
@@ -80,7 +80,7 @@ module _ (left right : Promise) (gs hs : List Pauli) (hl : Honest left gs) (hr :
       let same : k % 4 ≡ r % 4 = sym (mod-mod k 4) in
       let here = phases-have m n (Generated ks) 4 0
       (all-right (Generated ks) (sharedOf left right gs hs (commonBasis gs hs)) (phasesFrom m n 4 0) (generators ks)) r (omega arith) (omega arith)
-      (phases-law left gs hl .all-of-group r (power-value gs k r same a)) (phases-law right hs hr .all-of-group r (power-value hs k r same b)) in
+      (step-only left gs hl r (power-value gs k r same a)) (step-only right hs hr r (power-value hs k r same b)) in
       power-value ks r k (sym same) (in-phase ks r here)
 
   -- ---- the true common part

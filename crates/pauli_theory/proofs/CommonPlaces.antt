@@ -20,8 +20,8 @@ use Rattle.pauli.proofs.signed.Products.{product-none, indexed-cons}
 use Rattle.pauli.proofs.condense.Rows.{row-back}
 use Rattle.pauli_theory.specs.Standard.{supportOf, zeroRows, nonzeroRows, standard}
 use Rattle.pauli_theory.specs.Common.{dependencies, commonSums, commonRows, commonBasis, withExponent}
-use Rattle.pauli_theory.specs.CommonPlaces.{dependencyProducts, basisProducts, commonProducts}
-use Rattle.pauli_theory.specs.ModuloPlaces.{movedPauli}
+use Rattle.pauli_theory.specs.Inner.CommonPlaces.{dependencyProducts, basisProducts, commonProducts}
+use Rattle.pauli_theory.specs.Inner.ModuloPlaces.{movedPauli}
 use Rattle.pauli_theory.proofs.Agree.{indexed-in}
 use Rattle.pauli_theory.proofs.Products.{indexed-lt, indexed-zero}
 use Rattle.pauli_theory.proofs.Form.{rows-split, pivot-rows-are, zero-rows-are, rows-made}

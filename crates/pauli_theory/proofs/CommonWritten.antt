@@ -9,16 +9,16 @@ use Rattle.binar.specs.Solve.{transposeSolve}
 use Rattle.binar.proofs.echelon.Lists.{all-zip}
 use Rattle.pauli.specs.Roll.{write}
 use Rattle.pauli.specs.Support.{All}
-use Rattle.pauli.specs.Pauli.{Pauli, indexedProduct}
+use Rattle.pauli.specs.Pauli.{Pauli, indexedProduct, phase}
 use Rattle.pauli.specs.Sets.{rowOf, sparseOf}
 use Rattle.pauli.specs.PauliTheorems.{PauliOn}
 use Rattle.pauli.specs.Condense.{condensed}
 use Rattle.pauli.specs.Writing.{rollOver, OnPlaces}
 use Rattle.pauli_theory.specs.Group.{Promise}
-use Rattle.pauli_theory.specs.Standard.{supportOf, ifZero, phase, phaseStep}
+use Rattle.pauli_theory.specs.Standard.{supportOf, ifZero, phaseStep}
 use Rattle.pauli_theory.specs.Common.{commonBasis, withExponent, commonPhase, consSome, sharedOf, phasesFrom, commonPhases, commonPart}
-use Rattle.pauli_theory.specs.CommonPlaces.{sharedExponent, withSome, sharedWith, exponentBy, solvedExponent}
-use Rattle.pauli_theory.specs.ModuloPlaces.{movedPauli}
+use Rattle.pauli_theory.specs.Inner.CommonPlaces.{sharedExponent, withSome, sharedWith, exponentBy, solvedExponent}
+use Rattle.pauli_theory.specs.Inner.ModuloPlaces.{movedPauli}
 use Rattle.pauli_theory.proofs.IfZero.{ifZero-map}
 use Rattle.pauli_theory.proofs.Rows.{support-rises, support-on}
 use Rattle.pauli_theory.proofs.Common.{common-basis-law}

@@ -1,16 +1,26 @@
 -- The generated group is closed under products and holds its generators; it lies in every closed set that has them.
-use mathlib.Core.Path.{ap, _∙_}
+use mathlib.Core.Path.{_≡_, sym, ap, ap₂, _∙_}
 use mathlib.Core.List.{List, [], _∷_, _++_, map, map-append}
-use Prim.Native.Nat.{ℕ, _<_}
+use Prim.Native.Nat.{ℕ, _*_, _<_}
+use native.Mathlib.Omega.{arith}
 use lib.ListN.{length, getD}
+use Rattle.binar.proofs.row.Bits.{xor-zero-l, dot-zero-l}
 use Rattle.binar.proofs.echelon.Lists.{all-join, all-left, all-right, all-get, all-by, all-over, all-map}
 use Rattle.pauli.specs.Support.{All}
-use Rattle.pauli.specs.Pauli.{Pauli, I, times, product, indexedProduct}
-use Rattle.pauli.proofs.signed.Algebra.{times-I}
+use Rattle.pauli.specs.Pauli.{Pauli, I, times, turned, orderFour, product, indexedProduct}
+use Rattle.pauli.proofs.signed.Algebra.{pauli-path, times-assoc, times-self, times-I}
 use Rattle.pauli.proofs.signed.Products.{product-cons, product-none, product-append}
 use Rattle.pauli_theory.specs.Group.{Generated, Inside, SameGroup}
-use Rattle.pauli_theory.specs.Theorems.{JoinedLaw}
+use Rattle.pauli_theory.specs.Theorems.{GeneratedLaw, JoinedLaw}
 use Rattle.pauli_theory.proofs.Agree.{Divisor, four, agree-path, agree-join, agree-normal, agree-times, same-agree, agree-same, Subgroup, product-in, indexed-in}
+
+-- an element four times
+signs-square : (k : ℕ) → times (turned (2 * k) I) (turned (2 * k) I) ≡ I
+unfolding times turned I
+signs-square k = pauli-path (omega (arith, dot-zero-l 0)) (xor-zero-l 0) (xor-zero-l 0)
+
+four-times : (p : Pauli) → times (times p p) (times p p) ≡ I
+four-times p = ap₂ times (times-self p) (times-self p) ∙ signs-square (orderFour p)
 
 -- the generators with these indexes
 abbrev named : List Pauli → List ℕ → List Pauli
@@ -46,6 +56,22 @@ module _ (gs : List Pauli) where
         indexes = i ∷ [];
         within = (l, tt);
         equals = agree-same (agree-join (agree-path 4 (product-cons g [] ∙ ap (times g) product-none ∙ times-I g)) (agree-normal g four));
+      }
+
+  -- an element three times is its inverse
+  pub generated-law : GeneratedLaw gs
+  generated-law =
+      let S = generated-subgroup in
+      record {
+        identity = S .unit;
+        generators = generator;
+        products = S .products;
+        inverses = λ p a. (
+          times p (times p p),
+          S .products p (times p p) a (S .products p p a a),
+          sym (times-assoc p p (times p p)) ∙ four-times p,
+          ap (λ (q : Pauli). times q p) (sym (times-assoc p p p)) ∙ times-assoc (times p p) p p ∙ four-times p,
+        );
       }
 
   pub generators : All (Generated gs) gs

@@ -14,11 +14,11 @@ use Rattle.binar.specs.Row.{weight}
 use Rattle.binar.proofs.row.Bits.{ones-zero}
 use Rattle.binar.proofs.echelon.Lists.{all-map, all-by}
 use Rattle.pauli.specs.Support.{All}
-use Rattle.pauli.specs.Pauli.{Pauli, I, turned, pauliWeight, product, consIf, select, indexedProduct}
+use Rattle.pauli.specs.Pauli.{Pauli, I, turned, pauliWeight, product, consIf, select, indexedProduct, phase}
 use Rattle.pauli.specs.PauliTheorems.{PauliOn}
 use Rattle.pauli_theory.specs.Group.{Generated, Promise, Honest}
-use Rattle.pauli_theory.specs.Standard.{supportOf, ifZero, rank, phase, appended, standard, nonabelian, bare, someOrderFour, someImaginary, someMinus, phaseStep, log2Size}
-use Rattle.pauli_theory.specs.Listing.{upTo, subsets, subsetAt, nontrivial, phaseCount, phasesOf, withPhases, elementsOf}
+use Rattle.pauli_theory.specs.Standard.{supportOf, ifZero, rank, appended, standard, nonabelian, bare, someOrderFour, someImaginary, someMinus, phasesOf, stepOf, phaseStep, log2Size}
+use Rattle.pauli_theory.specs.Listing.{countFrom, upTo, subsets, subsetAt, nontrivial, phaseCount, withPhases, elementsOf}
 use Rattle.pauli_theory.specs.ListingTheorems.{ElementsLaw, ListedLaw}
 use Rattle.pauli_theory.proofs.Agree.{Divisor, one, two, four}
 use Rattle.pauli_theory.proofs.IfZero.{ifZero-zero, ifZero-more}
@@ -26,7 +26,7 @@ use Rattle.pauli_theory.proofs.Rows.{generated-on}
 use Rattle.pauli_theory.proofs.Grade.{signTest, grade}
 use Rattle.pauli_theory.proofs.Elements.{basis, basis-count, basis-products-in}
 use Rattle.pauli_theory.proofs.Standard.{completed, standard-is}
-use Rattle.pauli_theory.proofs.Phases.{basis-bare, phaseStep-grade}
+use Rattle.pauli_theory.proofs.Phases.{basis-bare, phaseStep-grade, phases-cases}
 use Rattle.pauli_theory.proofs.Size.{some-multiple, multiples-count, phases, size, element, phases-positive, element-in, set-below, elements-apart, element-found}
 use Rattle.pauli_theory.proofs.OverPlaces.{upTo-length, upTo-at}
 use Rattle.pauli_theory.proofs.ListingSubsets.{get-map, select-none, subset-at, subsets-count}
@@ -141,18 +141,18 @@ select-first s (x ∷ xs) ys h =
 
 -- ---- any promise
 step-divisor : (promise : Promise) (gs : List Pauli) → Divisor (phaseStep promise gs)
-unfolding phaseStep ifZero
-step-divisor promise gs = go (someImaginary (standard gs)) (max (nonabelian promise gs) (max (someOrderFour (standard gs)) (someMinus (standard gs))))
-  where
-    go : (a b : ℕ) → Divisor (ifZero a (ifZero b 4 2) 1)
-    go zero zero = four
-    go zero (suc b) = two
-    go (suc a) b = one
+step-divisor = phases-cases (λ ks s. Divisor s) four two one
+
+phases-multiples : (promise : Promise) (gs : List Pauli) → phasesOf promise gs ≡ multiples (phaseStep promise gs)
+unfolding upTo countFrom
+phases-multiples = phases-cases (λ ks s. ks ≡ multiples s) refl refl refl
 
 module _ (promise : Promise) (gs : List Pauli) where
   elements-are : elementsOf promise gs ≡ listed (phaseStep promise gs) (basis gs)
-  unfolding elementsOf phasesOf phaseCount
-  elements-are = ap (listed (phaseStep promise gs)) (nontrivial-basis gs)
+  unfolding elementsOf
+  elements-are =
+      ap (λ (ks : List ℕ). flatMap (withPhases ks) (subsets (nontrivial (standard gs)))) (phases-multiples promise gs)
+      ∙ ap (listed (phaseStep promise gs)) (nontrivial-basis gs)
 
   count-of : length (elementsOf promise gs) ≡ 2 ^ rank gs * (4 / phaseStep promise gs)
   count-of = ap length elements-are ∙ listed-count (phaseStep promise gs) (basis gs) ∙ ap (λ (n : ℕ). 2 ^ n * (4 / phaseStep promise gs)) (basis-count gs)

@@ -4,10 +4,10 @@ use lib.Count.{ones}
 use Rattle.binar.specs.Row.{_⊕_, bit, dot, ifBit, rowSum}
 use Rattle.binar.specs.Echelon.{inColumn, byColumns, pivotOf, swapRows, clear, unless, addToOthers, placePivot, withPivot, onFound, echelonizeFrom, echelonize, besideIdentity, echelon, rank as echelonRank}
 use Rattle.binar.specs.Solve.{sweep, solved, transposeSolve}
-use Rattle.pauli.specs.Pauli.{I, times, anticommute, orderFour, productFrom, product, consIf, select, indexedProduct}
+use Rattle.pauli.specs.Pauli.{I, times, anticommute, orderFour, productFrom, product, consIf, select, indexedProduct, phase}
 use Rattle.pauli.specs.Sets.{setOf, membersFrom, members, condense, expand, rowOf, pauliOfRow}
-use Rattle.pauli_theory.specs.Standard.{usedBy, supportOf, formOf, rank, phaseOf, ifZero, zeroRows, nonzeroRows, modulusOf, modulus, rowGenerators, someOrderFour, anticommutesWithSome, someAnticommute, phase, appended, exponentMod, standard, nonabelian, bare, someImaginary, someMinus, phaseStep, log2Size}
-use Rattle.pauli_theory.specs.Membership.{outside, exponentLeft, withPhase, factorizationOf}
+use Rattle.pauli_theory.specs.Standard.{usedBy, supportOf, formOf, rank, phaseOf, ifZero, zeroRows, nonzeroRows, modulusOf, modulus, rowGenerators, someOrderFour, anticommutesWithSome, someAnticommute, appended, exponentMod, standard, nonabelian, bare, someImaginary, someMinus, phasesOf, stepOf, phaseStep, log2Size}
+use Rattle.pauli_theory.specs.Membership.{outside, exponentLeft, ifAmong, withPhase, factorizationOf}
 use Rattle.pauli_theory.specs.Order.{ranksOf, sameRanks, noMore, firstOf, partialCmp}
 use Rattle.pauli_theory.specs.Modulo.{supportsOther, multiplied, multipliedByAll, modulo}
 use Rattle.pauli_theory.specs.Symplectic.{position, swapRemove, timesIf, cleared, onPosition, pairedFrom, symplecticForm}
@@ -19,7 +19,7 @@ unfolding ones _⊕_ bit dot ifBit inColumn byColumns pivotOf swapRows clear unl
     besideIdentity echelon echelonRank sweep solved transposeSolve I times anticommute orderFour productFrom product consIf select indexedProduct
     setOf membersFrom members condense expand rowOf pauliOfRow usedBy supportOf formOf rank phaseOf ifZero zeroRows nonzeroRows modulusOf modulus
     rowGenerators someOrderFour anticommutesWithSome someAnticommute phase appended exponentMod standard nonabelian bare someImaginary someMinus
-    phaseStep log2Size outside exponentLeft withPhase factorizationOf ranksOf sameRanks noMore firstOf partialCmp
+    phasesOf stepOf phaseStep log2Size outside exponentLeft ifAmong withPhase factorizationOf ranksOf sameRanks noMore firstOf partialCmp
     supportsOther multiplied multipliedByAll modulo position swapRemove timesIf cleared onPosition pairedFrom symplecticForm
     rowSum dependencies commonSums commonRows commonBasis withExponent ifBoth commonPhaseFrom commonPhase consSome sharedOf phasesFrom commonPhases
     commonPart lesser bitand

@@ -32,7 +32,7 @@ use Rattle.pauli_theory.proofs.Rows.{row-indexed, row-sets, rows-narrow
 use Rattle.pauli_theory.proofs.Powers.{powers, turned-in}
 use Rattle.pauli_theory.proofs.Grade.{grade, grade-divisor, grade-power}
 use Rattle.pauli_theory.proofs.Elements.{same-sets}
-use Rattle.pauli_theory.proofs.Phases.{phaseStep-grade}
+use Rattle.pauli_theory.proofs.Phases.{phaseStep-grade, with-phase}
 
 -- ---- the support sticks out
 module _ (gs : List Pauli) (p : Pauli) where
@@ -98,7 +98,7 @@ unfolding withPhase
 answer-by promise gs p none f e = let z : _≡_ {A = ℕ} 0 1 = cc in absurd (omega arith)
 answer-by promise gs p (some s) f e =
     let d = exponentLeft p (indexedProduct s gs) in
-    let k = ifZero-some (d % phaseStep promise gs) (some (record { indexes = s; exponent = d })) f e in
+    let k = ifZero-some (d % phaseStep promise gs) (some (record { indexes = s; exponent = d })) f (sym (with-phase promise gs p s) ∙ e) in
     subst (Answer promise gs p (some s)) (Option·some-injective _ f (k .1)) (record { solved = refl; left = refl; phased = k .0 })
 
 module _ (promise : Promise) (gs : List Pauli) (p : Pauli) (step : phaseStep promise gs ≡ grade gs) where
@@ -139,7 +139,7 @@ module _ (promise : Promise) (gs : List Pauli) (p : Pauli) (step : phaseStep pro
       let h = same-sets gs p q a (generated-indexed gs (w .0)) (solution-sets (w .0) on (w .1)) in
       let z : exponentLeft p q % phaseStep promise gs ≡ 0 = rw step (left-agree (grade-divisor gs) (indexed-lt (w .0) gs) h) in (
         record { indexes = w .0; exponent = exponentLeft p q },
-        ifZero-zero _ _ (on-outside gs p on) ∙ ap (withPhase promise gs p) (w .1) ∙ ifZero-zero _ _ z,
+        ifZero-zero _ _ (on-outside gs p on) ∙ ap (withPhase promise gs p) (w .1) ∙ with-phase promise gs p (w .0) ∙ ifZero-zero _ _ z,
       )
 
 pub membership-law : (promise : Promise) (gs : List Pauli) (p : Pauli) → Honest promise gs → MembershipLaw promise gs p

@@ -33,7 +33,7 @@ use Rattle.pauli_theory.proofs.Pivots.{pivot-rows-of}
 use Rattle.pauli_theory.proofs.Grade.{signTest, grade, grade-divisor, grade-power}
 use Rattle.pauli_theory.proofs.Elements.{basis, basis-count, basis-rows}
 use Rattle.pauli_theory.proofs.Standard.{completed, standard-is, standard-in, standard-inside, inside-standard}
-use Rattle.pauli_theory.proofs.Phases.{phaseStep-grade}
+use Rattle.pauli_theory.proofs.Phases.{phaseStep-grade, phases-has, phases-only}
 use Rattle.pauli_theory.proofs.Cosets.{coset-self, coset-times, coset-agree, coset-in, coset-back}
 
 -- ---- one generator at a time
@@ -239,6 +239,6 @@ module _ (promise : Promise) (gs hs : List Pauli) (honest : Honest promise hs) w
     generates = record { there = modulo-there; back = modulo-back };
     on-support = all-map (generated-on (gs ++ hs)) (modulo promise gs hs) modulo-in;
     low = rw modulo-is (all-over _ returned (standard gs) (all-of returned-low (standard gs)));
-    least = step-least step-divisor;
-    attained = step-attained step-divisor;
+    least = λ e k. let among = phases-only promise hs e k in step-least step-divisor e (among .0) (among .1);
+    attained = let (e, l, k, same) = step-attained step-divisor in (e, phases-has promise hs e l k, same);
   }

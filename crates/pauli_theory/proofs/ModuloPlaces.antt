@@ -10,7 +10,7 @@ use native.Mathlib.Omega.{arith}
 use native.Mathlib.Decide.{ℕ-discrete}
 use lib.Bits.{bitOr, or-lt}
 use lib.Dec.{ltb}
-use lib.ListN.{length, getD, drop, drop-of-length-le, length-append}
+use lib.ListN.{length, getD, drop, drop-of-length-le, length-append, length-map}
 use lib.Pow.{pow-lt, pow-pos}
 use Rattle.binar.specs.Row.{bit, ifBit}
 use Rattle.binar.specs.Echelon.{rank as echelonRank}
@@ -35,7 +35,7 @@ use Rattle.pauli.proofs.write.Condensed.{condensed-times}
 use Rattle.pauli_theory.specs.Group.{Promise}
 use Rattle.pauli_theory.specs.Standard.{usedBy, supportOf, formOf, rank, appended, ifZero, exponentMod, standard, phaseStep}
 use Rattle.pauli_theory.specs.Modulo.{supportsOther, multiplied, multipliedByAll, modulo}
-use Rattle.pauli_theory.specs.ModuloPlaces.{movedSet, movedPauli, pivotPlace, multipliedAt, multipliedOver, multipliedByAllOver}
+use Rattle.pauli_theory.specs.Inner.ModuloPlaces.{movedSet, movedPauli, pivotPlace, multipliedAt, multipliedOver, multipliedByAllOver}
 use Rattle.pauli_theory.proofs.Group.{all-inside, inside-join, joined-law}
 use Rattle.pauli_theory.proofs.Rows.{support-rises, support-on, used-least, generated-on}
 use Rattle.pauli_theory.proofs.Grade.{signTest, grade}
@@ -292,6 +292,12 @@ pivots-fit hs =
     omega (arith, n, ap length (standard-is hs), length-append B more)
 
 -- ---- the joined support
+multipliedByAll-count : (own : List ℕ) (hs : List Pauli) (cs : List ℕ) (gs : List Pauli) → length (multipliedByAll own hs cs gs) ≡ length gs
+unfolding multipliedByAll
+multipliedByAll-count own [] cs gs = refl
+multipliedByAll-count own (h ∷ hs) [] gs = refl
+multipliedByAll-count own (h ∷ hs) (c ∷ cs) gs = multipliedByAll-count own hs cs (map (multiplied own c h) gs) ∙ length-map gs (multiplied own c h)
+
 exponents-on : (qs : List ℕ) (m : ℕ) (ps : List Pauli) → All (PauliOn qs) ps → All (PauliOn qs) (map (exponentMod m) ps)
 unfolding exponentMod
 exponents-on qs m ps on = all-over (PauliOn qs) (exponentMod m) ps (all-map (λ p a. record { x = a .x; z = a .z }) ps on)
@@ -331,6 +337,12 @@ module _ (gs hs : List Pauli) where
       let ps = multipliedByAll (supportOf hs) (standard hs) (formOf hs .pivots) (standard gs) in
       exponents-on joined (phaseStep promise hs) ps
       (multipliedByAll-on (supportOf hs) joined (standard hs) (formOf hs .pivots) (standard gs) right-standard-on left-standard-on)
+
+  pub modulo-count : (promise : Promise) → length (modulo promise gs hs) ≡ length (standard gs)
+  unfolding modulo
+  modulo-count promise =
+      let ps = multipliedByAll (supportOf hs) (standard hs) (formOf hs .pivots) (standard gs) in
+      length-map ps (exponentMod (phaseStep promise hs)) ∙ multipliedByAll-count (supportOf hs) (standard hs) (formOf hs .pivots) (standard gs)
 
   -- what the places hold after the multiplications
   abbrev pub multipliedPlaces : List Pauli

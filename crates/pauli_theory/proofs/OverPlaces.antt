@@ -25,13 +25,14 @@ use Rattle.pauli.proofs.support.SupportLaws.{rising-ext}
 use Rattle.pauli.proofs.condense.Sets.{members-rise, members-has, members-only}
 use Rattle.pauli.proofs.condense.Places.{condense-bit, condense-lt, condense-or}
 use Rattle.pauli_theory.specs.Group.{Promise, none, abelian, notAbelian}
-use Rattle.pauli_theory.specs.Standard.{usedBy, supportOf, formOf, rank, ifZero, modulusOf, someOrderFour, someAnticommute, exponentMod, standard, nonabelian, someImaginary, someMinus, phaseStep, log2Size, stabilizer}
+use Rattle.pauli_theory.specs.Standard.{usedBy, supportOf, formOf, rank, ifZero, modulusOf, someOrderFour, someAnticommute, exponentMod, standard, nonabelian, someImaginary, someMinus, stepOf, phaseStep, log2Size, stabilizer}
 use Rattle.pauli_theory.specs.Membership.{Factorization, outside, exponentLeft, withPhase, factorizationOf}
 use Rattle.pauli_theory.proofs.IfZero.{ifZero-zero}
 use Rattle.pauli_theory.proofs.Form.{map-take}
 use Rattle.pauli_theory.proofs.Rows.{support-rises, support-on, indexed-on}
 use Rattle.pauli_theory.proofs.Grade.{signTest}
 use Rattle.pauli_theory.proofs.Standard.{standardOf}
+use Rattle.pauli_theory.proofs.Phases.{with-phase}
 use Rattle.pauli_theory.proofs.StandardLaw.{standard-law}
 use Rattle.pauli_theory.proofs.ByProducts.{rowProducts, standard-by-products}
 use Rattle.pauli_theory.proofs.Placed.{condense-none, condensed-on, condensed-exponentMod, condensed-standardOf, condensed-indexed, condensed-someOrderFour, condensed-someAnticommute, condensed-someImaginary, condensed-someMinus, condensed-signTest}
@@ -248,7 +249,7 @@ module _ (gs : List Pauli) where
 
   module _ (promise : Promise) where
     pub places-phaseStep : phaseStep promise (placed gs) ≡ phaseStep promise gs
-    unfolding phaseStep
+    unfolding phaseStep stepOf
     places-phaseStep = rw (places-imaginary, places-nonabelian promise, places-orderFour, places-minus)
 
     pub places-stabilizer : stabilizer promise (placed gs) ≡ stabilizer promise gs
@@ -274,7 +275,9 @@ module _ (promise : Promise) (gs : List Pauli) (p : Pauli) where
   unfolding withPhase
   places-withPhase none = refl
   places-withPhase (some s) =
-      ap₂ (λ (e k : ℕ). ifZero (e % k) (some (record { indexes = s; exponent = e })) none) (left-placed s) (places-phaseStep gs promise)
+      with-phase promise (placed gs) (normal (condensed (supportOf gs) p)) s
+      ∙ ap₂ (λ (e k : ℕ). ifZero (e % k) (some (record { indexes = s; exponent = e })) none) (left-placed s) (places-phaseStep gs promise)
+      ∙ sym (with-phase promise gs p s)
 
   pub places-factorization : PauliOn (supportOf gs) p →
       let s = length (supportOf gs) in

@@ -1,6 +1,7 @@
 -- The phases read off the standard generators are the powers of i in the group: their step is the grade.
 use mathlib.Core.Path.{_≡_, refl, sym, ap, ap₂, _∙_}
-use mathlib.Core.List.{List, [], _∷_, _++_, map, append-nil}
+use mathlib.Core.Option.{Option, some, none}
+use mathlib.Core.List.{List, [], _∷_, _++_, map, append-nil, List·Memᴰ as Mem, List·Memᴰ·head as here, List·Memᴰ·tail as there}
 use Prim.Native.Nat.{ℕ, zero, suc, _/_, _%_, _^_, _<_, max}
 use native.Mathlib.Nat.{zero-mod}
 use native.Mathlib.Omega.{arith}
@@ -13,11 +14,13 @@ use Rattle.binar.proofs.row.Bits.{no-bits, bit-of-zero, dot-zero-l}
 use Rattle.binar.proofs.echelon.Lists.{all-map, all-by}
 use Rattle.binar.proofs.echelon.Span.{rowSum-unit}
 use Rattle.pauli.specs.Support.{All}
-use Rattle.pauli.specs.Pauli.{Pauli, I, turned, orderFour}
+use Rattle.pauli.specs.Pauli.{Pauli, I, turned, orderFour, indexedProduct, phase}
 use Rattle.pauli.specs.Sets.{rowOf}
 use Rattle.pauli.proofs.condense.MoreBits.{bit-or}
-use Rattle.pauli_theory.specs.Group.{Promise, none, Honest}
-use Rattle.pauli_theory.specs.Standard.{supportOf, ifZero, phase, appended, standard, someOrderFour, anticommutesWithSome, someAnticommute, nonabelian, bare, someImaginary, someMinus, phaseStep}
+use Rattle.pauli.proofs.support.Lists.{all-mem}
+use Rattle.pauli_theory.specs.Group.{Generated, Promise, none as noPromise, Honest}
+use Rattle.pauli_theory.specs.Standard.{supportOf, ifZero, appended, standard, someOrderFour, anticommutesWithSome, someAnticommute, nonabelian, bare, someImaginary, someMinus, phasesOf, stepOf, phaseStep}
+use Rattle.pauli_theory.specs.Membership.{Factorization, ifAmong, exponentLeft, withPhase}
 use Rattle.pauli_theory.specs.Theorems.{PhasesLaw}
 use Rattle.pauli_theory.proofs.Agree.{Divisor, one, two, four, Agree, agree-sets, power-phase}
 use Rattle.pauli_theory.proofs.Group.{generated-subgroup}
@@ -71,21 +74,21 @@ basis-bare gs =
     (ap (getD (map (rowOf qs) (basis gs)) i) (sym (row-I qs)) ∙ List·getD-map (rowOf qs) (basis gs) i I ∙ row-agree qs a ∙ row-I qs))) refl
 
 -- ---- the step of the standard generators
--- the step, where n is more than 0 if the list is not abelian
-abbrev pub stepOf : ℕ → List Pauli → ℕ
-stepOf n hs = ifZero (someImaginary hs) (ifZero (max n (max (someOrderFour hs) (someMinus hs))) 4 2) 1
-
+-- where n is more than 0 if the list is not abelian
 step-one : (n : ℕ) (hs : List Pauli) → 0 < someImaginary hs → stepOf n hs ≡ 1
+unfolding stepOf
 step-one n hs h = ifZero-more _ _ _ h
 
 step-two : (n : ℕ) (hs : List Pauli) → someImaginary hs ≡ 0 → 0 < max n (max (someOrderFour hs) (someMinus hs)) → stepOf n hs ≡ 2
+unfolding stepOf
 step-two n hs h k = ifZero-zero _ _ h ∙ ifZero-more _ _ _ k
 
 pub step-four : (n : ℕ) (hs : List Pauli) → someImaginary hs ≡ 0 → max n (max (someOrderFour hs) (someMinus hs)) ≡ 0 → stepOf n hs ≡ 4
+unfolding stepOf
 step-four n hs h k = ifZero-zero _ _ h ∙ ifZero-zero _ _ k
 
 pub step-four-only : (n : ℕ) (hs : List Pauli) → stepOf n hs ≡ 4 → max n (max (someOrderFour hs) (someMinus hs)) ≡ 0
-unfolding ifZero
+unfolding stepOf ifZero
 step-four-only n hs = go (someImaginary hs) (max n (max (someOrderFour hs) (someMinus hs)))
   where
     go : (a b : ℕ) → _≡_ {A = ℕ} (ifZero a (ifZero b 4 2) 1) 4 → b ≡ 0
@@ -128,7 +131,7 @@ completed-step (suc w) two ps e i n f = rw (append-nil ps) (step-two _ ps i (ome
 completed-step (suc w) four ps e i n f = absurd (f (omega arith) refl)
 
 module _ (gs : List Pauli) where
-  step-none : phaseStep none gs ≡ grade gs
+  step-none : phaseStep noPromise gs ≡ grade gs
   unfolding phaseStep nonabelian completed
   step-none =
       let ps = basis gs in
@@ -144,8 +147,97 @@ pub phaseStep-grade : (promise : Promise) (gs : List Pauli) → Honest promise g
 unfolding phaseStep
 phaseStep-grade promise gs h = ap (λ (n : ℕ). stepOf n (standard gs)) (promise-nonabelian promise gs h) ∙ step-none gs
 
+module _ (promise : Promise) (gs : List Pauli) (h : Honest promise gs) where
+  pub step-in : (k : ℕ) → k % phaseStep promise gs ≡ 0 → Generated gs (turned k I)
+  step-in k e = powers gs (grade-divisor gs) (grade-power gs) k (rw (phaseStep-grade promise gs h) at e)
+
+  pub step-only : (k : ℕ) → Generated gs (turned k I) → k % phaseStep promise gs ≡ 0
+  step-only k a = rw (phaseStep-grade promise gs h) (power-divided gs k a)
+
+-- ---- the phases and their step
+
+-- they are one of three
+pub phases-cases : (P : List ℕ → ℕ → Type 0) → P (0 ∷ []) 4 → P (0 ∷ 2 ∷ []) 2 → P (0 ∷ 1 ∷ 2 ∷ 3 ∷ []) 1
+    → (promise : Promise) (gs : List Pauli) → P (phasesOf promise gs) (phaseStep promise gs)
+unfolding phasesOf phaseStep stepOf ifZero
+phases-cases P x y z promise gs =
+    go (someImaginary (standard gs)) (max (nonabelian promise gs) (max (someOrderFour (standard gs)) (someMinus (standard gs))))
+  where
+    go : (a b : ℕ) → P (ifZero a (ifZero b (0 ∷ []) (0 ∷ 2 ∷ [])) (0 ∷ 1 ∷ 2 ∷ 3 ∷ [])) (ifZero a (ifZero b 4 2) 1)
+    go zero zero = x
+    go zero (suc b) = y
+    go (suc a) b = z
+
+-- the phases are the multiples, below 4, of the step
+two-phases : (r : ℕ) → r < 4 → r % 2 ≡ 0 → Mem r (0 ∷ 2 ∷ [])
+two-phases zero l e = here refl
+two-phases (suc zero) l e = absurd (omega arith)
+two-phases (suc (suc zero)) l e = there (here refl)
+two-phases (suc (suc (suc zero))) l e = absurd (omega arith)
+two-phases (suc (suc (suc (suc r)))) l e = absurd (omega arith)
+
+all-phases : (r : ℕ) → r < 4 → Mem r (0 ∷ 1 ∷ 2 ∷ 3 ∷ [])
+all-phases zero l = here refl
+all-phases (suc zero) l = there (here refl)
+all-phases (suc (suc zero)) l = there (there (here refl))
+all-phases (suc (suc (suc zero))) l = there (there (there (here refl)))
+all-phases (suc (suc (suc (suc r)))) l = absurd (omega arith)
+
+pub phases-has : (promise : Promise) (gs : List Pauli) (r : ℕ) → r < 4 → r % phaseStep promise gs ≡ 0 → Mem r (phasesOf promise gs)
+phases-has promise gs r l =
+    phases-cases (λ ks s. r % s ≡ 0 → Mem r ks) (λ e. let z : r ≡ 0 = omega arith in here z) (two-phases r l) (λ e. all-phases r l) promise gs
+
+pub phases-only : (promise : Promise) (gs : List Pauli) (r : ℕ) → Mem r (phasesOf promise gs) → (r < 4) × (r % phaseStep promise gs ≡ 0)
+phases-only promise gs r =
+    phases-cases (λ ks s. Mem r ks → (r < 4) × (r % s ≡ 0))
+    (all-mem (λ k. (k < 4) × (k % 4 ≡ 0)) (0 ∷ []) ((omega arith, refl), tt) r)
+    (all-mem (λ k. (k < 4) × (k % 2 ≡ 0)) (0 ∷ 2 ∷ []) ((omega arith, refl), ((omega arith, refl), tt)) r)
+    (all-mem (λ k. (k < 4) × (k % 1 ≡ 0)) (0 ∷ 1 ∷ 2 ∷ 3 ∷ [])
+    ((omega arith, refl), ((omega arith, refl), ((omega arith, refl), ((omega arith, refl), tt)))) r)
+    promise gs
+
+-- a number and its remainder by 4 are multiples of the step alike
+step-value : (promise : Promise) (gs : List Pauli) (k : ℕ) → k % 4 % phaseStep promise gs ≡ k % phaseStep promise gs
+step-value promise gs k = phases-cases (λ ks s. k % 4 % s ≡ k % s) (omega arith) (omega arith) (omega arith) promise gs
+
 pub phases-law : (promise : Promise) (gs : List Pauli) → Honest promise gs → PhasesLaw promise gs
 phases-law promise gs h = record {
-  in-group = λ k e. powers gs (grade-divisor gs) (grade-power gs) k (rw (phaseStep-grade promise gs h) at e);
-  all-of-group = λ k a. rw (phaseStep-grade promise gs h) (power-divided gs k a);
+  in-group = λ k m. step-in promise gs h k (sym (step-value promise gs k) ∙ phases-only promise gs (k % 4) m .1);
+  all-of-group = λ k a. phases-has promise gs (k % 4) (omega arith) (step-value promise gs k ∙ step-only promise gs h k a);
 }
+
+-- to be among the phases is to be a multiple of the step
+module _ {X : Type 0} (x y : X) where
+  among-one : (e : ℕ) → e < 4 → ifAmong e (0 ∷ []) x y ≡ ifZero (e % 4) x y
+  unfolding ifAmong ifZero
+  among-one zero l = refl
+  among-one (suc zero) l = refl
+  among-one (suc (suc zero)) l = refl
+  among-one (suc (suc (suc zero))) l = refl
+  among-one (suc (suc (suc (suc e)))) l = absurd (omega arith)
+
+  among-two : (e : ℕ) → e < 4 → ifAmong e (0 ∷ 2 ∷ []) x y ≡ ifZero (e % 2) x y
+  unfolding ifAmong ifZero
+  among-two zero l = refl
+  among-two (suc zero) l = refl
+  among-two (suc (suc zero)) l = refl
+  among-two (suc (suc (suc zero))) l = refl
+  among-two (suc (suc (suc (suc e)))) l = absurd (omega arith)
+
+  among-four : (e : ℕ) → e < 4 → ifAmong e (0 ∷ 1 ∷ 2 ∷ 3 ∷ []) x y ≡ ifZero (e % 1) x y
+  unfolding ifAmong ifZero
+  among-four zero l = refl
+  among-four (suc zero) l = refl
+  among-four (suc (suc zero)) l = refl
+  among-four (suc (suc (suc zero))) l = refl
+  among-four (suc (suc (suc (suc e)))) l = absurd (omega arith)
+
+-- so the code's test is the definition's
+pub with-phase : (promise : Promise) (gs : List Pauli) (p : Pauli) (s : ℕ) → let e = exponentLeft p (indexedProduct s gs) in
+    withPhase promise gs p (some s) ≡ ifZero (e % phaseStep promise gs) (some (record { indexes = s; exponent = e })) none
+unfolding withPhase exponentLeft
+with-phase promise gs p s =
+    let e = exponentLeft p (indexedProduct s gs) in
+    let x : Option Factorization = some (record { indexes = s; exponent = e }) in
+    phases-cases (λ ks m. ifAmong e ks x none ≡ ifZero (e % m) x none)
+    (among-one x none e (omega arith)) (among-two x none e (omega arith)) (among-four x none e (omega arith)) promise gs

@@ -11,7 +11,7 @@ use Rattle.binar.proofs.row.Bits.{bit-of-zero, xor-self}
 use Rattle.binar.proofs.echelon.Lists.{all-of, all-map, all-over}
 use Rattle.binar.proofs.echelon.Span.{ifBit-case}
 use Rattle.pauli.specs.Support.{All, Rising}
-use Rattle.pauli.specs.Pauli.{Pauli, I, normal, times, anticommute, orderFour, select, indexedProduct}
+use Rattle.pauli.specs.Pauli.{Pauli, I, normal, times, anticommute, orderFour, select, indexedProduct, phase}
 use Rattle.pauli.specs.Sets.{condense, expand}
 use Rattle.pauli.specs.PauliTheorems.{On, PauliOn}
 use Rattle.pauli.specs.Condense.{condensed}
@@ -22,7 +22,7 @@ use Rattle.pauli.proofs.condense.MoreBits.{in-or}
 use Rattle.pauli.proofs.condense.Places.{condense-lt, condense-sum, condense-or, condense-dot, expand-condense}
 use Rattle.pauli.proofs.condense.Rows.{on-I}
 use Rattle.pauli.proofs.write.Condensed.{condensed-times}
-use Rattle.pauli_theory.specs.Standard.{ifZero, someOrderFour, someAnticommute, phase, appended, exponentMod, bare, someImaginary, someMinus}
+use Rattle.pauli_theory.specs.Standard.{ifZero, someOrderFour, someAnticommute, appended, exponentMod, bare, someImaginary, someMinus}
 use Rattle.pauli_theory.proofs.Tests.{orderFour-largest, imaginary, imaginary-largest, minus, minus-largest, largest-map, someAnticommute-map}
 use Rattle.pauli_theory.proofs.Grade.{signTest}
 use Rattle.pauli_theory.proofs.Standard.{standardOf}

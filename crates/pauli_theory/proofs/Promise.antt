@@ -8,10 +8,10 @@ use Rattle.binar.specs.Solve.{transposeSolve}
 use Rattle.pauli.specs.Pauli.{Pauli}
 use Rattle.pauli.specs.Sets.{rowOf}
 use Rattle.pauli_theory.specs.Group.{Promise, Honest}
-use Rattle.pauli_theory.specs.Standard.{supportOf, formOf, rank, phaseStep, log2Size, stabilizer}
+use Rattle.pauli_theory.specs.Standard.{supportOf, formOf, rank, phasesOf, phaseStep, log2Size, stabilizer}
 use Rattle.pauli_theory.specs.Membership.{withPhase, factorizationOf}
 use Rattle.pauli_theory.specs.Order.{Order, ranksOf, partialCmp}
-use Rattle.pauli_theory.specs.Listing.{phaseCount, phasesOf, elementsOf}
+use Rattle.pauli_theory.specs.Listing.{elementsOf}
 use Rattle.pauli_theory.specs.Modulo.{modulo, tryQuotient, ifBelow}
 use Rattle.pauli_theory.specs.Common.{commonBasis, withExponent, commonPhaseFrom, commonPhase, consSome, sharedOf, commonPhases, commonPart, lesser, bitand}
 use Rattle.pauli_theory.specs.Theorems.{PromiseLaw, PromisesLaw}
@@ -23,6 +23,10 @@ module _ (promise : Promise) (gs : List Pauli) (h : Honest promise gs) where
   unfolding Honest
   same-step = phaseStep-grade promise gs h ∙ sym (phaseStep-grade Promise.none gs tt)
 
+  same-phases : phasesOf promise gs ≡ phasesOf Promise.none gs
+  unfolding phasesOf
+  same-phases = rw (promise-nonabelian promise gs h)
+
   same-stabilizer : stabilizer promise gs ≡ stabilizer Promise.none gs
   unfolding stabilizer
   same-stabilizer = rw (promise-nonabelian promise gs h)
@@ -30,21 +34,21 @@ module _ (promise : Promise) (gs : List Pauli) (h : Honest promise gs) where
   same-phase : (p : Pauli) (o : Option ℕ) → withPhase promise gs p o ≡ withPhase Promise.none gs p o
   unfolding withPhase
   same-phase p none = refl
-  same-phase p (some s) = rw same-step
+  same-phase p (some s) = rw same-phases
 
   same-factorization : (p : Pauli) → factorizationOf promise gs p ≡ factorizationOf Promise.none gs p
   unfolding factorizationOf
   same-factorization p = rw (same-phase p (transposeSolve (2 * length (supportOf gs)) (formOf gs) (rowOf (supportOf gs) p)))
 
   same-elements : elementsOf promise gs ≡ elementsOf Promise.none gs
-  unfolding elementsOf phasesOf phaseCount
-  same-elements = rw same-step
+  unfolding elementsOf
+  same-elements = rw same-phases
 
   pub promise-law : PromiseLaw promise gs
   unfolding log2Size
   promise-law = record {
     same-abelian = promise-nonabelian promise gs h;
-    same-phases = same-step;
+    same-phases = same-phases;
     same-stabilizer = same-stabilizer;
     same-size = ap (λ (m : ℕ). rank gs + (2 - m / 2)) same-step;
     same-factorization = same-factorization;

@@ -14,7 +14,7 @@ use Rattle.pauli_theory.proofs.Tests.{imaginary, imaginary-largest, ord
 use Rattle.pauli_theory.proofs.Pivots.{orderFour-scalar}
 use Rattle.pauli_theory.proofs.Grade.{grade-divisor}
 use Rattle.pauli_theory.proofs.Abelian.{abelian-right, abelian-only, promise-nonabelian}
-use Rattle.pauli_theory.proofs.Phases.{bare-case, step-four, step-four-only, phaseStep-grade, phases-law}
+use Rattle.pauli_theory.proofs.Phases.{bare-case, step-four, step-four-only, phaseStep-grade, step-in, step-only}
 
 -- a power of i of odd exponent is of order four
 imaginary-none : (ps : List Pauli) → someOrderFour ps ≡ 0 → someImaginary ps ≡ 0
@@ -33,10 +33,10 @@ module _ (promise : Promise) (gs : List Pauli) (h : Honest promise gs) where
   step-by-minus : (Generated gs (turned 2 I) → ⊥) → phaseStep promise gs ≡ 4
   step-by-minus n =
       let e = phaseStep-grade promise gs h in
-      e ∙ no-half (grade-divisor gs) (λ d. n (phases-law promise gs h .in-group 2 (rw e d)))
+      e ∙ no-half (grade-divisor gs) (λ d. n (step-in promise gs h 2 (rw e d)))
 
   minus-by-step : phaseStep promise gs ≡ 4 → Generated gs (turned 2 I) → ⊥
-  minus-by-step e a = omega (arith, ap (λ (m : ℕ). 2 % m) e, phases-law promise gs h .all-of-group 2 a)
+  minus-by-step e a = omega (arith, ap (λ (m : ℕ). 2 % m) e, step-only promise gs h 2 a)
 
   stabilizer-right : stabilizer promise gs ≡ 1 → Abelian gs × (Generated gs (turned 2 I) → ⊥)
   unfolding stabilizer phaseStep

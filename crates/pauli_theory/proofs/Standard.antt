@@ -5,10 +5,10 @@ use Prim.Native.Nat.{ℕ, zero, suc, _%_, _<_, max}
 use native.Mathlib.Omega.{arith}
 use Rattle.binar.proofs.echelon.Lists.{all-of, all-join, all-left, all-right, map-same}
 use Rattle.pauli.specs.Support.{All}
-use Rattle.pauli.specs.Pauli.{Pauli, I, turned, anticommute, orderFour, indexedProduct}
+use Rattle.pauli.specs.Pauli.{Pauli, I, turned, anticommute, orderFour, indexedProduct, phase}
 use Rattle.pauli.proofs.signed.Algebra.{pauli-path}
 use Rattle.pauli_theory.specs.Group.{Generated, Inside}
-use Rattle.pauli_theory.specs.Standard.{ifZero, modulus, rowGenerators, phase, appended, exponentMod, standard}
+use Rattle.pauli_theory.specs.Standard.{ifZero, modulus, rowGenerators, appended, exponentMod, standard}
 use Rattle.pauli_theory.proofs.Agree.{Divisor, one, two, four, Agree, agree-flip, agree-exponentMod, power-phase, indexed-in}
 use Rattle.pauli_theory.proofs.Group.{generated-subgroup, generators, inside-by}
 use Rattle.pauli_theory.proofs.Powers.{Power, power-zero, power-four, agree-in}

@@ -9,9 +9,9 @@ use Rattle.binar.specs.Echelon.{Row}
 use Rattle.binar.proofs.echelon.Lists.{all-of, all-map, all-join, all-over}
 use Rattle.binar.proofs.echelon.Transform.{rows-count}
 use Rattle.pauli.specs.Support.{All}
-use Rattle.pauli.specs.Pauli.{Pauli}
+use Rattle.pauli.specs.Pauli.{Pauli, phase}
 use Rattle.pauli.specs.Sets.{rowOf}
-use Rattle.pauli_theory.specs.Standard.{supportOf, formOf, rank, phaseOf, ifZero, zeroRows, nonzeroRows, modulusOf, modulus, rowGenerators, someOrderFour, someAnticommute, phase, appended, exponentMod, standard}
+use Rattle.pauli_theory.specs.Standard.{supportOf, formOf, rank, phaseOf, ifZero, zeroRows, nonzeroRows, modulusOf, modulus, rowGenerators, someOrderFour, someAnticommute, appended, exponentMod, standard}
 use Rattle.pauli_theory.specs.Theorems.{StandardLaw}
 use Rattle.pauli_theory.proofs.Agree.{divisor-positive, divisor-le}
 use Rattle.pauli_theory.proofs.Form.{rows-split, pivot-count}

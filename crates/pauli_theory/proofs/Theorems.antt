@@ -1,6 +1,6 @@
 -- The theorems of specs/Theorems.antt; each is proved in the module of its subject.
 use Rattle.pauli_theory.specs.Theorems.{GroupLaws}
-use Rattle.pauli_theory.proofs.Group.{joined-law}
+use Rattle.pauli_theory.proofs.Group.{generated-law, joined-law}
 use Rattle.pauli_theory.proofs.StandardLaw.{standard-law}
 use Rattle.pauli_theory.proofs.Phases.{phases-law}
 use Rattle.pauli_theory.proofs.Membership.{membership-law}
@@ -19,6 +19,7 @@ use Rattle.pauli_theory.proofs.CommonPart.{common-law}
 
 pub group-laws : GroupLaws
 group-laws = record {
+  generated-law = generated-law;
   standard-law = standard-law;
   canonical-law = canonical-law;
   phases-law = phases-law;

@@ -5,10 +5,10 @@ use Prim.Native.Nat.{ℕ, zero, suc, _*_, _%_, _^_, max}
 use lib.ListN.{length}
 use Rattle.binar.specs.Row.{rowSum}
 use Rattle.binar.specs.Echelon.{echelon}
-use Rattle.pauli.specs.Pauli.{Pauli}
+use Rattle.pauli.specs.Pauli.{Pauli, phase}
 use Rattle.pauli.specs.Sets.{rowOf, pauliOfRow}
 use Rattle.pauli_theory.specs.Group.{Promise}
-use Rattle.pauli_theory.specs.Standard.{supportOf, ifZero, zeroRows, nonzeroRows, phase, standard, phaseStep}
+use Rattle.pauli_theory.specs.Standard.{supportOf, ifZero, zeroRows, nonzeroRows, standard, phaseStep}
 use Rattle.pauli_theory.specs.Membership.{Factorization, factorizationOf}
 use Rattle.pauli_theory.specs.Order.{Order, equal, less, greater, noOrder, partialCmp}
 

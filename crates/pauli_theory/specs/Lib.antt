@@ -4,9 +4,8 @@ pub mod Listing
 pub mod Membership
 pub mod Order
 pub mod Modulo
-pub mod ModuloPlaces
 pub mod Common
-pub mod CommonPlaces
+pub mod Inner
 pub mod Symplectic
 pub mod Theorems
 pub mod ListingTheorems

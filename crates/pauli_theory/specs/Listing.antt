@@ -7,7 +7,7 @@ use lib.Dec.{ltb}
 use lib.ListN.{length, take, drop}
 use Rattle.pauli.specs.Pauli.{Pauli, turned, pauliWeight, product}
 use Rattle.pauli_theory.specs.Group.{Promise}
-use Rattle.pauli_theory.specs.Standard.{ifZero, standard, phaseStep}
+use Rattle.pauli_theory.specs.Standard.{ifZero, standard, phaseStep, phasesOf}
 
 -- k, k + 1, .., n numbers; and the first n numbers from 0
 unfoldable pub countFrom : ℕ → ℕ → List ℕ
@@ -66,12 +66,9 @@ unfoldable pub nontrivial : List Pauli → List Pauli
 nontrivial [] = []
 nontrivial (p ∷ ps) = ifZero (pauliWeight p) [] (p ∷ nontrivial ps)
 
--- how many phases there are; and the phases, rising: 0; 0, 2; or 0, 1, 2, 3
+-- how many phases there are
 unfoldable pub phaseCount : Promise → List Pauli → ℕ
 phaseCount promise gs = 4 / phaseStep promise gs
-
-unfoldable pub phasesOf : Promise → List Pauli → List ℕ
-phasesOf promise gs = map (phaseStep promise gs *_) (upTo (phaseCount promise gs))
 
 -- the product of ps with each of the phases
 unfoldable pub withPhases : List ℕ → List Pauli → List Pauli

@@ -4,7 +4,7 @@ use Prim.Native.Nat.{ℕ, zero, suc, _+_, _-_, _*_, _/_, _%_, min, max}
 use lib.Bits.{bitOr}
 use lib.ListN.{length}
 use Rattle.binar.specs.Echelon.{Row, EchelonForm, echelon, rank as echelonRank}
-use Rattle.pauli.specs.Pauli.{Pauli, anticommute, orderFour, indexedProduct}
+use Rattle.pauli.specs.Pauli.{Pauli, phase, anticommute, orderFour, indexedProduct}
 use Rattle.pauli.specs.Sets.{members, rowOf, pauliOfRow}
 use Rattle.pauli_theory.specs.Group.{Promise, none, abelian, notAbelian}
 
@@ -67,10 +67,6 @@ unfoldable pub someAnticommute : List Pauli → ℕ
 someAnticommute [] = 0
 someAnticommute (p ∷ ps) = max (anticommutesWithSome p ps) (someAnticommute ps)
 
--- i^k
-unfoldable pub phase : ℕ → Pauli
-phase k = record { e = k; x = 0; z = 0 }
-
 -- "If m is then 1 or 2, i^m is appended; if there is no nonzero row and m is 4, the identity. An empty list gives one identity"
 unfoldable pub appended : ℕ → List Pauli → List Pauli
 appended zero ps = []
@@ -111,12 +107,21 @@ unfoldable pub someMinus : List Pauli → ℕ
 someMinus [] = 0
 someMinus (p ∷ ps) = max (bare p (ifZero (p .e % 2) (p .e / 2 % 2) 0)) (someMinus ps)
 
--- "0,1,2,3 if a standard generator of weight 0 has odd phase; else 0,2 if not abelian, or one is of order four, or one is -I;
--- else 0": the phases are the multiples, below 4, of this number
+-- "0,1,2,3 if a standard generator of weight 0 has odd phase; else 0,2 if not abelian, or one is of order four, or one is -I; else 0":
+-- of these three, z, y or x, by the standard generators ps; clash is 1 where the list is not abelian
+abbrev pub byPhases {ℓ} : {X : Type ℓ} → ℕ → List Pauli → X → X → X → X
+byPhases clash ps x y z = ifZero (someImaginary ps) (ifZero (max clash (max (someOrderFour ps) (someMinus ps))) x y) z
+
+-- `phases`, rising
+unfoldable pub phasesOf : Promise → List Pauli → List ℕ
+phasesOf promise gs = byPhases (nonabelian promise gs) (standard gs) (0 ∷ []) (0 ∷ 2 ∷ []) (0 ∷ 1 ∷ 2 ∷ 3 ∷ [])
+
+-- the phases are the multiples, below 4, of this number
+unfoldable pub stepOf : ℕ → List Pauli → ℕ
+stepOf clash ps = byPhases clash ps 4 2 1
+
 unfoldable pub phaseStep : Promise → List Pauli → ℕ
-phaseStep promise gs =
-    let ps = standard gs in
-    ifZero (someImaginary ps) (ifZero (max (nonabelian promise gs) (max (someOrderFour ps) (someMinus ps))) 4 2) 1
+phaseStep promise gs = stepOf (nonabelian promise gs) (standard gs)
 
 -- `log2_size`, "as written": the rank, and 0, 1 or 2 for 1, 2 or 4 phases
 unfoldable pub log2Size : Promise → List Pauli → ℕ

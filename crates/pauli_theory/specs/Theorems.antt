@@ -1,6 +1,6 @@
 -- What is proved of the group calls' definitions, for every list of Paulis. Each statement is a type; its proof is in proofs/.
 use mathlib.Core.Path.{_≡_}
-use mathlib.Core.List.{List, _++_, map}
+use mathlib.Core.List.{List, _++_, map, List·Memᴰ as Mem}
 use mathlib.Core.Option.{some, none}
 use Prim.Native.Nat.{ℕ, _+_, _-_, _*_, _%_, _^_, _≤_, _<_, min, max}
 use lib.ListN.{length, getD}
@@ -11,13 +11,20 @@ use Rattle.pauli.specs.Pauli.{Pauli, I, Same, times, turned, anticommute, index
 use Rattle.pauli.specs.Sets.{rowOf}
 use Rattle.pauli.specs.PauliTheorems.{PauliOn}
 use Rattle.pauli_theory.specs.Group.{Generated, Inside, SameGroup, Abelian, Promise, Honest}
-use Rattle.pauli_theory.specs.Standard.{supportOf, formOf, rank, standard, nonabelian, phaseStep, log2Size, stabilizer}
+use Rattle.pauli_theory.specs.Standard.{supportOf, formOf, rank, standard, nonabelian, phasesOf, phaseStep, log2Size, stabilizer}
 use Rattle.pauli_theory.specs.Membership.{Factorization, factorizationOf}
 use Rattle.pauli_theory.specs.Order.{equal, less, greater, noOrder, partialCmp}
 use Rattle.pauli_theory.specs.Listing.{elementsOf}
 use Rattle.pauli_theory.specs.Modulo.{supportsOther, modulo, tryQuotient}
 use Rattle.pauli_theory.specs.Symplectic.{symplecticForm}
 use Rattle.pauli_theory.specs.Common.{commonRows, commonBasis, commonPhase, commonPart, bitand}
+
+-- What a list generates: the identity, its generators, products, and an inverse of each element
+pub record GeneratedLaw (gs : List Pauli) : Type 0 where
+  pub identity : Generated gs I
+  pub generators : (i : ℕ) → i < length gs → Generated gs (getD gs i I)
+  pub products : (p q : Pauli) → Generated gs p → Generated gs q → Generated gs (times p q)
+  pub inverses : (p : Pauli) → Generated gs p → (q : Pauli) × Generated gs q × (times p q ≡ I) × (times q p ≡ I)
 
 -- 1. Standard generators: they generate the list's group, are no more than the generators (one, for no generators), lie on the
 -- list's qubits and have exponents 0 to 3; and they are the same exactly for the same group
@@ -33,8 +40,8 @@ pub record CanonicalLaw (gs hs : List Pauli) : Type 0 where
 
 -- 2. Phases: with an absent or true promise they are exactly the powers of i in the group
 pub record PhasesLaw (promise : Promise) (gs : List Pauli) : Type 0 where
-  pub in-group : (k : ℕ) → k % phaseStep promise gs ≡ 0 → Generated gs (turned k I)
-  pub all-of-group : (k : ℕ) → Generated gs (turned k I) → k % phaseStep promise gs ≡ 0
+  pub in-group : (k : ℕ) → Mem (k % 4) (phasesOf promise gs) → Generated gs (turned k I)
+  pub all-of-group : (k : ℕ) → Generated gs (turned k I) → Mem (k % 4) (phasesOf promise gs)
 
 -- 3. Membership: an element has a factorization exactly when it is generated; and the product of the generators at the indexes
 -- given, rising, times i to the exponent given, is the element
@@ -93,7 +100,7 @@ pub record AbelianLaw (promise : Promise) (gs : List Pauli) : Type 0 where
 -- 9. A true promise changes no answer
 pub record PromiseLaw (promise : Promise) (gs : List Pauli) : Type 0 where
   pub same-abelian : nonabelian promise gs ≡ nonabelian Promise.none gs
-  pub same-phases : phaseStep promise gs ≡ phaseStep Promise.none gs
+  pub same-phases : phasesOf promise gs ≡ phasesOf Promise.none gs
   pub same-stabilizer : stabilizer promise gs ≡ stabilizer Promise.none gs
   pub same-size : log2Size promise gs ≡ log2Size Promise.none gs
   pub same-factorization : (p : Pauli) → factorizationOf promise gs p ≡ factorizationOf Promise.none gs p
@@ -124,8 +131,8 @@ pub record ModuloLaw (promise : Promise) (gs hs : List Pauli) : Type 0 where
   pub on-support : All (PauliOn (supportOf (gs ++ hs))) (modulo promise gs hs)
   -- the exponents are below the modulus, which is the least of 4 - e over the other's phases e
   pub low : All (λ p. p .e < phaseStep promise hs) (modulo promise gs hs)
-  pub least : (e : ℕ) → e < 4 → e % phaseStep promise hs ≡ 0 → phaseStep promise hs ≤ 4 - e
-  pub attained : (e : ℕ) × (e < 4) × (e % phaseStep promise hs ≡ 0) × (phaseStep promise hs ≡ 4 - e)
+  pub least : (e : ℕ) → Mem e (phasesOf promise hs) → phaseStep promise hs ≤ 4 - e
+  pub attained : (e : ℕ) × Mem e (phasesOf promise hs) × (phaseStep promise hs ≡ 4 - e)
 
 -- 11. Quotient, with absent or true promises: none exactly when the divisor's group is not inside, which a generator of it shows;
 -- else modulo
@@ -194,6 +201,7 @@ pub record CommonLaw (left right : Promise) (gs hs : List Pauli) : Type 0 where
 
 -- all of these
 pub record GroupLaws : Type 0 where
+  pub generated-law : (gs : List Pauli) → GeneratedLaw gs
   pub standard-law : (gs : List Pauli) → StandardLaw gs
   pub canonical-law : (gs hs : List Pauli) → CanonicalLaw gs hs
   pub phases-law : (promise : Promise) (gs : List Pauli) → Honest promise gs → PhasesLaw promise gs

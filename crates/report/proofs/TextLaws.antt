@@ -11,12 +11,12 @@ use Rattle.pauli.specs.declared.write.Wrote.the-variants.{Bytes, Refused}
 use Rattle.pauli.specs.WriteAnswers.{toldWrote}
 use Rattle.closing_report.specs.Bound.{NeverRefused, Printed}
 use Rattle.closing_report.specs.Contract.{ReportCall}
-use Rattle.closing_report.specs.Listing.{listing}
+use Rattle.closing_report.specs.Listing.{textOf}
 use Rattle.closing_report.proofs.report.BoundLaws.{never-refused}
 
 module _ (input work out : List ℕ) (r : Wrote) (work′ out′ : List ℕ) (c : ReportCall input work out r work′ out′)
     (words : length work ≡ 4096) (room : length out ≡ 53924) where
-  printed : Printed input work r out′
+  printed : Printed input r out′
   unfolding NeverRefused
   printed = never-refused input work out r work′ out′ c (omega arith) (omega arith)
 
@@ -26,8 +26,8 @@ module _ (input work out : List ℕ) (r : Wrote) (work′ out′ : List ℕ) (c 
       let z : _≡_ {A = ℕ} 0 1 = cc in
       omega arith
 
-  pub text-put : (k : ℕ) → r ≡ Bytes k → (listing input 4096 ≡ answer (take k out′)) × (k ≤ length out′)
+  pub text-put : (k : ℕ) → r ≡ Bytes k → (take k out′ ≡ textOf input) × (k ≤ length out′)
   text-put k e =
       let told : _≡_ {A = Told ℕ} (answer k) (answer (printed .size)) = sym (ap toldWrote e) ∙ printed .told in
       let same : k ≡ printed .size = cc in
-      (ap (listing input) (sym words) ∙ printed .listed ∙ ap (λ (n : ℕ). answer (take n out′)) (sym same), omega (arith, same, printed .room))
+      (ap (λ (n : ℕ). take n out′) same ∙ printed .text, omega (arith, same, printed .room))

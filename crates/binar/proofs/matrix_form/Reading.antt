@@ -13,7 +13,7 @@ use Rattle.binar.specs.Row.{bit}
 use Rattle.binar.specs.Words.{rowAt, matrix, image}
 use Rattle.binar.specs.Echelon.{Reduction, echelonize, besideIdentity, Row, EchelonForm, echelon, rank}
 use Rattle.binar.specs.Solve.{sweep, solved, transposeSolve}
-use Rattle.binar.specs.Layout.{formStride, fits, formed, FormIs, formIn, Solvable, swept}
+use Rattle.binar.specs.Layout.{formStride, fits, formed, FormIs, formIn, FormLeft, swept}
 use Rattle.binar.specs.Laid.{laidOut}
 use Rattle.binar.specs.Theorems.{FormLaw, SolutionLaw}
 use Rattle.binar.proofs.echelon.Lists.{All, all-by}
@@ -41,7 +41,7 @@ module _ (l : List ℕ) (width n cols : ℕ) (fit : fits width n cols (length l)
   unfolding formed
   law = beside-law cols (64 * width) (fits-true width n cols (length l) fit .0) (matrix s n l)
 
-  rows-back : matrix s n x ≡ f .rows
+  pub rows-back : matrix s n x ≡ f .rows
   unfolding laidOut
   rows-back =
       ap (λ (k : ℕ). matrix s k (image s (f .rows) (f .pivots ++ drop (length (f .rows) * s + length (f .pivots)) l))) (sym (form-count l width n cols fit))

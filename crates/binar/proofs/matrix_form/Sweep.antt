@@ -14,7 +14,7 @@ use Rattle.binar.specs.Row.{_⊕_, bit}
 use Rattle.binar.specs.Words.{value, words, rowAt, putRow, matrix, TwoRows}
 use Rattle.binar.specs.Echelon.{clear}
 use Rattle.binar.specs.Solve.{sweep}
-use Rattle.binar.specs.Layout.{Solvable, swept, solution}
+use Rattle.binar.specs.Layout.{FormLeft, swept, solution, SolutionIs}
 use Rattle.binar.proofs.row.Bits.{bit-lt, xor-lt}
 use Rattle.binar.proofs.row.Slice.{AreWords, Outside, length-words, row-kept, put-none, put-first}
 use Rattle.binar.proofs.echelon.Matrix.{value-words, words-words, words-append, words-take, words-drop, row-lt, bit-row, length-matrix, matrix-row, matrix-lt, row-in}
@@ -62,7 +62,7 @@ words-put l i n v f = words-append (take i l) (words n v ++ drop (i + n) l) (wor
 unfoldable pub sweptFrom : List ℕ → ℕ → ℕ → ℕ → ℕ → ℕ → ℕ
 sweptFrom l s n rank k v = sweep (drop k (take rank (drop (n * s) l))) (drop k (matrix s n l)) v
 
-module _ (l : List ℕ) (s n cols rank place : ℕ) (f : AreWords l) (S : Solvable l s n cols rank place) where
+module _ (l : List ℕ) (s n cols rank place : ℕ) (f : AreWords l) (S : FormLeft l s n cols rank place) where
   abbrev ps : List ℕ
   ps = take rank (drop (n * s) l)
 
@@ -168,8 +168,8 @@ module _ (l : List ℕ) (s n cols rank place : ℕ) (f : AreWords l) (S : Solvab
   -- the answer and the slice at the end
   pub ends : (w : List ℕ) (b : Bool) → length w ≡ length l → w ≡ putRow l place s (rowAt w place s) → swept s n rank place l ≡ rowAt w place s
       → eqb (value (drop place w) % 2 ^ cols) 0 ≡ b
-      → (solution b ≡ solution (eqb (swept s n rank place l % 2 ^ cols) 0)) × (w ≡ putRow l place s (swept s n rank place l))
-  ends w b size e d t = (
-    ap solution (sym t ∙ ap (λ (x : ℕ). eqb x 0) (rest-zero w size e ∙ ap (λ (x : ℕ). x % 2 ^ cols) (sym d))),
-    e ∙ ap (putRow l place s) (sym d),
-  )
+      → SolutionIs l s n cols rank place (solution b) w
+  ends w b size e d t = record {
+    told = ap solution (sym t ∙ ap (λ (x : ℕ). eqb x 0) (rest-zero w size e ∙ ap (λ (x : ℕ). x % 2 ^ cols) (sym d)));
+    left = e ∙ ap (putRow l place s) (sym d);
+  }

@@ -1,4 +1,4 @@
--- The theorems of specs/Theorems.antt, put together from their parts; the last two are proved in Reading.
+-- The theorems of specs/Theorems.antt, put together from their parts; the last three are proved in Reading and Solving.
 use mathlib.Core.List.{List}
 use Prim.Native.Nat.{ℕ}
 use Rattle.binar.specs.Echelon.{rank}
@@ -10,6 +10,7 @@ use Rattle.binar.proofs.echelon.Transform.{rows-count, T-square, T-prod
 use Rattle.binar.proofs.echelon.Space.{R-reduced, R-narrow, R-space, T-inverse, T-inverts, basis-independent, rank-dimension, rank-unique}
 use Rattle.binar.proofs.echelon.Solve.{solve-sound, solve-none, none-solves}
 pub use Rattle.binar.proofs.matrix_form.Reading.{form-law, solution-law}
+pub use Rattle.binar.proofs.matrix_form.Solving.{calls-law}
 
 pub transform-law : (c : ℕ) (A : List ℕ) → TransformLaw c A
 transform-law c A = record { count = rows-count c A; square = T-square c A; product = T-product c A }

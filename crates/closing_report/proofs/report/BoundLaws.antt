@@ -5,8 +5,6 @@ use mathlib.Core.Option.{Option, some, none, Option·some-injective}
 use Prim.Native.Nat.{ℕ, zero, suc, _+_, _*_, _/_, _%_, _^_, _≤_, _<_}
 use native.Mathlib.Nat.{lt-of-lt-of-le}
 use native.Mathlib.Omega.{arith}
-use borrow.Author.Tests.{le-ltb}
-use lib.Dec.{ltb}
 use lib.ListN.{length, take, drop, length-append, length-map, length-take}
 use lib.Pow.{pow-mono}
 use lib.Seq.{take-at}
@@ -17,22 +15,21 @@ use Rattle.pauli.specs.Sets.{members, pauliOf}
 use Rattle.pauli.specs.Told.{Told, answer, refused, mapTold}
 use Rattle.pauli.specs.Writing.{putBytes}
 use Rattle.pauli.proofs.joined.JoinLaws.{accepted-few}
-use Rattle.pauli.proofs.roll.Told.{test-pass}
 use Rattle.pauli_theory.specs.Group.{Promise, none as noPromise}
 use Rattle.pauli_theory.specs.Membership.{Factorization, outside, exponentLeft, withPhase, factorizationOf}
 use Rattle.pauli_theory.specs.Standard.{ifZero, rank, nonabelian, phaseStep}
+use Rattle.pauli_theory.proofs.Phases.{with-phase}
 use Rattle.pauli_theory.proofs.Agree.{left-lt}
 use Rattle.pauli_theory.proofs.ByProducts.{rank-le}
 use Rattle.pauli_theory.proofs.IfZero.{ifZero-some}
 use Rattle.pauli_theory.proofs.OverPlaces.{countFrom, upTo}
-use Rattle.pauli_group.specs.Inner.Area.{workWords, enough}
-use Rattle.pauli_group.specs.Inner.Groups.{paulis}
+use Rattle.pauli_group.specs.Calls.{paulis}
 use Rattle.pauli_group.proofs.factorization.QuestionLaws.{indexes-below}
 use Rattle.closing_report.specs.Bound.{mostText, AlwaysFits, NeverRefused}
 use Rattle.closing_report.specs.Decimal.{ascii, digits, digitsUpTo}
 use Rattle.closing_report.specs.Lines.{labelled, lineFeed, phasesText, abelianText, indexesText, firstLine, memberLine, memberLines, refusedLine}
 use Rattle.closing_report.specs.InputRolls.{rollsIn}
-use Rattle.closing_report.specs.Listing.{report, orRefusedIn, listing}
+use Rattle.closing_report.specs.Listing.{report, orRefusedIn, textOf}
 use Rattle.closing_report.specs.Stored.{Storable}
 use Rattle.closing_report.proofs.text.DecimalLaws.{few-digits}
 use Rattle.pauli_theory.proofs.IndexSets.{members-upTo}
@@ -107,7 +104,7 @@ unfolding withPhase
 phased promise gs p none f e = let z : _≡_ {A = ℕ} 0 1 = cc in absurd (omega arith)
 phased promise gs p (some s) f e =
     let k = exponentLeft p (indexedProduct s gs) in
-    let h = ifZero-some (k % phaseStep promise gs) (some (record { indexes = s; exponent = k })) f e in
+    let h = ifZero-some (k % phaseStep promise gs) (some (record { indexes = s; exponent = k })) f (sym (with-phase promise gs p s) ∙ e) in
     rw (← Option·some-injective _ f (h .1)) (left-lt p (indexedProduct s gs))
 
 pub storable : (promise : Promise) (gs : List Pauli) (p : Pauli) (o : Option Factorization) → factorizationOf promise gs p ≡ o → Storable o
@@ -134,18 +131,11 @@ module _ (gs : List Pauli) (few : length gs ≤ 128) where
 
 -- ---- the listing
 
--- a text that is not too long
-pub record Short (t : Told (List ℕ)) : Type 0 where
-  pub text : List ℕ
-  pub listed : t ≡ answer text
-  pub short : length text ≤ mostText
-
-or-refused : {A : Type 0} (roll : ℕ) (t : Told A) (next : A → Told (List ℕ)) → roll < 10 → OfRoll t → ((a : A) → t ≡ answer a → Short (next a))
-    → Short (orRefusedIn roll t next)
+or-refused : {A : Type 0} (roll : ℕ) (t : Told A) (next : A → List ℕ) → roll < 10 → OfRoll t
+    → ((a : A) → t ≡ answer a → length (next a) ≤ mostText) → length (orRefusedIn roll t next) ≤ mostText
 unfolding orRefusedIn OfRoll
 or-refused roll (answer a) next h o k = k a refl
-or-refused roll (refused n p) next h o k =
-    record { text = refusedLine n p roll; listed = refl; short = omega (arith, refused-short n p roll (omega arith) (omega arith) h) }
+or-refused roll (refused n p) next h o k = omega (arith, refused-short n p roll (omega arith) (omega arith) h)
 
 of-rolls : (input : List ℕ) → OfRoll (rollsIn input)
 unfolding rollsIn OfRoll
@@ -157,36 +147,28 @@ read-few : (b : List ℕ) (ps : List Sparse) → read b ≡ answer ps → length
 unfolding paulis countOf mapTold mostPaulis
 read-few b ps e = omega (arith, accepted-few b (length ps) (ap (mapTold length) e), length-map ps pauliOf)
 
-listing-short : (input : List ℕ) (words : ℕ) → workWords ≤ words → Short (listing input words)
-unfolding listing enough
-listing-short input words h =
+pub always-fits : AlwaysFits
+unfolding AlwaysFits textOf
+always-fits input =
     or-refused 1 (rollsIn input) _ (omega arith) (of-rolls input) λ r _.
     or-refused 1 (read (r .generators)) _ (omega arith) (of-read (r .generators)) λ gs e.
     or-refused 2 (read (r .elements)) _ (omega arith) (of-read (r .elements)) λ es f.
-    record {
-      text = report (paulis gs) (paulis es);
-      listed = test-pass (ltb words workWords) 9 0 _ (le-ltb words workWords h);
-      short = report-short (paulis gs) (read-few _ gs e) (paulis es) (read-few _ es f);
-    }
-
-pub always-fits : AlwaysFits
-unfolding AlwaysFits
-always-fits input words h = let s = listing-short input words h in record { text = s .text; listed = s .listed; short = s .short }
+    report-short (paulis gs) (read-few _ gs e) (paulis es) (read-few _ es f)
 
 text-front : (text out : List ℕ) → take (length text) (putBytes out 0 text) ≡ text
 unfolding putBytes
 text-front text out = take-at text (drop (0 + length text) out) (length text) refl
 
 pub never-refused : NeverRefused
-unfolding NeverRefused
+unfolding NeverRefused AlwaysFits
 never-refused input work out r work′ out′ c h l =
-    let s = listing-short input (length work) h in
-    let fits : length (s .text) ≤ length out = omega (arith, s .short) in
-    let front : take (length (s .text)) out′ ≡ s .text
-    = ap (take (length (s .text))) (call-put c (s .text) (s .listed) fits) ∙ text-front (s .text) out in
+    let text = textOf input in
+    let fits : length text ≤ length out = omega (arith, always-fits input) in
+    let front : take (length text) out′ ≡ text
+    = ap (take (length text)) (call-put c h text refl fits) ∙ text-front text out in
     record {
-      size = length (s .text);
-      told = call-told c (s .text) (s .listed) fits;
-      room = omega (arith, length-take (length (s .text)) out′, ap length front);
-      listed = s .listed ∙ ap answer (sym front);
+      size = length text;
+      told = call-told c h text refl fits;
+      room = omega (arith, length-take (length text) out′, ap length front);
+      text = front;
     }

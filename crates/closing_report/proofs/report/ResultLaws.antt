@@ -11,7 +11,8 @@ use Rattle.pauli.specs.Condense.{nothing}
 use Rattle.pauli.specs.Sets.{pauliOf}
 use Rattle.pauli_theory.specs.Membership.{Factorization, factorizationOf}
 use Rattle.pauli_group.specs.Inner.Area.{targetAt, spareAt, strideOf, Outside}
-use Rattle.pauli_group.specs.Inner.Groups.{paulis, Grouped}
+use Rattle.pauli_group.specs.Inner.Groups.{Grouped}
+use Rattle.pauli_group.specs.Calls.{paulis}
 use Rattle.pauli_group.specs.Inner.Members.{Asked}
 use Rattle.pauli_group.proofs.area.AreaLaws.{form-room}
 use Rattle.pauli_group.proofs.group.KeptLaws.{grouped-target, grouped-spare}

@@ -13,7 +13,7 @@ use Rattle.pauli_theory.specs.Membership.{Factorization}
 use Rattle.pauli_group.specs.Inner.Area.{Outside}
 use Rattle.closing_report.specs.Lines.{memberLine, memberLines}
 use Rattle.closing_report.specs.Put.{Put}
-use Rattle.closing_report.specs.Stored.{resultIn, storedIn, Stored}
+use Rattle.closing_report.specs.Stored.{resultIn, putMember, putOther, storedIn, Stored}
 
 -- ---- one result
 
@@ -27,7 +27,8 @@ module _ (l : List ℕ) (i : ℕ) where
   unfolding resultIn
   result-other h = rw (le-ltb (getD l i 0) 4 h)
 
-pub other-stored : (l : List ℕ) (i : ℕ) → i + 5 ≤ length l → Stored l i none (set l i 4)
+pub other-stored : (l : List ℕ) (i : ℕ) → i + 5 ≤ length l → Stored l i none (putOther l i)
+unfolding putOther
 other-stored l i h =
     let word = getD-set-same l i 4 0 (omega arith) in
     record {
@@ -62,7 +63,8 @@ module _ (l : List ℕ) (i : ℕ) (h : i + 5 ≤ length l) (e low high : ℕ) wh
   high-word : getD three (i + 2) 0 ≡ high
   high-word = getD-set-same (set (set l i e) (i + 1) low) (i + 2) high 0 (simp length-set (omega arith))
 
-  pub member-stored : e < 4 → Stored l i (some (record { indexes = high * 2 ^ 64 + low; exponent = e })) (set (set (set l i e) (i + 1) low) (i + 2) high)
+  pub member-stored : e < 4 → Stored l i (some (record { indexes = high * 2 ^ 64 + low; exponent = e })) (putMember l i e low high)
+  unfolding putMember
   member-stored f = record {
     kept = result-member three i (rw word f) ∙ rw (word, low-word, high-word);
     rest = record {

@@ -47,13 +47,13 @@ same-length : tie.Need-same-length
 same-length c = search needs
 
 returns : tie.Need-returns
-returns c = rw (c .before .before .before .before .before .before .transpose-solve .ensures .1) (put-solvable _ _ _ _ _ _ _ (c .before .before .before .before .before .before .before .before .before .pre .0))
+returns c = rw (c .before .before .before .before .before .before .transpose-solve .ensures .left) (put-solvable _ _ _ _ _ _ _ (c .before .before .before .before .before .before .before .before .before .pre .0))
 
 same-length-2 : tie.Need-same-length-2
 same-length-2 c = search needs
 
 returns-2 : tie.Need-returns-2
-returns-2 c = rw (c .before .before .before .before .before .before .before .before .before .before .before .before .before .before .before .transpose-solve .ensures .1) (put-solvable _ _ _ _ _ _ _ (c .before .before .before .before .before .before .before .before .before .before .before .before .before .before .before .before .before .before .pre .0))
+returns-2 c = rw (c .before .before .before .before .before .before .before .before .before .before .before .before .before .before .before .transpose-solve .ensures .left) (put-solvable _ _ _ _ _ _ _ (c .before .before .before .before .before .before .before .before .before .before .before .before .before .before .before .before .before .before .pre .0))
 
 pub print-solution-spec : {M : Type 1} → statement M
 print-solution-spec =

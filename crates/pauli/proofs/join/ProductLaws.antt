@@ -24,7 +24,10 @@ use Rattle.pauli.specs.PauliTheorems.{On, PauliOn}
 use Rattle.pauli.specs.Known.{Gathered}
 use Rattle.pauli.specs.Writing.{sparseOver, rollOver, toldBytes, leftIn, OnPlaces}
 use Rattle.pauli.specs.Condense.{listOf, nothing, condensed, Covered, Readable}
+use Rattle.pauli.specs.declared.write.Wrote.{Wrote}
+use Rattle.pauli.specs.WriteAnswers.{toldWrote}
 use Rattle.pauli.specs.Product.{productOver, productBytes}
+use Rattle.pauli.specs.ProductContract.{ProductCall}
 use Rattle.pauli.specs.JoinCalls.{Lists, readBoth, fewQubits, within, productOf}
 use Rattle.pauli.proofs.signed.Algebra.{pauli-path}
 use Rattle.pauli.proofs.roll.Checks.{AllowedSets}
@@ -46,12 +49,6 @@ pub record Accepted (b : List ℕ) (n : ℕ) : Type 0 where
 
 pub count-accepted : (b : List ℕ) (n : ℕ) → countOf b ≡ answer n → Accepted b n
 count-accepted b n e = record { accepted = accepted b n e .0; count = accepted b n e .1 }
-
--- ---- a refusal tells itself and leaves the output alone
-
-told-refused : (t : Told (List ℕ)) (m p : ℕ) (out : List ℕ) → t ≡ refused m p → (refused m p ≡ toldBytes t out) × (out ≡ leftIn t out)
-unfolding toldBytes leftIn
-told-refused t m p out e = (sym (ap (λ (u : Told (List ℕ)). toldBytes u out) e), sym (ap (λ (u : Told (List ℕ)). leftIn u out) e))
 
 -- ---- the refusals of a product in turn
 
@@ -175,15 +172,17 @@ module _ (ps : List Sparse) (i : ℕ) (rs : List Sparse) (j : ℕ) (hi : i < len
 -- ---- what the call tells and leaves, in turn
 
 module _ (l : List ℕ) (i : ℕ) (r : List ℕ) (j : ℕ) (out : List ℕ) where
-  abbrev Ends : Told ℕ → List ℕ → Type 0
-  Ends t left = (t ≡ toldBytes (productOf l i r j) out) × (left ≡ leftIn (productOf l i r j) out)
+  -- a refusal tells itself and leaves the output alone
+  refusing : (w : Wrote) (m p : ℕ) → toldWrote w ≡ refused m p → productOf l i r j ≡ refused m p → ProductCall l i r j out w out
+  unfolding toldBytes leftIn
+  refusing w m p t e = record { told = t ∙ rw e; left = rw e }
 
-  pub left-refused : (m p : ℕ) → countOf l ≡ refused m p → Ends (refused m p) out
-  left-refused m p e = told-refused (productOf l i r j) m p out (product-left-refused l i r j m p (count-refused l m p e))
+  pub left-refused : (w : Wrote) (m p : ℕ) → toldWrote w ≡ refused m p → countOf l ≡ refused m p → ProductCall l i r j out w out
+  left-refused w m p t e = refusing w m p t (product-left-refused l i r j m p (count-refused l m p e))
 
   module _ (nl : ℕ) (el : countOf l ≡ answer nl) where
-    pub right-refused : (m p : ℕ) → countOf r ≡ refused m p → Ends (refused m p) out
-    right-refused m p e = told-refused (productOf l i r j) m p out (product-right-refused l i r j nl (count-accepted l nl el) m p (count-refused r m p e))
+    pub right-refused : (w : Wrote) (m p : ℕ) → toldWrote w ≡ refused m p → countOf r ≡ refused m p → ProductCall l i r j out w out
+    right-refused w m p t e = refusing w m p t (product-right-refused l i r j nl (count-accepted l nl el) m p (count-refused r m p e))
 
     module _ (nr : ℕ) (er : countOf r ≡ answer nr) (old known : List ℕ) (count : ℕ) (J : Gathered (support (listOf l ++ listOf r)) old known count) where
       abbrev al : Accepted l nl
@@ -195,19 +194,19 @@ module _ (l : List ℕ) (i : ℕ) (r : List ℕ) (j : ℕ) (out : List ℕ) wher
       abbrev joined : List Sparse
       joined = listOf l ++ listOf r
 
-      pub many-refused : mostQubits < count → Ends (refused 7 0) out
-      many-refused h = told-refused (productOf l i r j) 7 0 out (product-many l i r j nl al nr ar (omega (arith, h, J .count)))
+      pub many-refused : mostQubits < count → (w : Wrote) → toldWrote w ≡ refused 7 0 → ProductCall l i r j out w out
+      many-refused h w t = refusing w 7 0 t (product-many l i r j nl al nr ar (omega (arith, h, J .count)))
 
       module _ (few : count ≤ mostQubits) where
         few-joined : length (support joined) ≤ mostQubits
         few-joined = omega (arith, few, J .count)
 
-        pub past-left-refused : nl ≤ i → Ends (refused 8 0) out
-        past-left-refused h = told-refused (productOf l i r j) 8 0 out (product-past-left l i r j nl al nr ar few-joined h)
+        pub past-left-refused : nl ≤ i → (w : Wrote) → toldWrote w ≡ refused 8 0 → ProductCall l i r j out w out
+        past-left-refused h w t = refusing w 8 0 t (product-past-left l i r j nl al nr ar few-joined h)
 
         module _ (hi : i < nl) where
-          pub past-right-refused : nr ≤ j → Ends (refused 8 0) out
-          past-right-refused h = told-refused (productOf l i r j) 8 0 out (product-past-right l i r j nl al nr ar few-joined hi h)
+          pub past-right-refused : nr ≤ j → (w : Wrote) → toldWrote w ≡ refused 8 0 → ProductCall l i r j out w out
+          past-right-refused h w t = refusing w 8 0 t (product-past-right l i r j nl al nr ar few-joined hi h)
 
           pub left-readable : Readable l nl i (take count known)
           left-readable = subst (Readable l nl i) (sym (J .known few-joined)) (readable l nl al i hi joined (λ p m. Memᴰ·append-left (listOf r) m))
@@ -222,7 +221,9 @@ module _ (l : List ℕ) (i : ℕ) (r : List ℕ) (j : ℕ) (out : List ℕ) wher
                 ∙ product-roll (listOf l) i (listOf r) j (rw (al .count) hi) (rw (ar .count) hj))
                 ∙ sym (product-answer l i r j nl al nr ar few-joined hi hj)
 
-            pub written : (t : Told ℕ) (left : List ℕ) → t ≡ toldBytes (answer (productBytes (take count known) (listOf l) i (listOf r) j)) out
-                → left ≡ leftIn (answer (productBytes (take count known) (listOf l) i (listOf r) j)) out → Ends t left
-            written t left et eleft =
-                (et ∙ ap (λ (u : Told (List ℕ)). toldBytes u out) bytes-written, eleft ∙ ap (λ (u : Told (List ℕ)). leftIn u out) bytes-written)
+            pub written : (w : Wrote) (left : List ℕ) → toldWrote w ≡ toldBytes (answer (productBytes (take count known) (listOf l) i (listOf r) j)) out
+                → left ≡ leftIn (answer (productBytes (take count known) (listOf l) i (listOf r) j)) out → ProductCall l i r j out w left
+            written w left et eleft = record {
+              told = et ∙ ap (λ (u : Told (List ℕ)). toldBytes u out) bytes-written;
+              left = eleft ∙ ap (λ (u : Told (List ℕ)). leftIn u out) bytes-written;
+            }

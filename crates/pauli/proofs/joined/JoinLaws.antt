@@ -19,7 +19,10 @@ use Rattle.pauli.specs.Roll.{mostPaulis, Sparse, Entry, entryAt, entries
 use Rattle.pauli.specs.Support.{mostQubits, insertAll}
 use Rattle.pauli.specs.Known.{Gathered}
 use Rattle.pauli.specs.Condense.{listOf, nothing}
-use Rattle.pauli.specs.JoinCalls.{Lists, readBoth, fewQubits, within, joinedOf, Counts, countsOf, joinOf, Looked, lookedUp, entryOf, bodyIn, orEmpty, bodyOf}
+use Rattle.pauli.specs.declared.write.Wrote.{Wrote}
+use Rattle.pauli.specs.WriteAnswers.{toldWrote}
+use Rattle.pauli.specs.JoinContract.{JoinCall}
+use Rattle.pauli.specs.JoinCalls.{Lists, readBoth, fewQubits, within, joinedOf, Counts, countsOf, joinOf, Looked, lookedUp, entryOf, stretchIn, stretchOf, bytesOf, bodyIn, orEmpty, bodyOf}
 use Rattle.pauli.specs.Writing.{putBytes, entryBytes, toldBytes, leftIn}
 use Rattle.pauli.proofs.roll.Told.{refused-none, test-pass, test-refuses, test-passed, answered}
 use Rattle.pauli.proofs.support.Lists.{AllBytes, drop-one}
@@ -89,8 +92,12 @@ module _ (b : List ℕ) (n : ℕ) (e : countOf b ≡ answer n) where
     pub accepted-room : 2 + 10 * n + 4 * a .start + 4 * a .xcount + 4 * a .zcount ≤ length b
     accepted-room = body-room b (listOf b) (accepted .0) n (accepted .1) i h a f
 
+    pub accepted-start : (roll start : ℕ) → start ≡ 2 + 10 * n + 4 * a .start → start ≡ stretchIn roll b i .start
+    unfolding stretchIn
+    accepted-start roll start p = rw (p, ← f, ← accepted-count)
+
     pub accepted-body : (start end : ℕ) → start ≡ 2 + 10 * n + 4 * a .start → end ≡ start + 4 * (a .xcount + a .zcount) → take (end - start) (drop start b) ≡ bodyIn b i
-    unfolding bodyIn
+    unfolding bodyIn bytesOf stretchIn
     accepted-body start end p q =
         let size : end - start ≡ 4 * (a .xcount + a .zcount) = omega arith in
         rw (size, p, ← f, ← accepted-count)
@@ -218,9 +225,13 @@ module _ (l r : List ℕ) (n : ℕ) where
     unfolding entryOf andThen
     entry-refused = rw (counts-refused l r m p e)
 
+    pub stretch-refused : stretchOf l r n ≡ refused m p
+    unfolding stretchOf mapTold
+    stretch-refused = rw entry-refused
+
     pub body-refused : bodyOf l r n ≡ []
-    unfolding bodyOf orEmpty
-    body-refused = rw entry-refused
+    unfolding bodyOf orEmpty mapTold
+    body-refused = rw stretch-refused
 
   module _ (nl nr : ℕ) (j : Joining l r nl nr) where
     total : length (listOf l ++ listOf r) ≡ nl + nr
@@ -230,9 +241,13 @@ module _ (l r : List ℕ) (n : ℕ) where
     unfolding entryOf andThen within
     entry-past h = rw (j .joined) (test-refuses _ 8 0 _ (le-leb (length (listOf l ++ listOf r)) n (rw total h)))
 
+    pub stretch-past : nl + nr ≤ n → stretchOf l r n ≡ refused 8 0
+    unfolding stretchOf mapTold
+    stretch-past h = rw (entry-past h)
+
     pub body-past : nl + nr ≤ n → bodyOf l r n ≡ []
-    unfolding bodyOf orEmpty
-    body-past h = rw (entry-past h)
+    unfolding bodyOf orEmpty mapTold
+    body-past h = rw (stretch-past h)
 
     entry-is : n < nl + nr → entryOf l r n ≡ answer (lookedUp (getD (listOf l ++ listOf r) n nothing))
     unfolding entryOf andThen within
@@ -242,9 +257,13 @@ module _ (l r : List ℕ) (n : ℕ) where
       pub entry-left : entryOf l r n ≡ answer (lookedUp (getD (listOf l) n nothing))
       entry-left = entry-is (omega arith) ∙ ap (λ (p : Sparse). answer (lookedUp p)) (List·getD-append (listOf l) (listOf r) nothing n (rw (accepted l nl (j .left) .1) h))
 
+      pub stretch-left : stretchOf l r n ≡ answer (stretchIn 0 l n)
+      unfolding stretchOf mapTold
+      stretch-left = rw (entry-left, lt-ltb n (u16At l 0) (rw (accepted-count l nl (j .left)) at h))
+
       pub body-left : bodyOf l r n ≡ bodyIn l n
-      unfolding bodyOf orEmpty
-      body-left = rw (entry-left, lt-ltb n (u16At l 0) (rw (accepted-count l nl (j .left)) at h))
+      unfolding bodyOf orEmpty mapTold bytesOf bodyIn stretchIn
+      body-left = rw stretch-left
 
     module _ (past : nl ≤ n) (h : n - nl < nr) where
       pub entry-right : entryOf l r n ≡ answer (lookedUp (getD (listOf r) (n - nl) nothing))
@@ -253,11 +272,15 @@ module _ (l r : List ℕ) (n : ℕ) where
           entry-is (omega arith)
           ∙ ap (λ (p : Sparse). answer (lookedUp p)) (ap (λ (k : ℕ). getD (listOf l ++ listOf r) k nothing) at ∙ getD-append-add (listOf l) (listOf r) (n - nl) nothing)
 
-      pub body-right : bodyOf l r n ≡ bodyIn r (n - nl)
-      unfolding bodyOf orEmpty
-      body-right =
+      pub stretch-right : stretchOf l r n ≡ answer (stretchIn 1 r (n - nl))
+      unfolding stretchOf mapTold
+      stretch-right =
           let count = accepted-count l nl (j .left) in
           rw (entry-right, le-ltb n (u16At l 0) (rw count at past), ← count)
+
+      pub body-right : bodyOf l r n ≡ bodyIn r (n - nl)
+      unfolding bodyOf orEmpty mapTold bytesOf bodyIn stretchIn
+      body-right = rw stretch-right
 
 -- ---- the joined roll
 
@@ -324,23 +347,27 @@ module _ (l r : List ℕ) (nl nr : ℕ) (el : countOf l ≡ answer nl) (er : cou
 
 -- what is told and left
 module _ (l r out : List ℕ) where
-  pub join-refused : (m p : ℕ) → countsOf l r ≡ refused m p → (refused m p ≡ toldBytes (joinOf l r) out) × (out ≡ leftIn (joinOf l r) out)
+  pub join-refused : (w : Wrote) (m p : ℕ) → toldWrote w ≡ refused m p → countsOf l r ≡ refused m p → JoinCall l r out w out
   unfolding joinOf mapTold toldBytes leftIn
-  join-refused m p e = let j = counts-refused l r m p e in (rw j, rw j)
+  join-refused w m p t e = let j = counts-refused l r m p e in record { told = t ∙ rw j; left = rw j }
 
   module _ (nl nr : ℕ) (j : Joining l r nl nr) (size : ℕ) (s : length (write (listOf l ++ listOf r)) ≡ size) where
     joined-roll : joinOf l r ≡ answer (write (listOf l ++ listOf r))
     unfolding joinOf mapTold
     joined-roll = rw (j .joined)
 
-    pub join-short : length out < size → (refused 12 0 ≡ toldBytes (joinOf l r) out) × (out ≡ leftIn (joinOf l r) out)
+    pub join-short : length out < size → (w : Wrote) → toldWrote w ≡ refused 12 0 → JoinCall l r out w out
     unfolding toldBytes leftIn refuseIf
-    join-short h = let t = lt-ltb (length out) (length (write (listOf l ++ listOf r))) (rw s h) in (rw (joined-roll, t), rw (joined-roll, t))
+    join-short h w e =
+        let t = lt-ltb (length out) (length (write (listOf l ++ listOf r))) (rw s h) in
+        record { told = e ∙ rw (joined-roll, t); left = rw (joined-roll, t) }
 
-    pub join-long : size ≤ length out → (u : List ℕ) → u ≡ putBytes out 0 (write (listOf l ++ listOf r))
-        → (answer size ≡ toldBytes (joinOf l r) out) × (u ≡ leftIn (joinOf l r) out)
+    pub join-long : size ≤ length out → (w : Wrote) → toldWrote w ≡ answer size → (u : List ℕ) → u ≡ putBytes out 0 (write (listOf l ++ listOf r))
+        → JoinCall l r out w u
     unfolding toldBytes leftIn refuseIf
-    join-long h u e = let t = le-ltb (length out) (length (write (listOf l ++ listOf r))) (rw s h) in (rw (joined-roll, t) (ap answer (sym s)), rw (joined-roll, t) e)
+    join-long h w e u k =
+        let t = le-ltb (length out) (length (write (listOf l ++ listOf r))) (rw s h) in
+        record { told = e ∙ rw (joined-roll, t) (ap answer (sym s)); left = rw (joined-roll, t) k }
 
 -- ---- entries and bytes, copied one by one
 

@@ -1,10 +1,10 @@
 -- The algebra of signed products. Sets go by the laws of `_⊕_`; exponents are sums modulo 4.
-use mathlib.Core.Path.{_≡_, refl, ap, ap₂}
+use mathlib.Core.Path.{_≡_, refl, sym, ap, ap₂}
 use Prim.Native.Nat.{ℕ, _+_, _*_, _%_, _<_}
 use native.Mathlib.Omega.{arith}
 use Rattle.binar.specs.Row.{_⊕_}
 use Rattle.binar.proofs.row.Bits.{xor-assoc, xor-comm, xor-self, xor-zero-l, xor-zero-r, dot-lt, dot-comm, dot-xor-l, dot-xor-r, dot-zero-l, dot-zero-r}
-use Rattle.pauli.specs.Pauli.{Pauli, I, normal, Same, times, turned, anticommute, orderFour}
+use Rattle.pauli.specs.Pauli.{Pauli, I, phase, normal, Same, times, turned, anticommute, orderFour}
 
 pub pauli-path : {p q : Pauli} → p .e ≡ q .e → p .x ≡ q .x → p .z ≡ q .z → p ≡ q
 pauli-path a b c = λ i. record { e = a i; x = b i; z = c i }
@@ -62,6 +62,10 @@ unfolding times
 times-same p q r s h k = pauli-path (rw (h .z, k .x) (omega arith)) (ap₂ _⊕_ (h .x) (k .x)) (ap₂ _⊕_ (h .z) (k .z))
 
 -- ---- powers of i
+pub turned-is : (k : ℕ) (p : Pauli) → turned k p ≡ times (phase k) p
+unfolding times turned phase
+turned-is k p = pauli-path (omega (arith, dot-zero-l (p .x))) (sym (xor-zero-l (p .x))) (sym (xor-zero-l (p .z)))
+
 pub turned-times-l : (k : ℕ) (p q : Pauli) → times (turned k p) q ≡ turned k (times p q)
 unfolding times turned
 turned-times-l k p q = pauli-path (omega arith) refl refl

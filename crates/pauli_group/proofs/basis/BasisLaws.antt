@@ -21,8 +21,8 @@ use Rattle.pauli.specs.Writing.{OnPlaces}
 use Rattle.pauli.proofs.signed.Algebra.{normal-lt}
 use Rattle.pauli.proofs.write.Writers.{length-list}
 use Rattle.pauli_theory.specs.Standard.{supportOf, standard}
-use Rattle.pauli_theory.specs.CommonPlaces.{formOfPlaces, dependencyProducts, basisProducts, commonProducts}
-use Rattle.pauli_theory.specs.ModuloPlaces.{movedPauli}
+use Rattle.pauli_theory.specs.Inner.CommonPlaces.{formOfPlaces, dependencyProducts, basisProducts, commonProducts}
+use Rattle.pauli_theory.specs.Inner.ModuloPlaces.{movedPauli}
 use Rattle.pauli_theory.proofs.CommonCount.{stack-few}
 use Rattle.pauli_theory.proofs.CommonPlaces.{dependency-on}
 use Rattle.pauli_theory.proofs.ModuloPlaces.{joined, left-in-joined, right-in-joined, left-standard-on, moved-standard}
@@ -32,7 +32,8 @@ use Rattle.pauli_theory.proofs.Rows.{support-rises}
 use Rattle.pauli_theory.proofs.StandardLaw.{standard-law}
 use Rattle.pauli_theory.proofs.Written.{support-of}
 use Rattle.pauli_group.specs.Inner.Area.{standardAt, spareAt, rowWords, strideOf, Outside}
-use Rattle.pauli_group.specs.Inner.Groups.{paulis, overSupport, Grouped}
+use Rattle.pauli_group.specs.Inner.Groups.{overSupport, Grouped}
+use Rattle.pauli_group.specs.Calls.{paulis}
 use Rattle.pauli_group.specs.Inner.Lists.{rowOver, formOver, productsBy}
 use Rattle.pauli_group.proofs.area.AreaLaws.{form-room-more}
 use Rattle.pauli_group.proofs.group.BuildLaws.{products-rows}

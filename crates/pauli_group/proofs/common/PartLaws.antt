@@ -8,19 +8,19 @@ use lib.ListN.{length, getD, take}
 use Rattle.binar.proofs.echelon.Lists.{all-map, all-over, all-under}
 use Rattle.pauli.specs.Roll.{countOf}
 use Rattle.pauli.specs.Support.{All, Rising}
-use Rattle.pauli.specs.Told.{Told, answer, refused, mapTold}
+use Rattle.pauli.specs.Told.{answer}
 use Rattle.pauli.specs.Condense.{listOf, condensed}
 use Rattle.pauli.specs.Pauli.{Pauli}
 use Rattle.pauli.specs.PauliTheorems.{On, PauliOn}
 use Rattle.pauli.specs.Sets.{condense}
 use Rattle.pauli.specs.Signed.{listIn}
-use Rattle.pauli.specs.Writing.{OnPlaces, rollOver, toldBytes, leftIn}
+use Rattle.pauli.specs.Writing.{OnPlaces, rollOver}
 use Rattle.pauli.proofs.condense.Places.{condense-bit}
 use Rattle.pauli_theory.specs.Group.{Promise}
 use Rattle.pauli_theory.specs.Standard.{supportOf, phaseStep}
 use Rattle.pauli_theory.specs.Common.{commonBasis, withExponent, consSome, phasesFrom, commonPhases, commonPart, lesser, bitand}
-use Rattle.pauli_theory.specs.CommonPlaces.{sharedExponent, withSome, sharedWith, exponentBy, solvedExponent}
-use Rattle.pauli_theory.specs.ModuloPlaces.{movedPauli}
+use Rattle.pauli_theory.specs.Inner.CommonPlaces.{sharedExponent, withSome, sharedWith, exponentBy, solvedExponent}
+use Rattle.pauli_theory.specs.Inner.ModuloPlaces.{movedPauli}
 use Rattle.pauli_theory.specs.Order.{Order, partialCmp}
 use Rattle.pauli_theory.proofs.CommonExponents.{Solved, basis-left, basis-right}
 use Rattle.pauli_theory.proofs.CommonPlaces.{places-basis}
@@ -29,13 +29,10 @@ use Rattle.pauli_theory.proofs.ModuloPlaces.{joined}
 use Rattle.pauli_theory.proofs.Placed.{condensed-on}
 use Rattle.pauli_theory.proofs.Products.{indexed-lt}
 use Rattle.pauli_theory.proofs.Rows.{support-rises}
-use Rattle.pauli.proofs.joined.JoinLaws.{Joining}
-use Rattle.pauli_group.specs.Inner.Area.{spareAt, workWords, areaAfter}
-use Rattle.pauli_group.specs.Inner.Groups.{paulis, overSupport}
+use Rattle.pauli_group.specs.Inner.Area.{spareAt}
+use Rattle.pauli_group.specs.Inner.Groups.{overSupport}
+use Rattle.pauli_group.specs.Calls.{paulis, listBytes, commonBytes}
 use Rattle.pauli_group.proofs.group.GroupedLaws.{list-length}
-use Rattle.pauli_group.specs.Calls.{Pair, twoLists}
-use Rattle.pauli_group.specs.Calls.{listBytes, commonBytes, commonCall}
-use Rattle.pauli_group.proofs.order.OrderLaws.{pair-long}
 use Rattle.pauli_group.specs.Inner.Moved.{Movable, MovablePauli}
 use Rattle.pauli_group.specs.Inner.Shared.{Joint, standardOver, basisOver, exponentFor, noted, sharedNoted}
 
@@ -165,7 +162,6 @@ module _ (gs hs : List Pauli) (joint : List ℕ) (size : ℕ) (J : Joint gs hs j
       part-places = rw (part-list, J .count) (part-places-on left right gs hs)
 
       pub part-written : rollOver (take size joint) (listIn v spareAt total) ≡ listBytes (commonPart left right gs hs)
-      unfolding listBytes
       part-written = rw (part-list, J .support) (written-part left right gs hs)
 
 -- ---- the call
@@ -174,28 +170,3 @@ pub lesser-bytes : (left right : Promise) (gs hs : List Pauli) (o : Order) → o
     → listBytes (lesser o gs hs (commonPart left right gs hs)) ≡ commonBytes left right (record { left = gs; right = hs })
 unfolding commonBytes bitand
 lesser-bytes left right gs hs o e = ap (λ p. listBytes (lesser p gs hs (commonPart left right gs hs))) e
-
-module _ (l r work out : List ℕ) where
-  abbrev both : Told Pair
-  both = twoLists l r (length work)
-
-  pub common-refused : {m p : ℕ} → both ≡ refused m p → (left right : Promise)
-      → (refused m p ≡ toldBytes (commonCall left right l r (length work)) out) × (out ≡ leftIn (commonCall left right l r (length work)) out)
-      × (work ≡ areaAfter both work)
-  unfolding commonCall mapTold areaAfter toldBytes leftIn
-  common-refused e left right = (
-    sym (ap (λ t. toldBytes (mapTold (commonBytes left right) t) out) e),
-    sym (ap (λ t. leftIn (mapTold (commonBytes left right) t) out) e),
-    sym (ap (λ (t : Told Pair). areaAfter t work) e),
-  )
-
-  pub common-answered : (nl nr : ℕ) → Joining l r nl nr → workWords ≤ length work → (left right : Promise)
-      → let bs = commonBytes left right (record { left = paulis (listOf l); right = paulis (listOf r) }) in
-      (toldBytes (answer bs) out ≡ toldBytes (commonCall left right l r (length work)) out)
-      × (leftIn (answer bs) out ≡ leftIn (commonCall left right l r (length work)) out)
-  unfolding commonCall mapTold
-  common-answered nl nr j room left right =
-      let e = pair-long l r (length work) nl nr j room in (
-        sym (ap (λ t. toldBytes (mapTold (commonBytes left right) t) out) e),
-        sym (ap (λ t. leftIn (mapTold (commonBytes left right) t) out) e),
-      )

@@ -12,7 +12,7 @@ use lib.Seq.{sets, length-take-le, getD-set-same, getD-set-other}
 use Rattle.binar.specs.Layout.{formIn}
 use Rattle.binar.specs.Solve.{transposeSolve}
 use Rattle.pauli.specs.declared.signed.Pauli.{Pauli as Held}
-use Rattle.pauli.specs.Pauli.{Pauli, I, normal, indexedProduct}
+use Rattle.pauli.specs.Pauli.{Pauli, I, normal, indexedProduct, phase}
 use Rattle.pauli.specs.Writing.{OnPlaces, rollOver}
 use Rattle.pauli.specs.Condense.{listOf}
 use Rattle.pauli.specs.Roll.{countOf}
@@ -23,23 +23,23 @@ use Rattle.binar.proofs.echelon.Lists.{all-get}
 use Rattle.pauli.specs.Signed.{held, pauliIn, pauliWords, listIn}
 use Rattle.pauli.proofs.signed.Algebra.{pauli-path}
 use Rattle.pauli.proofs.condense.Places.{condense-lt}
-use Rattle.pauli_theory.specs.Standard.{supportOf, ifZero, phase}
+use Rattle.pauli_theory.specs.Standard.{supportOf, ifZero}
 use Rattle.pauli_theory.proofs.OverPlaces.{places-on, places-echelon}
 use Rattle.pauli_theory.proofs.SymplecticPlaces.{written-placed}
 use Rattle.pauli_theory.specs.Common.{withExponent, consSome, phasesFrom}
-use Rattle.pauli_theory.specs.CommonPlaces.{formOfPlaces, sharedExponentFrom, sharedExponent, withSome, sharedWith, exponentBy, solvedExponent}
-use Rattle.pauli_theory.specs.ModuloPlaces.{movedSet, movedPauli}
+use Rattle.pauli_theory.specs.Inner.CommonPlaces.{formOfPlaces, sharedExponentFrom, sharedExponent, withSome, sharedWith, exponentBy, solvedExponent}
+use Rattle.pauli_theory.specs.Inner.ModuloPlaces.{movedSet, movedPauli}
 use Rattle.pauli_theory.proofs.CommonWritten.{shared-append, phases-next}
 use Rattle.pauli_theory.proofs.IfZero.{ifZero-zero, ifZero-more}
 use Rattle.pauli_group.specs.Inner.Area.{targetAt, listAt, spareAt, rowWords, strideOf, Outside}
-use Rattle.pauli_group.specs.Inner.Groups.{paulis, overSupport, Grouped}
+use Rattle.pauli_group.specs.Inner.Groups.{overSupport, Grouped}
+use Rattle.pauli_group.specs.Calls.{paulis, listBytes}
 use Rattle.pauli_group.specs.Inner.Lists.{rowOver}
 use Rattle.pauli_group.proofs.member.FactorLaws.{grouped-solvable}
 use Rattle.pauli_group.proofs.group.GroupedLaws.{list-length, list-few, group-places}
 use Rattle.pauli_group.proofs.area.AreaLaws.{form-room}
 use Rattle.pauli_group.proofs.list.ListLaws.{pauli-same, list-same, list-at, on-places-at, list-append, list-snoc, list-kept, list-kept-after, pauli-kept-after, outside-refl, list-store, store-further}
 use Rattle.pauli_group.proofs.member.SolveLaws.{solvable-kept, form-kept}
-use Rattle.pauli_group.specs.Calls.{listBytes}
 use Rattle.pauli_group.specs.Inner.Moved.{MovablePauli}
 use Rattle.pauli_group.specs.Inner.Shared.{Solving, exponentOver, exponentFor, noted, sharedNoted, exponentFound}
 
@@ -396,5 +396,5 @@ module _ (b : List ℕ) (n : ℕ) (count : countOf b ≡ answer n) {known x : Li
   list-on = rw (group-list, G .size) (places-on gs)
 
   pub list-written : rollOver (take places known) (listIn x listAt n) ≡ listBytes gs
-  unfolding overSupport listBytes
+  unfolding overSupport
   list-written = rw (group-list, G .support) (written-placed gs)

@@ -19,7 +19,8 @@ use Rattle.pauli.specs.Pauli.{Pauli, normal, indexedProduct}
 use Rattle.pauli.specs.Signed.{held, listIn}
 use Rattle.pauli.proofs.write.Writers.{length-list}
 use Rattle.pauli_group.specs.Inner.Area.{targetAt, rowWords, strideOf, Outside}
-use Rattle.pauli_group.proofs.area.AreaLaws.{row-alike, form-room-more}
+use Rattle.binar.proofs.matrix_form.Alike.{row-alike}
+use Rattle.pauli_group.proofs.area.AreaLaws.{form-room-more}
 use Rattle.pauli_group.proofs.list.ListLaws.{list-kept, list-kept-after}
 
 -- the words of a row past the first k

@@ -17,7 +17,8 @@ use Rattle.pauli_theory.proofs.Form.{map-take}
 use Rattle.pauli_group.specs.Inner.Area.{listAt, standardAt, spareAt, rowWords, strideOf, Outside}
 use Rattle.pauli_group.specs.Inner.Groups.{productsNamed, Built}
 use Rattle.pauli_group.specs.Inner.Lists.{rowOver, formOver, productsBy, fromProducts}
-use Rattle.pauli_group.proofs.area.AreaLaws.{form-alike, form-room}
+use Rattle.binar.proofs.matrix_form.Alike.{form-alike}
+use Rattle.pauli_group.proofs.area.AreaLaws.{form-room}
 use Rattle.pauli_group.proofs.list.ListLaws.{outside-join, outside-wider, list-kept, list-kept-after}
 
 -- by the rows of the form

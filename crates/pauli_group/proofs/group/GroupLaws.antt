@@ -19,14 +19,16 @@ use Rattle.pauli.proofs.joined.JoinLaws.{accepted, accepted-joined}
 use Rattle.pauli.proofs.join.ProductLaws.{Accepted, count-accepted, readable}
 use Rattle.pauli.proofs.roll.RollLaws.{answer-parts}
 use Rattle.pauli_theory.specs.Group.{Promise, none, abelian, notAbelian}
-use Rattle.pauli_theory.specs.Standard.{supportOf, formOf, standard, rank, nonabelian, phaseStep, stabilizer}
+use Rattle.pauli_theory.specs.Standard.{supportOf, formOf, standard, rank, nonabelian, phaseStep, stabilizer, stepOf}
 use Rattle.pauli_theory.proofs.Theorems.{group-laws}
 use Rattle.pauli_theory.proofs.ByProducts.{standard-by-products}
 use Rattle.pauli_theory.proofs.OverPlaces.{placed, places-on, places-echelon, places-rank, places-standard, places-nonabelian, places-phaseStep, places-stabilizer}
 use Rattle.pauli_theory.proofs.Written.{support-of, placed-roll}
 use Rattle.pauli_group.specs.Inner.Area.{listAt, standardAt, Outside}
-use Rattle.pauli_group.specs.Inner.Groups.{paulis, productsNamed, Built, overSupport, Grouped, Described}
-use Rattle.pauli_group.specs.Inner.Lists.{overPlaces, rowOver, formOver, fromProducts, ReadableAll, clashOf, stepOf, stabilizerOf}
+use Rattle.pauli_group.specs.Inner.Groups.{productsNamed, Built, overSupport, Grouped, Facts, factsIn, factsOf}
+use Rattle.pauli_group.specs.declared.group.Description.{Description}
+use Rattle.pauli_group.specs.Calls.{paulis}
+use Rattle.pauli_group.specs.Inner.Lists.{overPlaces, rowOver, formOver, fromProducts, ReadableAll, clashOf, stabilizerOf}
 use Rattle.pauli_group.proofs.list.ListLaws.{list-append, list-kept}
 
 -- ---- the support
@@ -115,6 +117,30 @@ unfolding clashOf nonabelian
 clash-standard none gs = refl
 clash-standard abelian gs = refl
 clash-standard notAbelian gs = refl
+
+-- rank, step, clash and stabilizer′ are those of the group of gs
+pub record Described (promise : Promise) (gs : List Pauli) (rank′ step clash stabilizer′ : ℕ) : Type 0 where
+  pub rank-is : rank′ ≡ rank gs
+  pub step-is : step ≡ phaseStep promise gs
+  pub clash-is : clash ≡ nonabelian promise gs
+  pub stabilizer-is : stabilizer′ ≡ stabilizer promise gs
+
+pub facts-are : (promise : Promise) (gs : List Pauli) {rank′ step clash stabilizer′ : ℕ} → Described promise gs rank′ step clash stabilizer′
+    → record { rank = rank′; step = step; clash = clash; stabilizer = stabilizer′ } ≡ factsOf promise gs
+unfolding factsOf
+facts-are promise gs d = λ i. record { rank = (d .rank-is) i; step = (d .step-is) i; clash = (d .clash-is) i; stabilizer = (d .stabilizer-is) i }
+
+-- by what the code holds
+pub facts-told : (promise : Promise) (gs : List Pauli) (d : Description) → factsIn d ≡ factsOf promise gs
+    → Described promise gs (d .rank) (d .step) (d .clash) (d .stabilizer)
+unfolding factsOf
+facts-told promise gs d e =
+    record {
+      rank-is = ap (λ (f : Facts). f .rank) e;
+      step-is = ap (λ (f : Facts). f .step) e;
+      clash-is = ap (λ (f : Facts). f .clash) e;
+      stabilizer-is = ap (λ (f : Facts). f .stabilizer) e;
+    }
 
 module _ {gs : List Pauli} {known x : List ℕ} {places r total : ℕ} (G : Grouped gs known x places r total) where
   pub standards-few : length gs ≤ 128 → total ≤ 128

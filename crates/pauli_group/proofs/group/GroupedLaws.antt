@@ -17,13 +17,16 @@ use Rattle.pauli.specs.Writing.{OnPlaces}
 use Rattle.pauli.proofs.joined.JoinLaws.{accepted, accepted-few}
 use Rattle.pauli.proofs.roll.RollLaws.{answer-parts}
 use Rattle.pauli_theory.specs.Group.{Promise, none, abelian, notAbelian}
-use Rattle.pauli_theory.specs.Standard.{ifZero, supportOf, standard, rank, someOrderFour, someImaginary, someMinus, nonabelian, phaseStep, stabilizer}
+use Rattle.pauli_theory.specs.Standard.{supportOf, standard, rank, someOrderFour, someMinus, nonabelian, phaseStep, stabilizer}
+use Rattle.pauli_theory.proofs.Phases.{phases-cases}
 use Rattle.pauli_theory.proofs.ByProducts.{rank-le}
 use Rattle.pauli_theory.proofs.OverPlaces.{placed, places-standard-on}
 use Rattle.pauli_theory.proofs.Written.{support-of}
 use Rattle.pauli_group.proofs.group.GroupLaws.{standards-few}
-use Rattle.pauli_group.specs.Inner.Area.{workWords, standardAt, cleared}
-use Rattle.pauli_group.specs.Inner.Groups.{paulis, overSupport, Grouped}
+use Rattle.pauli_group.specs.Inner.Area.{standardAt}
+use Rattle.pauli_group.specs.WorkArea.{workWords, cleared}
+use Rattle.pauli_group.specs.Inner.Groups.{overSupport, Grouped}
+use Rattle.pauli_group.specs.Calls.{paulis}
 use Rattle.pauli_group.proofs.scan.ScanLaws.{search-lt, two-anticommute}
 use Rattle.pauli_group.proofs.standard.StandardLaws.{ifZero-le}
 
@@ -60,14 +63,9 @@ cleared-whole x work a b = front-whole workWords 0 x work a b
 
 module _ (promise : Promise) (gs : List Pauli) where
   pub step-kinds : (0 < phaseStep promise gs) × (phaseStep promise gs ≤ 4) × (phaseStep promise gs ≡ 3 → ⊥)
-  unfolding phaseStep ifZero
   step-kinds =
-      go (someImaginary (standard gs)) (max (nonabelian promise gs) (max (someOrderFour (standard gs)) (someMinus (standard gs))))
-    where
-      go : (i k : ℕ) → let s = ifZero {X = ℕ} i (ifZero k 4 2) 1 in (0 < s) × (s ≤ 4) × (s ≡ 3 → ⊥)
-      go zero zero = (omega arith, omega arith, λ e. omega arith)
-      go zero (suc k) = (omega arith, omega arith, λ e. omega arith)
-      go (suc i) k = (omega arith, omega arith, λ e. omega arith)
+      phases-cases (λ ks s. (0 < s) × (s ≤ 4) × (s ≡ 3 → ⊥))
+      (omega arith, omega arith, λ e. omega arith) (omega arith, omega arith, λ e. omega arith) (omega arith, omega arith, λ e. omega arith) promise gs
 
   pub stabilizer-le : stabilizer promise gs ≤ 1
   unfolding stabilizer

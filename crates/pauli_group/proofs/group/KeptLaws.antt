@@ -8,7 +8,8 @@ use Rattle.pauli.specs.Pauli.{Pauli}
 use Rattle.pauli_theory.proofs.ByProducts.{rank-le}
 use Rattle.pauli_group.specs.Inner.Area.{targetAt, listAt, standardAt, spareAt, rowWords, strideOf, Outside}
 use Rattle.pauli_group.specs.Inner.Groups.{Grouped}
-use Rattle.pauli_group.proofs.area.AreaLaws.{Alike, form-alike, form-room}
+use Rattle.binar.proofs.matrix_form.Alike.{Alike, form-alike}
+use Rattle.pauli_group.proofs.area.AreaLaws.{form-room}
 use Rattle.pauli_group.proofs.group.GroupLaws.{standards-few}
 use Rattle.pauli_group.proofs.list.ListLaws.{list-same}
 

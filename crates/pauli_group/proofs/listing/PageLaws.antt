@@ -27,7 +27,7 @@ use Rattle.pauli.proofs.roll.Told.{test-pass, test-refuses}
 use Rattle.pauli.proofs.write.Writers.{length-list}
 use Rattle.pauli_theory.specs.Group.{Promise}
 use Rattle.pauli_theory.specs.Listing.{countFrom, subsetAt, phaseCount, elementsOf, pageSize, page}
-use Rattle.pauli_theory.specs.Standard.{supportOf, standard, rank, phaseStep}
+use Rattle.pauli_theory.specs.Standard.{supportOf, standard, rank, phaseStep, stepOf}
 use Rattle.pauli_theory.proofs.Agree.{indexed-in}
 use Rattle.pauli_theory.proofs.Elements.{basis-count}
 use Rattle.pauli_theory.proofs.ListingElements.{select-first, first-standard, elements-law}
@@ -42,7 +42,7 @@ use Rattle.pauli_theory.proofs.Written.{written-over}
 use Rattle.pauli_group.specs.Inner.Area.{standardAt, spareAt}
 use Rattle.pauli_group.specs.Calls.{oneList, mostListed, pageBytes, elementsCall}
 use Rattle.pauli_group.specs.Inner.Groups.{overSupport, Grouped}
-use Rattle.pauli_group.specs.Inner.Lists.{clashOf, stepOf, stabilizerOf}
+use Rattle.pauli_group.specs.Inner.Lists.{clashOf, stabilizerOf}
 use Rattle.pauli_group.specs.declared.standard.Signs.{Signs}
 use Rattle.pauli_group.specs.Inner.Listed.{elementAt, elementsFrom}
 use Rattle.pauli_group.proofs.listing.ListingLaws.{pow-small, one-shifted}

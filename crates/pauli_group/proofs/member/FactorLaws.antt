@@ -14,7 +14,7 @@ use lib.ListN.{length, getD, take, drop, length-take, length-map}
 use lib.Pow.{mod-mod-pow}
 use lib.Seq.{getD-take, getD-drop}
 use Rattle.binar.specs.Echelon.{EchelonForm, rank as echelonRank}
-use Rattle.binar.specs.Layout.{formStride, formIn, Solvable}
+use Rattle.binar.specs.Layout.{formStride, formIn, FormLeft}
 use Rattle.binar.specs.Solve.{transposeSolve}
 use Rattle.binar.proofs.echelon.Bounds.{rank-rows}
 use Rattle.binar.proofs.echelon.Lists.{all-get}
@@ -37,13 +37,15 @@ use Rattle.pauli.proofs.roll.RollLaws.{answer-parts}
 use Rattle.pauli.proofs.condense.Sets.{set-has, set-only}
 use Rattle.pauli_theory.specs.Group.{Promise}
 use Rattle.pauli_theory.specs.Membership.{Factorization, exponentLeft, withPhase, factorizationOf}
-use Rattle.pauli_theory.specs.Standard.{supportOf, formOf, rank, ifZero}
+use Rattle.pauli_theory.specs.Standard.{supportOf, formOf, rank, ifZero, stepOf}
+use Rattle.pauli_theory.proofs.Phases.{with-phase}
 use Rattle.pauli_theory.proofs.IfZero.{ifZero-zero, ifZero-more}
 use Rattle.pauli_theory.proofs.OverPlaces.{placed, places-form, places-phaseStep, places-factorization, off-factorization}
 use Rattle.pauli_theory.proofs.Rows.{support-rises}
 use Rattle.pauli_group.specs.Inner.Area.{targetAt, listAt, standardAt, rowWords, strideOf}
-use Rattle.pauli_group.specs.Inner.Groups.{paulis, Grouped, overSupport}
-use Rattle.pauli_group.specs.Inner.Lists.{rowOver, clashOf, stepOf, stabilizerOf}
+use Rattle.pauli_group.specs.Inner.Groups.{Grouped, overSupport}
+use Rattle.pauli_group.specs.Calls.{paulis}
+use Rattle.pauli_group.specs.Inner.Lists.{rowOver, clashOf, stabilizerOf}
 use Rattle.pauli_group.specs.Inner.Members.{covered, Asked}
 use Rattle.pauli_group.proofs.area.AreaLaws.{form-room}
 use Rattle.pauli_group.proofs.group.GroupedLaws.{step-kinds, list-length}
@@ -133,7 +135,7 @@ module _ {gs : List Pauli} {known x : List ℕ} {places r total : ℕ} (G : Grou
   form-is = G .form ∙ places-form gs
 
   pub grouped-solvable : length gs ≤ 128 → places ≤ 128 → length x ≡ 4096
-      → Solvable x (strideOf (length gs)) (length gs) (2 * places) r targetAt
+      → FormLeft x (strideOf (length gs)) (length gs) (2 * places) r targetAt
   unfolding formIn formOf rank echelonRank strideOf formStride
   grouped-solvable few small size =
       let n = length gs in
@@ -170,7 +172,7 @@ module _ {known w : List ℕ} {n places r total step : ℕ} (g : Asked known w n
   abbrev gs : List Pauli
   gs = g .list
 
-  pub asked-solvable : n ≤ 128 → places ≤ 128 → length w ≡ 4096 → Solvable w (strideOf n) n (2 * places) r targetAt
+  pub asked-solvable : n ≤ 128 → places ≤ 128 → length w ≡ 4096 → FormLeft w (strideOf n) n (2 * places) r targetAt
   asked-solvable few small size =
       rw (g .size) (grouped-solvable (g .grouped) (rw (← g .size) few) small size)
 
@@ -234,7 +236,7 @@ module _ {known w : List ℕ} {n places r total step : ℕ} (g : Asked known w n
             ≡ ifZero (k % 4 % step) (some (record { indexes = set; exponent = k % 4 })) none
         unfolding withPhase
         answered =
-            factored ∙ ap (withPhase (g .promise) (placed gs) p′) (sym t)
+            factored ∙ ap (withPhase (g .promise) (placed gs) p′) (sym t) ∙ with-phase (g .promise) (placed gs) p′ set
             ∙ ap₂ (λ (a : ℕ) (b : ℕ). ifZero {X = Option Factorization} (a % b) (some (record { indexes = set; exponent = a })) none)
             (sym exponent-is) (places-phaseStep gs (g .promise) ∙ sym (g .step-is))
 

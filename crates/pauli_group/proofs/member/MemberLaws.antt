@@ -29,7 +29,8 @@ use Rattle.pauli.proofs.support.Lists.{in-getD}
 use Rattle.pauli.proofs.support.Walk.{lower-here, lower-next, insert-there, numbers-next, numbers-end}
 use Rattle.pauli_theory.proofs.IndexSets.{members-upTo}
 use Rattle.pauli_theory.proofs.OverPlaces.{upTo, upTo-length, upTo-at}
-use Rattle.pauli_group.specs.Inner.Members.{le16s, covered}
+use Rattle.pauli_group.specs.Inner.Members.{covered}
+use Rattle.pauli_group.specs.Calls.{le16s}
 
 -- ---- numbers in a support, one after the other
 

@@ -5,39 +5,34 @@ use mathlib.Core.Option.{some, none}
 use Prim.Native.Nat.{ℕ, zero, suc, _+_, _-_, _*_, _/_, _%_, _^_, _≤_, _<_}
 use native.Mathlib.Nat.{lt-of-lt-of-le}
 use native.Mathlib.Omega.{arith}
-use lib.Dec.{eqb, eqb·suc-zero}
+use lib.Dec.{eqb}
 use lib.ListN.{length, take, drop}
 use lib.Pow.{pow-mono}
 use Rattle.binar.specs.declared.matrix_form.Solution.the-variants.{Set, NoSet}
-use Rattle.binar.specs.Layout.{formStride, formIn, Solvable, swept, solution}
+use Rattle.binar.specs.Layout.{formStride, formIn, FormLeft, swept, solution}
 use Rattle.binar.specs.Solve.{solved, transposeSolve}
 use Rattle.binar.specs.Words.{rowAt, putRow, matrix}
 use Rattle.binar.proofs.echelon.Bounds.{sweep-lt}
 use Rattle.binar.proofs.echelon.Lists.{all-by}
 use Rattle.binar.proofs.echelon.Matrix.{matrix-lt}
 use Rattle.binar.proofs.row.Slice.{AreWords}
+use Rattle.binar.proofs.matrix_form.Alike.{form-alike, left-alike}
+use Rattle.binar.proofs.matrix_form.Solving.{solved-set, solved-none}
 use Rattle.binar.proofs.matrix_form.Sweep.{row-put, put-put, words-put}
 use Rattle.binar.proofs.matrix_form.Theorems.{solution-law}
 use Rattle.pauli.specs.declared.signed.Pauli.{Pauli as Held}
 use Rattle.pauli.specs.Signed.{held}
 use Rattle.pauli_group.specs.Inner.Area.{targetAt, rowWords, strideOf, Outside}
 use Rattle.pauli_group.specs.Inner.Lists.{rowOver}
-use Rattle.pauli_group.proofs.area.AreaLaws.{form-alike}
 use Rattle.pauli_group.proofs.list.ListLaws.{put-outside}
 use Rattle.pauli_group.proofs.rows.RowLaws.{put-join, row-lt}
 
 -- ---- a form before words that change
 
 module _ {i m : ℕ} {l x : List ℕ} (o : Outside i m l x) (s n cols rank place : ℕ)
-    (S : Solvable l s n cols rank place) (h : place ≤ i) where
-  pub solvable-kept : Solvable x s n cols rank place
-  solvable-kept = record {
-    rows = S .rows;
-    pivots = S .pivots;
-    target = omega (arith, o .size, S .target);
-    wide = S .wide;
-    inside = λ k b. rw (o .before (n * s + k) (omega (arith, S .pivots))) (S .inside k b);
-  }
+    (S : FormLeft l s n cols rank place) (h : place ≤ i) where
+  pub solvable-kept : FormLeft x s n cols rank place
+  solvable-kept = left-alike s n cols rank place l x (o .size) (λ k a b. o .before k (omega (arith, S .pivots))) S
 
   pub form-kept : (width : ℕ) → formIn s n width cols rank x ≡ formIn s n width cols rank l
   form-kept width =
@@ -47,7 +42,7 @@ module _ {i m : ℕ} {l x : List ℕ} (o : Outside i m l x) (s n cols rank place
 -- ---- a target of `width` words, solved for
 
 module _ (l : List ℕ) (f : AreWords l) (s n width cols rank place : ℕ)
-    (S : Solvable l s n cols rank place) (wide : cols ≤ 64 * width) (inside : width ≤ s) (v : ℕ) (small : v < 2 ^ (64 * width)) where
+    (S : FormLeft l s n cols rank place) (wide : cols ≤ 64 * width) (inside : width ≤ s) (v : ℕ) (small : v < 2 ^ (64 * width)) where
   abbrev x : List ℕ
   x = putRow l place s v
 
@@ -63,7 +58,7 @@ module _ (l : List ℕ) (f : AreWords l) (s n width cols rank place : ℕ)
   row : rowAt x place s ≡ v
   row = row-put l place s v (S .target) fits
 
-  pub target-solvable : Solvable x s n cols rank place
+  pub target-solvable : FormLeft x s n cols rank place
   target-solvable = solvable-kept written s n cols rank place S (omega arith)
 
   pub target-solved : solved (left % 2 ^ cols) (left / 2 ^ (64 * width)) ≡ transposeSolve cols (formIn s n width cols rank l) v
@@ -88,24 +83,10 @@ module _ (l : List ℕ) (f : AreWords l) (s n width cols rank place : ℕ)
     pub solved-outside : Outside place s l y
     solved-outside = subst (Outside place s l) (sym again) (put-outside l place s left (S .target))
 
--- what the answer says of a target and a set
-solved-set : (rest set : ℕ) → Set ≡ solution (eqb rest 0) → some set ≡ solved rest set
-unfolding solved
-solved-set zero set e = refl
-solved-set (suc rest) set e =
-    let same : Set ≡ NoSet = e ∙ ap solution (eqb·suc-zero rest) in
-    let z : _≡_ {A = ℕ} 0 1 = cc in
-    absurd (omega arith)
-
-solved-none : (rest set : ℕ) → NoSet ≡ solution (eqb rest 0) → none ≡ solved rest set
-unfolding solved
-solved-none zero set e = let z : _≡_ {A = ℕ} 0 1 = cc in absurd (omega arith)
-solved-none (suc rest) set e = refl
-
 -- ---- a Pauli's row as the target
 
 module _ (l : List ℕ) (f : AreWords l) (n s rank : ℕ) (p : Held) (few : s ≤ 128) (bx : held p .x < 2 ^ s) (bz : held p .z < 2 ^ s)
-    (S : Solvable l (strideOf n) n (2 * s) rank targetAt) (k : ℕ) (e : k ≡ strideOf n) (a b : List ℕ)
+    (S : FormLeft l (strideOf n) n (2 * s) rank targetAt) (k : ℕ) (e : k ≡ strideOf n) (a b : List ℕ)
     (ea : a ≡ putRow l (targetAt + rowWords) (k - rowWords) 0) (eb : b ≡ putRow a targetAt 4 (rowOver s (held p))) where
   abbrev v : ℕ
   v = rowOver s (held p)
@@ -124,7 +105,7 @@ module _ (l : List ℕ) (f : AreWords l) (n s rank : ℕ) (p : Held) (few : s �
       eb ∙ ap (λ (w : List ℕ). putRow w 1040 4 v) (ea ∙ ap (λ (m : ℕ). putRow l 1044 (m - 4) 0) e)
       ∙ put-join l 1040 4 (strideOf n - 4) v room v-lt ∙ ap (λ (m : ℕ). putRow l 1040 m v) j
 
-  pub pauli-solvable : Solvable b k n (2 * s) rank targetAt
+  pub pauli-solvable : FormLeft b k n (2 * s) rank targetAt
   pauli-solvable =
       rw (e, target) (target-solvable l f (strideOf n) n 4 (2 * s) rank targetAt S (omega arith) four v v-lt)
 

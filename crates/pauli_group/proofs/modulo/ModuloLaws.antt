@@ -9,19 +9,19 @@ use Rattle.binar.specs.Echelon.{EchelonForm, rank as echelonRank}
 use Rattle.binar.specs.Layout.{formIn}
 use Rattle.binar.proofs.echelon.Lists.{all-of, all-map, all-over, map-same}
 use Rattle.pauli.specs.Known.{Gathered}
-use Rattle.pauli.specs.Roll.{Sparse, support, write}
+use Rattle.pauli.specs.Roll.{Sparse, support}
 use Rattle.pauli.specs.Support.{mostQubits, All, Rising}
 use Rattle.pauli.proofs.support.Lists.{in-getD}
 use Rattle.pauli.specs.Condense.{listOf, condensed}
 use Rattle.pauli.specs.Pauli.{Pauli, normal}
 use Rattle.pauli.specs.Signed.{listIn}
-use Rattle.pauli.specs.Sets.{pauliOf, sparseOf}
+use Rattle.pauli.specs.Sets.{pauliOf}
 use Rattle.pauli.specs.Writing.{OnPlaces, rollOver}
 use Rattle.pauli.proofs.signed.Algebra.{normal-lt}
 use Rattle.pauli.proofs.write.Writers.{length-list}
 use Rattle.pauli_theory.specs.Group.{Promise}
 use Rattle.pauli_theory.specs.Modulo.{modulo}
-use Rattle.pauli_theory.specs.ModuloPlaces.{movedPauli, multipliedByAllOver}
+use Rattle.pauli_theory.specs.Inner.ModuloPlaces.{movedPauli, multipliedByAllOver}
 use Rattle.pauli_theory.specs.Standard.{supportOf, formOf, standard, rank, phaseStep, exponentMod}
 use Rattle.pauli_theory.proofs.ModuloPlaces.{left-in-joined, right-in-joined, pivots-fit, multipliedPlaces, places-modulo, modulo-on}
 use Rattle.pauli_theory.proofs.OverPlaces.{placed}
@@ -30,7 +30,8 @@ use Rattle.pauli_theory.proofs.Rows.{support-rises}
 use Rattle.pauli_theory.proofs.Theorems.{group-laws}
 use Rattle.pauli_theory.proofs.Written.{support-of, written-over}
 use Rattle.pauli_group.specs.Inner.Area.{standardAt, spareAt, rowWords, strideOf, targetAt, Outside}
-use Rattle.pauli_group.specs.Inner.Groups.{paulis, overSupport, Grouped}
+use Rattle.pauli_group.specs.Inner.Groups.{overSupport, Grouped}
+use Rattle.pauli_group.specs.Calls.{paulis, listBytes}
 use Rattle.pauli_group.proofs.member.FactorLaws.{grouped-solvable}
 use Rattle.pauli_group.proofs.group.GroupLaws.{known-is, places-are, places-few}
 use Rattle.pauli_group.proofs.list.ListLaws.{list-kept-after}
@@ -133,7 +134,7 @@ module _ {promise : Promise} {gs hs : List Pauli} {x : List ℕ} {n : ℕ} (left
   pub remainder-on : (m : ℕ) → m ≡ length (supportOf (gs ++ hs)) → OnPlaces m (listIn x spareAt n)
   remainder-on m e = rw (e, left .list) (condensed-on (supportOf (gs ++ hs)) (modulo promise gs hs))
 
-  pub remainder-written : (qs : List ℕ) → qs ≡ supportOf (gs ++ hs) → rollOver qs (listIn x spareAt n) ≡ write (map sparseOf (modulo promise gs hs))
+  pub remainder-written : (qs : List ℕ) → qs ≡ supportOf (gs ++ hs) → rollOver qs (listIn x spareAt n) ≡ listBytes (modulo promise gs hs)
   remainder-written qs e =
       ap₂ rollOver e (left .list)
       ∙ written-over (supportOf (gs ++ hs)) (support-rises (gs ++ hs)) (modulo promise gs hs) (modulo-on gs hs promise)

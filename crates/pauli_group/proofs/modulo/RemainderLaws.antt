@@ -21,7 +21,7 @@ use Rattle.pauli.specs.Signed.{held, pauliIn, listIn}
 use Rattle.pauli.proofs.signed.Algebra.{pauli-path, normal-lt, normal-times, times-normal-l, times-normal-r}
 use Rattle.pauli.proofs.signed.SignedLaws.{zero-bit}
 use Rattle.pauli.proofs.write.Writers.{length-list}
-use Rattle.pauli_theory.specs.ModuloPlaces.{movedSet, movedPauli, pivotPlace, multipliedAt, multipliedOver, multipliedByAllOver}
+use Rattle.pauli_theory.specs.Inner.ModuloPlaces.{movedSet, movedPauli, pivotPlace, multipliedAt, multipliedOver, multipliedByAllOver}
 use Rattle.pauli_theory.proofs.ModuloPlaces.{over-next, over-end, pivot-place}
 use Rattle.pauli_group.specs.Inner.Area.{standardAt, spareAt, strideOf, Outside}
 use Rattle.pauli_group.proofs.area.AreaLaws.{form-room}

@@ -25,7 +25,7 @@ use Rattle.pauli.proofs.signed.Algebra.{pauli-path}
 use Rattle.pauli.proofs.condense.CondenseLaws.{lower-at}
 use Rattle.pauli.proofs.places.Firsts.{First, skip}
 use Rattle.pauli.proofs.write.Writers.{length-list}
-use Rattle.pauli_theory.specs.ModuloPlaces.{movedSet, movedPauli}
+use Rattle.pauli_theory.specs.Inner.ModuloPlaces.{movedSet, movedPauli}
 use Rattle.pauli_theory.proofs.ModuloPlaces.{moved-none, moved-with, moved-without}
 use Rattle.pauli_group.specs.Inner.Area.{Outside}
 use Rattle.pauli_group.proofs.list.ListLaws.{list-at, on-places-at, pauli-kept}

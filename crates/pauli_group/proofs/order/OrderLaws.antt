@@ -1,29 +1,27 @@
--- Laws of comparison: by numbers of phases and ranks, and the refusals of the call.
-use mathlib.Core.Path.{_≡_, refl, sym, ap, ap₂, _∙_, subst}
+-- Laws of comparison: by numbers of phases and ranks, and what the call tells.
+use mathlib.Core.Path.{_≡_, sym, ap, ap₂, _∙_}
 use mathlib.Core.Bool.{Bool, true, false}
-use mathlib.Core.List.{List, _++_, map, map-append}
-use Prim.Native.Nat.{ℕ, zero, suc, _+_, _*_, _/_, _≤_, _<_}
+use mathlib.Core.List.{List, _++_, map}
+use Prim.Native.Nat.{ℕ, _+_, _/_, _≤_, _<_}
 use native.Mathlib.Omega.{arith}
-use borrow.Author.Tests.{lt-ltb, le-ltb, eq-eqb, ne-eqb, le-leb, lt-leb}
-use lib.Dec.{ltb, eqb, leb}
-use lib.ListN.{length, take, drop}
-use Rattle.pauli.specs.JoinCalls.{Counts, countsOf, readBoth, fewQubits}
+use borrow.Author.Tests.{eq-eqb, ne-eqb, le-leb, lt-leb}
+use lib.Dec.{eqb, leb}
+use lib.ListN.{length}
 use Rattle.pauli.specs.Condense.{listOf}
 use Rattle.pauli.specs.Pauli.{Pauli}
-use Rattle.pauli.specs.Roll.{mostPaulis, Sparse, support}
-use Rattle.pauli.specs.Support.{mostQubits}
-use Rattle.pauli.specs.Sets.{pauliOf}
-use Rattle.pauli.specs.Told.{Told, answer, refused, refuseIf, andThen, mapTold}
-use Rattle.pauli.proofs.joined.JoinLaws.{accepted, Joining, counts-joining, limits-refused}
-use Rattle.pauli.proofs.roll.Told.{test-pass, test-refuses}
+use Rattle.pauli.specs.Told.{Told, answer, refused, mapTold}
+use Rattle.pauli.proofs.joined.JoinLaws.{Joining}
 use Rattle.pauli_theory.specs.Group.{Promise, none}
 use Rattle.pauli_theory.specs.Order.{Order, equal, less, greater, noOrder, Ranks, ranksOf, and, sameRanks, noMore, firstOf, partialCmp}
 use Rattle.pauli_theory.specs.Standard.{rank, phaseStep}
-use Rattle.pauli_group.specs.Inner.Area.{workWords, enough, cleared, areaAfter}
-use Rattle.pauli_group.specs.Inner.Groups.{paulis, Described}
-use Rattle.pauli_group.specs.Calls.{Pair, twoLists, orderCall}
+use Rattle.pauli_group.specs.WorkArea.{workWords}
+use Rattle.pauli_group.specs.declared.group.Description.{Description}
+use Rattle.pauli_group.specs.Inner.Groups.{factsIn, factsOf}
+use Rattle.pauli_group.specs.Calls.{paulis, Pair, twoLists, orderCall}
 use Rattle.pauli_group.specs.Inner.Compare.{orderBy}
-use Rattle.pauli_group.proofs.group.GroupedLaws.{step-kinds, cleared-part}
+use Rattle.pauli_group.proofs.checks.TwoLists.{pair-long}
+use Rattle.pauli_group.proofs.group.GroupLaws.{facts-told}
+use Rattle.pauli_group.proofs.group.GroupedLaws.{step-kinds}
 
 -- ---- tests on two pairs of numbers
 
@@ -74,40 +72,20 @@ module _ (a b both : Ranks) where
 
 -- ---- the numbers of a described group
 
-module _ {promise : Promise} {gs : List Pauli} {r step clash stable : ℕ} (d : Described promise gs r step clash stable) where
-  pub step-positive : 0 < step
-  step-positive = omega (arith, d .step-is, step-kinds promise gs .0)
+module _ (promise : Promise) (gs : List Pauli) (d : Description) (e : factsIn d ≡ factsOf promise gs) where
+  pub step-positive : 0 < d .step
+  step-positive = omega (arith, facts-told promise gs d e .step-is, step-kinds promise gs .0)
 
-  pub ranks-are : (phases k : ℕ) → phases ≡ 4 / step → k ≡ r → record { phases = phases; rank = k } ≡ ranksOf promise gs
+  pub ranks-are : (phases k : ℕ) → phases ≡ 4 / d .step → k ≡ d .rank → record { phases = phases; rank = k } ≡ ranksOf promise gs
   unfolding ranksOf
-  ranks-are phases k ep ek = λ i. record { phases = (ep ∙ ap (4 /_) (d .step-is)) i; rank = (ek ∙ d .rank-is) i }
+  ranks-are phases k ep ek =
+      let f = facts-told promise gs d e in
+      λ i. record { phases = (ep ∙ ap (4 /_) (f .step-is)) i; rank = (ek ∙ f .rank-is) i }
 
 pub compared : (left right : Promise) (ls rs : List Pauli) (a b both : Ranks) → a ≡ ranksOf left ls → b ≡ ranksOf right rs → both ≡ ranksOf none (ls ++ rs)
     → orderBy a b both ≡ partialCmp left right ls rs
 unfolding orderBy partialCmp
 compared left right ls rs a b both ea eb ej = rw (ea, eb, ej)
-
--- ---- the call's refusals
-
-module _ (l r : List ℕ) (size : ℕ) where
-  pub pair-refused : (m p : ℕ) → countsOf l r ≡ refused m p → twoLists l r size ≡ refused m p
-  unfolding twoLists
-  pair-refused m p e = limits-refused l r (λ b. enough size (answer (record { left = paulis (b .left); right = paulis (b .right) }))) m p e
-
-  module _ (nl nr : ℕ) (j : Joining l r nl nr) where
-    pair : twoLists l r size ≡ enough size (answer (record { left = paulis (listOf l); right = paulis (listOf r) }))
-    unfolding twoLists readBoth andThen fewQubits
-    pair = rw (accepted l nl (j .left) .0, accepted r nr (j .right) .0, accepted l nl (j .left) .1, accepted r nr (j .right) .1)
-        (test-pass (ltb mostPaulis (nl + nr)) 2 0 _ (le-ltb mostPaulis (nl + nr) (j .few))
-        ∙ test-pass (ltb mostQubits (length (support (listOf l ++ listOf r)))) 7 0 _ (le-ltb mostQubits (length (support (listOf l ++ listOf r))) (j .qubits)))
-
-    pub pair-short : size < workWords → twoLists l r size ≡ refused 9 0
-    unfolding enough
-    pair-short h = pair ∙ test-refuses (ltb size workWords) 9 0 _ (lt-ltb size workWords h)
-
-    pub pair-long : workWords ≤ size → twoLists l r size ≡ answer (record { left = paulis (listOf l); right = paulis (listOf r) })
-    unfolding enough
-    pair-long h = pair ∙ test-pass (ltb size workWords) 9 0 _ (le-ltb size workWords h)
 
 -- ---- the call, answered and refused
 
@@ -116,15 +94,11 @@ module _ (l r work : List ℕ) where
   both = twoLists l r (length work)
 
   module _ {m p : ℕ} (e : both ≡ refused m p) (left right : Promise) where
-    pub order-refused : (refused m p ≡ orderCall left right l r (length work)) × (work ≡ areaAfter both work)
-    unfolding orderCall mapTold areaAfter
-    order-refused = (sym (ap (mapTold (λ b. partialCmp left right (b .left) (b .right))) e), sym (ap (λ (t : Told Pair). areaAfter t work) e))
+    pub order-refused : refused m p ≡ orderCall left right l r (length work)
+    unfolding orderCall mapTold
+    order-refused = sym (ap (mapTold (λ b. partialCmp left right (b .left) (b .right))) e)
 
   module _ (nl nr : ℕ) (j : Joining l r nl nr) (room : workWords ≤ length work) where
     pub order-answered : (left right : Promise) (o : Order) → o ≡ partialCmp left right (paulis (listOf l)) (paulis (listOf r)) → answer o ≡ orderCall left right l r (length work)
     unfolding orderCall mapTold
     order-answered left right o e = ap answer e ∙ sym (ap (mapTold (λ b. partialCmp left right (b .left) (b .right))) (pair-long l r (length work) nl nr j room))
-
-    pub order-cleared : (x : List ℕ) → x ≡ cleared (take workWords work) → x ++ drop workWords work ≡ areaAfter both work
-    unfolding areaAfter
-    order-cleared x e = ap (_++ drop workWords work) e ∙ cleared-part work room ∙ sym (ap (λ (t : Told Pair). areaAfter t work) (pair-long l r (length work) nl nr j room))

@@ -1,25 +1,27 @@
 -- Laws of the call for the quotient.
 use mathlib.Core.Path.{_≡_, refl, sym, ap, _∙_, subst}
 use mathlib.Core.Bool.{Bool, true, false, not, true≢false}
-use mathlib.Core.List.{List, _++_, map, Memᴰ·append-left, Memᴰ·append-right, List·Memᴰ as Mem, List·Memᴰ·append-cases as in-append}
+use mathlib.Core.List.{List, _++_, Memᴰ·append-left, Memᴰ·append-right, List·Memᴰ as Mem, List·Memᴰ·append-cases as in-append}
 use mathlib.Core.Logic.{⊎-elim}
 use mathlib.Core.Option.{some, none}
-use Prim.Native.Nat.{ℕ, _≤_}
+use Prim.Native.Nat.{ℕ, _+_, _≤_}
 use native.Mathlib.Omega.{arith}
 use lib.ListN.{length}
-use Rattle.pauli.specs.Roll.{Sparse, numbers, support, write}
+use Rattle.pauli.specs.Roll.{Sparse, numbers, support}
 use Rattle.pauli.specs.Told.{answer, refused}
+use Rattle.pauli.specs.Condense.{listOf}
+use Rattle.pauli.specs.Support.{mostQubits}
 use Rattle.pauli.proofs.roll.ListSupport.{numbers-append, support-length}
 use Rattle.pauli.specs.Pauli.{Pauli}
-use Rattle.pauli.specs.Sets.{sparseOf}
 use Rattle.pauli_theory.specs.Group.{Promise}
 use Rattle.pauli_theory.specs.Modulo.{modulo, ifBelow, tryQuotient}
 use Rattle.pauli_theory.specs.Order.{Order, equal, less, greater, noOrder, partialCmp}
-use Rattle.pauli_group.specs.Calls.{quotientBytes}
+use Rattle.pauli_group.specs.Calls.{listBytes, quotientBytes}
+use Rattle.pauli_group.specs.Inner.Lists.{Joinable}
 use Rattle.pauli_group.specs.Inner.Compare.{isBelow}
 
 -- the other way round two lists have as many qubits
-pub swapped-few : (ps qs : List Sparse) (k : ℕ) → length (support (ps ++ qs)) ≤ k → length (support (qs ++ ps)) ≤ k
+swapped-few : (ps qs : List Sparse) (k : ℕ) → length (support (ps ++ qs)) ≤ k → length (support (qs ++ ps)) ≤ k
 swapped-few ps qs k h = omega (arith, h, support-length (qs ++ ps) (ps ++ qs) inside)
   where
     inside : (n : ℕ) → Mem n (numbers (qs ++ ps)) → Mem n (numbers (ps ++ qs))
@@ -27,6 +29,15 @@ swapped-few ps qs k h = omega (arith, h, support-length (qs ++ ps) (ps ++ qs) in
         subst (Mem n) (sym (numbers-append ps qs))
         (⊎-elim (λ a. Memᴰ·append-right (numbers ps) a) (λ a. Memᴰ·append-left (numbers qs) a)
         (in-append (numbers qs) (subst (Mem n) (numbers-append qs ps) m)))
+
+pub swapped : {l r : List ℕ} {nl nr : ℕ} → Joinable l r nl nr → Joinable r l nr nl
+swapped {l} {r} {nl} {nr} j =
+    record {
+      left = j .right;
+      right = j .left;
+      few = omega (arith, j .few);
+      qubits = swapped-few (listOf l) (listOf r) mostQubits (j .qubits);
+    }
 
 turned : (b : Bool) → b ≡ not (not b)
 turned true = refl
@@ -40,7 +51,7 @@ module _ (left right : Promise) (gs hs : List Pauli) (order : Order) (e : order 
   below-none greater f = refl
   below-none noOrder f = refl
 
-  below-some : (o : Order) → isBelow o ≡ true → quotientBytes (ifBelow o (modulo right gs hs)) ≡ answer (write (map sparseOf (modulo right gs hs)))
+  below-some : (o : Order) → isBelow o ≡ true → quotientBytes (ifBelow o (modulo right gs hs)) ≡ answer (listBytes (modulo right gs hs))
   unfolding ifBelow quotientBytes
   below-some equal f = refl
   below-some less f = refl
@@ -51,6 +62,6 @@ module _ (left right : Promise) (gs hs : List Pauli) (order : Order) (e : order 
   unfolding tryQuotient
   quotient-none f = rw (← e) (below-none order (sym test ∙ turned b ∙ ap not f))
 
-  pub quotient-some : not b ≡ false → quotientBytes (tryQuotient left right gs hs) ≡ answer (write (map sparseOf (modulo right gs hs)))
+  pub quotient-some : not b ≡ false → quotientBytes (tryQuotient left right gs hs) ≡ answer (listBytes (modulo right gs hs))
   unfolding tryQuotient
   quotient-some f = rw (← e) (below-some order (sym test ∙ turned b ∙ ap not f))

@@ -6,13 +6,13 @@ use native.Mathlib.Omega.{arith}
 use lib.ListN.{length, getD, set, length-append}
 use lib.Seq.{sets, getD-set-same}
 use Rattle.pauli.specs.declared.signed.Pauli.{Pauli as Held}
-use Rattle.pauli.specs.Pauli.{Pauli, normal}
+use Rattle.pauli.specs.Pauli.{Pauli, normal, phase}
 use Rattle.pauli.specs.Signed.{held, pauliIn, pauliWords, listIn}
 use Rattle.pauli.specs.PlaceSet.{setIn}
 use Rattle.pauli.proofs.signed.Algebra.{pauli-path}
 use Rattle.pauli.proofs.signed.SignedLaws.{zero-bit}
 use Rattle.pauli.proofs.write.Writers.{listFrom, list-start, list-next, list-end, length-list}
-use Rattle.pauli_theory.specs.Standard.{ifZero, modulusOf, exponentMod, phase, appended}
+use Rattle.pauli_theory.specs.Standard.{ifZero, modulusOf, exponentMod, appended}
 use Rattle.pauli_theory.proofs.IfZero.{ifZero-zero, ifZero-more}
 use Rattle.pauli_group.specs.Inner.Area.{Outside}
 use Rattle.pauli_group.proofs.list.ListLaws.{list-append, list-one, list-snoc, outside-refl, outside-join, outside-wider, list-kept, pauli-kept-after, set-outside, store-outside, store-pauli}

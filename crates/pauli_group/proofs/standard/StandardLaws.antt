@@ -9,10 +9,10 @@ use Rattle.pauli.specs.Pauli.{Pauli}
 use Rattle.pauli.specs.Signed.{listIn}
 use Rattle.pauli.proofs.signed.SignedLaws.{zero-bit}
 use Rattle.pauli.proofs.write.Writers.{length-list}
-use Rattle.pauli_theory.specs.Standard.{ifZero, exponentMod, appended, someOrderFour, someAnticommute, someImaginary, someMinus}
+use Rattle.pauli_theory.specs.Standard.{ifZero, exponentMod, appended, someOrderFour, someAnticommute, someImaginary, someMinus, stepOf}
 use Rattle.pauli_theory.proofs.IfZero.{ifZero-zero, ifZero-more}
 use Rattle.pauli_group.specs.Inner.Area.{standardAt, Outside}
-use Rattle.pauli_group.specs.Inner.Lists.{fromProducts, stepOf, stabilizerOf}
+use Rattle.pauli_group.specs.Inner.Lists.{fromProducts, stabilizerOf}
 use Rattle.pauli_group.proofs.list.ListLaws.{list-append, outside-join, outside-wider}
 use Rattle.pauli_group.proofs.scan.PhaseLaws.{modulusIn}
 use Rattle.pauli_group.proofs.scan.ScanLaws.{more-than, search-lt, search-imaginary}

@@ -26,8 +26,8 @@ use Rattle.pauli_group.specs.Inner.Area.{Outside, listAt, standardAt, sp
 use Rattle.pauli_theory.proofs.OverPlaces.{placed}
 use Rattle.pauli_theory.proofs.SymplecticPlaces.{paired-alike, written-symplectic, symplectic-places-on}
 use Rattle.pauli_theory.proofs.Written.{support-of}
-use Rattle.pauli_group.specs.Inner.Groups.{paulis, overSupport}
-use Rattle.pauli_group.specs.Calls.{symplecticBytes}
+use Rattle.pauli_group.specs.Inner.Groups.{overSupport}
+use Rattle.pauli_group.specs.Calls.{paulis, symplecticBytes}
 use Rattle.pauli_group.specs.Inner.Lists.{overPlaces}
 use Rattle.pauli_group.specs.Inner.Pairs.{pairedIn, Plain, PairedTo}
 use Rattle.pauli_group.specs.declared.symplectic.Pairing.{Pairing}

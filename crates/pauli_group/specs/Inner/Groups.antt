@@ -8,16 +8,17 @@ use Rattle.binar.specs.Layout.{formIn}
 use Rattle.pauli.specs.Condense.{condensed}
 use Rattle.pauli.specs.Pauli.{Pauli, normal, indexedProduct}
 use Rattle.pauli.specs.Signed.{listIn}
-use Rattle.pauli.specs.Roll.{Sparse}
-use Rattle.pauli.specs.Sets.{pauliOf}
+use Rattle.pauli.specs.Refusals.{toldRefusal}
+use Rattle.pauli.specs.Told.{Told, answer, mapTold}
 use Rattle.pauli_theory.specs.Group.{Promise}
 use Rattle.pauli_theory.specs.Standard.{supportOf, formOf, standard, rank, nonabelian, phaseStep, stabilizer}
+use Rattle.pauli_group.specs.declared.group.Description.{Description}
+use Rattle.pauli_group.specs.declared.calls.DescriptionFound.{DescriptionFound}
+use Rattle.pauli_group.specs.declared.calls.DescriptionFound.the-variants.{Description as Described, Refused as DescriptionRefused}
+use Rattle.pauli_group.specs.WorkArea.{areaAfter}
+use Rattle.pauli_group.specs.Calls.{oneList}
 use Rattle.pauli_group.specs.Inner.Area.{listAt, standardAt, spareAt, rowWords, strideOf, Outside}
 use Rattle.pauli_group.specs.Inner.Lists.{formOver, fromProducts}
-
--- "A list is the Paulis of a roll in its order"
-unfoldable pub paulis : List Sparse → List Pauli
-paulis ps = map pauliOf ps
 
 -- the products of the Paulis ps that the rows of T name
 unfoldable pub productsNamed : EchelonForm → List Pauli → List Pauli
@@ -47,9 +48,26 @@ pub record Grouped (gs : List Pauli) (known x : List ℕ) (places rank′ total 
   pub count : total ≡ length (standard gs)
   pub standards : listIn x standardAt total ≡ standard (overSupport gs)
 
--- what the calls tell of the group of gs
-pub record Described (promise : Promise) (gs : List Pauli) (rank′ step clash stabilizer′ : ℕ) : Type 0 where
-  pub rank-is : rank′ ≡ rank gs
-  pub step-is : step ≡ phaseStep promise gs
-  pub clash-is : clash ≡ nonabelian promise gs
-  pub stabilizer-is : stabilizer′ ≡ stabilizer promise gs
+-- what the calls tell of a group: 0 or 1 for clash, two generators that anticommute, and for a stabilizer group
+pub record Facts : Type 0 where
+  pub rank : ℕ
+  pub step : ℕ
+  pub clash : ℕ
+  pub stabilizer : ℕ
+
+unfoldable pub factsOf : Promise → List Pauli → Facts
+factsOf promise gs =
+    record { rank = rank gs; step = phaseStep promise gs; clash = nonabelian promise gs; stabilizer = stabilizer promise gs }
+
+-- the facts that the code holds
+abbrev pub factsIn : Description → Facts
+factsIn d = record { rank = d .rank; step = d .step; clash = d .clash; stabilizer = d .stabilizer }
+
+abbrev pub toldFacts : DescriptionFound → Told Facts
+toldFacts (Described d) = answer (factsIn d)
+toldFacts (DescriptionRefused r) = toldRefusal r
+
+-- what the description of a list promises: what it tells, and the work area at exit
+pub record DescriptionCall (promise : Promise) (b work : List ℕ) (r : DescriptionFound) (work′ : List ℕ) : Type 0 where
+  pub told : toldFacts r ≡ mapTold (factsOf promise) (oneList b (length work))
+  pub area : work′ ≡ areaAfter (oneList b (length work)) work

@@ -1,12 +1,11 @@
 -- Membership in the work area.
 use mathlib.Core.Path.{_≡_}
 use mathlib.Core.Bool.{Bool, true, false, cond}
-use mathlib.Core.List.{List, [], _∷_, _++_}
+use mathlib.Core.List.{List, [], _∷_}
 use mathlib.Core.Option.{Option, some, none}
 use Prim.Native.Nat.{ℕ}
 use lib.Dec.{ltb}
 use lib.ListN.{length}
-use Rattle.pauli.specs.Bytes.{le16}
 use Rattle.pauli.specs.Pauli.{Pauli}
 use Rattle.pauli.specs.Known.{placeOf}
 use Rattle.pauli.specs.PlaceSet.{setIn}
@@ -37,11 +36,6 @@ factorsTold f = record { indexes = setIn (f .set); exponent = f .exponent }
 abbrev pub factoringTold : Factoring → Option Factorization
 factoringTold (Found f) = some (factorsTold f)
 factoringTold NotFound = none
-
--- numbers as two bytes each
-unfoldable pub le16s : List ℕ → List ℕ
-le16s [] = []
-le16s (n ∷ ns) = le16 n ++ le16s ns
 
 -- a list of n Paulis and a promise that an element is put to: the group of the list is in the area x, as in `Grouped`, and its
 -- phases have this step

@@ -10,7 +10,7 @@ use Rattle.pauli.specs.Signed.{listIn}
 use Rattle.pauli.specs.Writing.{OnPlaces}
 use Rattle.pauli_theory.specs.Group.{Promise}
 use Rattle.pauli_theory.specs.Modulo.{modulo}
-use Rattle.pauli_theory.specs.ModuloPlaces.{movedPauli, multipliedByAllOver}
+use Rattle.pauli_theory.specs.Inner.ModuloPlaces.{movedPauli, multipliedByAllOver}
 use Rattle.pauli_theory.specs.Standard.{supportOf}
 use Rattle.pauli_group.specs.Inner.Area.{standardAt, spareAt, strideOf}
 

@@ -6,13 +6,13 @@ use mathlib.Core.Bool.{cond}
 use Prim.Native.Nat.{ℕ, _+_, _*_, _/_, _%_, _≤_}
 use lib.Dec.{ltb}
 use lib.ListN.{length, take}
-use Rattle.binar.specs.Layout.{formIn, Solvable}
+use Rattle.binar.specs.Layout.{formIn, FormLeft}
 use Rattle.pauli.specs.Pauli.{Pauli}
 use Rattle.pauli.specs.Signed.{listIn}
 use Rattle.pauli_theory.specs.Standard.{supportOf, standard}
 use Rattle.pauli_theory.specs.Common.{withExponent}
-use Rattle.pauli_theory.specs.CommonPlaces.{formOfPlaces, commonProducts, sharedExponent, solvedExponent}
-use Rattle.pauli_theory.specs.ModuloPlaces.{movedPauli}
+use Rattle.pauli_theory.specs.Inner.CommonPlaces.{formOfPlaces, commonProducts, sharedExponent, solvedExponent}
+use Rattle.pauli_theory.specs.Inner.ModuloPlaces.{movedPauli}
 use Rattle.pauli_group.specs.Inner.Area.{targetAt, listAt, spareAt, rowWords, strideOf}
 use Rattle.pauli_group.specs.Inner.Groups.{overSupport}
 
@@ -44,7 +44,7 @@ basisOver gs hs = let qs = supportOf (gs ++ hs) in commonProducts (length qs) (s
 -- the list of n Paulis over so many places in the area x, and its form, by which an element can be solved for
 pub record Solving (x : List ℕ) (n places rank : ℕ) : Type 0 where
   pub form : formIn (strideOf n) n rowWords (2 * places) rank x ≡ formOfPlaces places (listIn x listAt n)
-  pub solvable : Solvable x (strideOf n) n (2 * places) rank targetAt
+  pub solvable : FormLeft x (strideOf n) n (2 * places) rank targetAt
   pub few : n ≤ 128
   pub small : places ≤ 128
 

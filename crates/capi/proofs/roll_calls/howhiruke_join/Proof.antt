@@ -14,7 +14,7 @@ same-length : tie.Need-same-length
 same-length c = search needs
 
 returns : tie.Need-returns
-returns c = record { told = c .code-wrote .ensures ∙ ap codeNumber (c .before .before .before .join .ensures .0); left = c .before .before .before .join .ensures .1 }
+returns c = record { told = c .code-wrote .ensures ∙ ap codeNumber (c .before .before .before .join .ensures .told); left = c .before .before .before .join .ensures .left }
 
 pub howhiruke-join-spec : {M : Type 1} → statement M
 howhiruke-join-spec = tie.close (tie.spec join-requires code-wrote-requires same-length returns)

@@ -14,7 +14,7 @@ same-length : tie.Need-same-length
 same-length c = search needs
 
 returns : tie.Need-returns
-returns c = record { told = c .code-wrote .ensures ∙ ap codeNumber (c .before .before .before .product .ensures .0); left = c .before .before .before .product .ensures .1 }
+returns c = record { told = c .code-wrote .ensures ∙ ap codeNumber (c .before .before .before .product .ensures .told); left = c .before .before .before .product .ensures .left }
 
 pub howhiruke-product-spec : {M : Type 1} → statement M
 howhiruke-product-spec =

@@ -3,7 +3,7 @@ use native.Mathlib.Omega.{arith}
 use Rattle.pauli.specs.Told.{answer}
 use Rattle.pauli.proofs.joined.JoinLaws.{accepted-table, accepted-room}
 use Rattle.capi.specs.Code.{codeBody}
-use Rattle.capi.specs.Stretch.{Stretch}
+use Rattle.pauli.specs.JoinCalls.{Stretch}
 use Rattle.capi.proofs.roll_calls.StretchLaws.{stretch-is}
 use borrow.Author.Needs.{needs}
 use Rattle.capi.proofs.roll_calls.stretch_in.Statement.{statement}

@@ -1,4 +1,4 @@
--- The group is built, the elements are put to it, the text is written, and the area is cleared.
+-- The group is built, the elements are put to it, and the text is written.
 use mathlib.Core.Path.{_≡_, ap, _∙_}
 use mathlib.Core.List.{List}
 use Prim.Native.Nat.{ℕ}
@@ -11,7 +11,7 @@ use Rattle.pauli.specs.Writing.{toldBytes, leftIn}
 use Rattle.pauli_theory.specs.Group.{none}
 use Rattle.pauli_group.proofs.member.FactorLaws.{asked-of}
 use Rattle.pauli_group.proofs.group.GroupLaws.{described}
-use Rattle.pauli_group.proofs.group.GroupedLaws.{cleared-whole, group-total, group-places, list-few, list-length}
+use Rattle.pauli_group.proofs.group.GroupedLaws.{group-total, group-places, list-few, list-length}
 use Rattle.closing_report.proofs.report.CallLaws.{report-text}
 use borrow.Author.Needs.{needs}
 use Rattle.closing_report.proofs.report.write_report.Statement.{statement}
@@ -58,13 +58,6 @@ write-listing-requires c κs =
     let few = accepted-few _ _ (s .pre .1) in
     (omega (arith, few, put .factor-all .kept .1 .1 .1 .1 .1 .1 .0, made .group-of .kept .1 .1 .1 .0, s .pre .2), omega (arith, few))
 
-clear-bits-requires : tie.Need-clear-bits-requires
-clear-bits-requires c κs =
-    let put = c .before .before .before .before .before .before .before .before in
-    let made = put .before .before .before .before .before .before .before .before in
-    let s = made .before .before .before .before .before .before .before in
-    omega (arith, put .factor-all .kept .1 .1 .1 .1 .1 .1 .0, made .group-of .kept .1 .1 .1 .0, s .pre .2)
-
 same-length : tie.Need-same-length
 same-length c = search needs
 
@@ -74,26 +67,19 @@ same-length-2 c = search needs
 returns : tie.Need-returns
 unfolding asked-of
 returns c =
-    let written = c .before .before .before .before .before .before in
+    let written = c .before .before in
     let put = written .before .before .before .before .before in
     let told = put .before .before .before in
     let made = told .before .before .before .before .before in
     let s = made .before .before .before .before .before .before .before in
     let group = made .group-of in
     let signs = told .signs-of .ensures in
-    let all = put .factor-all in
     let wrote = written .write-listing .ensures in
     let numbers = described (group .ensures .0) none _ _ _ (signs .0) (signs .1 .0) (signs .1 .1) in
-    let results = all .ensures (asked-of _ _ (s .pre .0) (group .ensures .0) none (signs .0) (signs .1 .0) (signs .1 .1)) in
+    let results = put .factor-all .ensures (asked-of _ _ (s .pre .0) (group .ensures .0) none (signs .0) (signs .1 .0) (signs .1 .1)) in
     let text = report-text _ _ _ _ _ _ (numbers .rank-is) (numbers .step-is) (numbers .clash-is) results in
     let out = s .args .out .now in
-    let size = all .kept .1 .1 .1 .1 .1 .1 .0 ∙ group .kept .1 .1 .1 .0 ∙ s .pre .2 in (
-      wrote .0 ∙ ap (λ (t : List ℕ). toldBytes (answer t) out) text,
-      (
-        wrote .1 ∙ ap (λ (t : List ℕ). leftIn (answer t) out) text,
-        c .before .before .clear-bits .ensures ∙ cleared-whole _ _ size (s .pre .2),
-      ),
-    )
+    (wrote .0 ∙ ap (λ (t : List ℕ). toldBytes (answer t) out) text, wrote .1 ∙ ap (λ (t : List ℕ). leftIn (answer t) out) text)
 
 pub write-report-spec : {M : Type 1} → statement M
 write-report-spec =
@@ -105,7 +91,6 @@ write-report-spec =
     slice-aggregate-factor-all
     factor-all-requires
     write-listing-requires
-    clear-bits-requires
     same-length
     same-length-2
     returns)

@@ -1,9 +1,9 @@
 -- Three stores.
+use mathlib.Core.Path.{refl}
 use native.Mathlib.Omega.{arith}
 use borrow.Author.Needs.{needs}
 use lib.ListN.{length-set}
-use Rattle.pauli.specs.PlaceSet.{setIn}
-use Rattle.closing_report.proofs.stored.StoredLaws.{member-stored}
+use Rattle.closing_report.specs.Stored.{putMember}
 use Rattle.closing_report.proofs.stored.store_member.Statement.{statement}
 use Rattle.closing_report.proofs.stored.store_member.Tie as tie
 
@@ -35,8 +35,8 @@ same-length : tie.Need-same-length
 same-length c = search needs
 
 returns : tie.Need-returns
-unfolding setIn
-returns c = member-stored _ _ (c .pre .0) _ _ _ (c .pre .1)
+unfolding putMember
+returns c = refl
 
 pub store-member-spec : {M : Type 1} → statement M
 store-member-spec =

@@ -1,6 +1,7 @@
 -- One store.
+use mathlib.Core.Path.{refl}
 use borrow.Author.Needs.{needs}
-use Rattle.closing_report.proofs.stored.StoredLaws.{other-stored}
+use Rattle.closing_report.specs.Stored.{putOther}
 use Rattle.closing_report.proofs.stored.store_other.Statement.{statement}
 use Rattle.closing_report.proofs.stored.store_other.Tie as tie
 
@@ -14,7 +15,8 @@ same-length : tie.Need-same-length
 same-length c = search needs
 
 returns : tie.Need-returns
-returns c = other-stored _ _ (c .pre)
+unfolding putOther
+returns c = refl
 
 pub store-other-spec : {M : Type 1} → statement M
 store-other-spec = tie.close (tie.spec mul-w slice-write-w same-length returns)

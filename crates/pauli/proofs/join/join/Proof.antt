@@ -15,7 +15,7 @@ enum-known-found : tie.Need-enum-known-found
 enum-known-found c = search needs
 
 returns : tie.Need-returns
-returns c = join-refused (c .before .before .before .before .before .before .before .args .left .now) (c .before .before .before .before .before .before .before .args .right .now) (c .before .before .before .before .before .before .before .args .out .now) _ _ (sym (c .before .before .before .joined-counts .ensures) ∙ ap toldCounts (c .before .found .given .1))
+returns c = join-refused (c .before .before .before .before .before .before .before .args .left .now) (c .before .before .before .before .before .before .before .args .right .now) (c .before .before .before .before .before .before .before .args .out .now) _ _ _ refl (sym (c .before .before .before .joined-counts .ensures) ∙ ap toldCounts (c .before .found .given .1))
 
 enum-known-found-2 : tie.Need-enum-known-found-2
 enum-known-found-2 c = search needs
@@ -51,7 +51,7 @@ unfolding mostPaulis
 add-size-4 c = omega (arith, (counts-joining (c .before .before .before .before .before .before .before .before .before .args .left .now) (c .before .before .before .before .before .before .before .before .before .args .right .now) _ (sym (c .before .before .before .before .before .joined-counts .ensures) ∙ ap toldCounts (c .before .before .before .found2 .given .1))) .few, accepted-bound (c .before .before .before .before .before .before .before .before .before .args .left .now) _ ((counts-joining (c .before .before .before .before .before .before .before .before .before .args .left .now) (c .before .before .before .before .before .before .before .before .before .args .right .now) _ (sym (c .before .before .before .before .before .joined-counts .ensures) ∙ ap toldCounts (c .before .before .before .found2 .given .1))) .left) (λ q. c .before .before .before .before .before .before .before .before .shared-slice-known .given q .fits), accepted-bound (c .before .before .before .before .before .before .before .before .before .args .right .now) _ ((counts-joining (c .before .before .before .before .before .before .before .before .before .args .left .now) (c .before .before .before .before .before .before .before .before .before .args .right .now) _ (sym (c .before .before .before .before .before .joined-counts .ensures) ∙ ap toldCounts (c .before .before .before .found2 .given .1))) .right) (λ q. c .before .before .before .before .before .before .before .shared-slice-known2 .given q .fits), c .before .numbers-of .ensures, c .numbers-of2 .ensures)
 
 returns-2 : tie.Need-returns-2
-returns-2 c = join-short (c .before .before .before .before .before .before .before .before .before .before .args .left .now) (c .before .before .before .before .before .before .before .before .before .before .args .right .now) (c .before .before .before .before .before .before .before .before .before .before .args .out .now) _ _ (counts-joining (c .before .before .before .before .before .before .before .before .before .before .args .left .now) (c .before .before .before .before .before .before .before .before .before .before .args .right .now) _ (sym (c .before .before .before .before .before .before .joined-counts .ensures) ∙ ap toldCounts (c .before .before .before .before .found2 .given .1))) _ (joined-size (c .before .before .before .before .before .before .before .before .before .before .args .left .now) (c .before .before .before .before .before .before .before .before .before .before .args .right .now) _ _ ((counts-joining (c .before .before .before .before .before .before .before .before .before .before .args .left .now) (c .before .before .before .before .before .before .before .before .before .before .args .right .now) _ (sym (c .before .before .before .before .before .before .joined-counts .ensures) ∙ ap toldCounts (c .before .before .before .before .found2 .given .1))) .left) ((counts-joining (c .before .before .before .before .before .before .before .before .before .before .args .left .now) (c .before .before .before .before .before .before .before .before .before .before .args .right .now) _ (sym (c .before .before .before .before .before .before .joined-counts .ensures) ∙ ap toldCounts (c .before .before .before .before .found2 .given .1))) .right) (c .before .before .numbers-of .result) (c .before .before .numbers-of .ensures) (c .before .numbers-of2 .result) (c .before .numbers-of2 .ensures)) (c .if1 .taken)
+returns-2 c = join-short (c .before .before .before .before .before .before .before .before .before .before .args .left .now) (c .before .before .before .before .before .before .before .before .before .before .args .right .now) (c .before .before .before .before .before .before .before .before .before .before .args .out .now) _ _ (counts-joining (c .before .before .before .before .before .before .before .before .before .before .args .left .now) (c .before .before .before .before .before .before .before .before .before .before .args .right .now) _ (sym (c .before .before .before .before .before .before .joined-counts .ensures) ∙ ap toldCounts (c .before .before .before .before .found2 .given .1))) _ (joined-size (c .before .before .before .before .before .before .before .before .before .before .args .left .now) (c .before .before .before .before .before .before .before .before .before .before .args .right .now) _ _ ((counts-joining (c .before .before .before .before .before .before .before .before .before .before .args .left .now) (c .before .before .before .before .before .before .before .before .before .before .args .right .now) _ (sym (c .before .before .before .before .before .before .joined-counts .ensures) ∙ ap toldCounts (c .before .before .before .before .found2 .given .1))) .left) ((counts-joining (c .before .before .before .before .before .before .before .before .before .before .args .left .now) (c .before .before .before .before .before .before .before .before .before .before .args .right .now) _ (sym (c .before .before .before .before .before .before .joined-counts .ensures) ∙ ap toldCounts (c .before .before .before .before .found2 .given .1))) .right) (c .before .before .numbers-of .result) (c .before .before .numbers-of .ensures) (c .before .numbers-of2 .result) (c .before .numbers-of2 .ensures)) (c .if1 .taken) _ refl
 
 put-joined-requires : tie.Need-put-joined-requires
 put-joined-requires c κs = ((counts-joining (c .before .before .before .before .before .before .before .before .before .before .before .args .left .now) (c .before .before .before .before .before .before .before .before .before .before .before .args .right .now) _ (sym (c .before .before .before .before .before .before .before .joined-counts .ensures) ∙ ap toldCounts (c .before .before .before .before .before .found2 .given .1))) .left, (counts-joining (c .before .before .before .before .before .before .before .before .before .before .before .args .left .now) (c .before .before .before .before .before .before .before .before .before .before .before .args .right .now) _ (sym (c .before .before .before .before .before .before .before .joined-counts .ensures) ∙ ap toldCounts (c .before .before .before .before .before .found2 .given .1))) .right, omega (arith, joined-size (c .before .before .before .before .before .before .before .before .before .before .before .args .left .now) (c .before .before .before .before .before .before .before .before .before .before .before .args .right .now) _ _ ((counts-joining (c .before .before .before .before .before .before .before .before .before .before .before .args .left .now) (c .before .before .before .before .before .before .before .before .before .before .before .args .right .now) _ (sym (c .before .before .before .before .before .before .before .joined-counts .ensures) ∙ ap toldCounts (c .before .before .before .before .before .found2 .given .1))) .left) ((counts-joining (c .before .before .before .before .before .before .before .before .before .before .before .args .left .now) (c .before .before .before .before .before .before .before .before .before .before .before .args .right .now) _ (sym (c .before .before .before .before .before .before .before .joined-counts .ensures) ∙ ap toldCounts (c .before .before .before .before .before .found2 .given .1))) .right) (c .before .before .before .numbers-of .result) (c .before .before .before .numbers-of .ensures) (c .before .before .numbers-of2 .result) (c .before .before .numbers-of2 .ensures), c .before .if1 .left))
@@ -60,7 +60,7 @@ same-length : tie.Need-same-length
 same-length c = search needs
 
 returns-3 : tie.Need-returns-3
-returns-3 c = join-long (c .before .before .before .before .before .before .before .before .before .before .before .before .before .before .args .left .now) (c .before .before .before .before .before .before .before .before .before .before .before .before .before .before .args .right .now) (c .before .before .before .before .before .before .before .before .before .before .before .before .before .before .args .out .now) _ _ (counts-joining (c .before .before .before .before .before .before .before .before .before .before .before .before .before .before .args .left .now) (c .before .before .before .before .before .before .before .before .before .before .before .before .before .before .args .right .now) _ (sym (c .before .before .before .before .before .before .before .before .before .before .joined-counts .ensures) ∙ ap toldCounts (c .before .before .before .before .before .before .before .before .found2 .given .1))) _ (joined-size (c .before .before .before .before .before .before .before .before .before .before .before .before .before .before .args .left .now) (c .before .before .before .before .before .before .before .before .before .before .before .before .before .before .args .right .now) _ _ ((counts-joining (c .before .before .before .before .before .before .before .before .before .before .before .before .before .before .args .left .now) (c .before .before .before .before .before .before .before .before .before .before .before .before .before .before .args .right .now) _ (sym (c .before .before .before .before .before .before .before .before .before .before .joined-counts .ensures) ∙ ap toldCounts (c .before .before .before .before .before .before .before .before .found2 .given .1))) .left) ((counts-joining (c .before .before .before .before .before .before .before .before .before .before .before .before .before .before .args .left .now) (c .before .before .before .before .before .before .before .before .before .before .before .before .before .before .args .right .now) _ (sym (c .before .before .before .before .before .before .before .before .before .before .joined-counts .ensures) ∙ ap toldCounts (c .before .before .before .before .before .before .before .before .found2 .given .1))) .right) (c .before .before .before .before .before .before .numbers-of .result) (c .before .before .before .before .before .before .numbers-of .ensures) (c .before .before .before .before .before .numbers-of2 .result) (c .before .before .before .before .before .numbers-of2 .ensures)) (c .before .before .before .before .if1 .left) _ (c .before .before .put-joined .ensures)
+returns-3 c = join-long (c .before .before .before .before .before .before .before .before .before .before .before .before .before .before .args .left .now) (c .before .before .before .before .before .before .before .before .before .before .before .before .before .before .args .right .now) (c .before .before .before .before .before .before .before .before .before .before .before .before .before .before .args .out .now) _ _ (counts-joining (c .before .before .before .before .before .before .before .before .before .before .before .before .before .before .args .left .now) (c .before .before .before .before .before .before .before .before .before .before .before .before .before .before .args .right .now) _ (sym (c .before .before .before .before .before .before .before .before .before .before .joined-counts .ensures) ∙ ap toldCounts (c .before .before .before .before .before .before .before .before .found2 .given .1))) _ (joined-size (c .before .before .before .before .before .before .before .before .before .before .before .before .before .before .args .left .now) (c .before .before .before .before .before .before .before .before .before .before .before .before .before .before .args .right .now) _ _ ((counts-joining (c .before .before .before .before .before .before .before .before .before .before .before .before .before .before .args .left .now) (c .before .before .before .before .before .before .before .before .before .before .before .before .before .before .args .right .now) _ (sym (c .before .before .before .before .before .before .before .before .before .before .joined-counts .ensures) ∙ ap toldCounts (c .before .before .before .before .before .before .before .before .found2 .given .1))) .left) ((counts-joining (c .before .before .before .before .before .before .before .before .before .before .before .before .before .before .args .left .now) (c .before .before .before .before .before .before .before .before .before .before .before .before .before .before .args .right .now) _ (sym (c .before .before .before .before .before .before .before .before .before .before .joined-counts .ensures) ∙ ap toldCounts (c .before .before .before .before .before .before .before .before .found2 .given .1))) .right) (c .before .before .before .before .before .before .numbers-of .result) (c .before .before .before .before .before .before .numbers-of .ensures) (c .before .before .before .before .before .numbers-of2 .result) (c .before .before .before .before .before .numbers-of2 .ensures)) (c .before .before .before .before .if1 .left) _ refl _ (c .before .before .put-joined .ensures)
 
 pub join-spec : {M : Type 1} → statement M
 join-spec =

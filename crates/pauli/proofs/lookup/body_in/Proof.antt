@@ -1,5 +1,7 @@
 -- The body stands where the entry says, within the roll.
-use Rattle.pauli.proofs.joined.JoinLaws.{accepted-table, accepted-room, accepted-body}
+use Rattle.pauli.proofs.joined.JoinLaws.{accepted-table, accepted-room, accepted-start, accepted-body}
+use Prim.Native.Nat.{ℕ}
+use Rattle.pauli.specs.JoinCalls.{bytesPast}
 use mathlib.Core.Path.{_≡_, refl, sym, ap, _∙_}
 use native.Mathlib.Omega.{arith}
 use borrow.Author.Needs.{needs}
@@ -40,7 +42,13 @@ part-result-end : tie.Need-part-result-end
 part-result-end c = omega (arith, accepted-room (c .before .before .before .before .args .b .now) (c .before .before .before .before .args .n) (c .before .before .before .before .pre .0) (c .before .before .before .before .args .i) (c .before .before .before .before .pre .1) (c .before .before .entry-at .result) (c .before .before .entry-at .ensures .0))
 
 returns : tie.Need-returns
-returns c = accepted-body (c .before .before .before .before .before .args .b .now) (c .before .before .before .before .before .args .n) (c .before .before .before .before .before .pre .0) (c .before .before .before .before .before .args .i) (c .before .before .before .before .before .pre .1) (c .before .before .before .entry-at .result) (c .before .before .before .entry-at .ensures .0) _ _ refl refl
+returns c =
+    let read = c .before .before .before in
+    let s = read .before .before in
+    let b = s .args .b in
+    let start = accepted-start (b .now) (s .args .n) (s .pre .0) (s .args .i) (s .pre .1) (read .entry-at .result) (read .entry-at .ensures .0) 0 _ refl in
+    let body = accepted-body (b .now) (s .args .n) (s .pre .0) (s .args .i) (s .pre .1) (read .entry-at .result) (read .entry-at .ensures .0) _ _ refl refl in
+    (body, ap (λ (k : ℕ). bytesPast k (b .ptr)) start)
 
 pub body-in-spec : {M : Type 1} → statement M
 body-in-spec =

@@ -1,5 +1,6 @@
 -- Of left, of right, or empty.
-use Rattle.pauli.proofs.joined.JoinLaws.{counts-joining, body-refused, body-left, body-right, body-past}
+use Rattle.pauli.proofs.joined.JoinLaws.{counts-joining, stretch-refused, stretch-left, stretch-right, stretch-past, body-refused, body-left, body-right, body-past}
+use Rattle.pauli.specs.JoinCalls.{stretchIn, addressOf}
 use Rattle.pauli.specs.JoinAnswers.{toldCounts}
 use mathlib.Core.Path.{_≡_, refl, sym, ap, _∙_}
 use native.Mathlib.Omega.{arith}
@@ -23,7 +24,14 @@ part-result-end : tie.Need-part-result-end
 part-result-end c = search needs
 
 returns : tie.Need-returns
-returns c = sym (body-refused (c .before .before .before .before .before .before .before .args .left .now) (c .before .before .before .before .before .before .before .args .right .now) (c .before .before .before .before .before .before .before .args .n) _ _ (sym (c .before .before .before .before .joined-counts .ensures) ∙ ap toldCounts (c .before .before .found .given .1)))
+unfolding addressOf
+returns c =
+    let found = c .before .before in
+    let s = found .before .before .before .before .before in
+    let counts = sym (found .before .before .joined-counts .ensures) ∙ ap toldCounts (found .found .given .1) in (
+      sym (body-refused (s .args .left .now) (s .args .right .now) (s .args .n) _ _ counts),
+      sym (ap (addressOf (s .args .left .ptr) (s .args .right .ptr)) (stretch-refused (s .args .left .now) (s .args .right .now) (s .args .n) _ _ counts)),
+    )
 
 enum-known-found-2 : tie.Need-enum-known-found-2
 enum-known-found-2 c = search needs
@@ -32,13 +40,32 @@ body-in-requires : tie.Need-body-in-requires
 body-in-requires c κs = ((counts-joining (c .before .before .before .before .before .before .before .args .left .now) (c .before .before .before .before .before .before .before .args .right .now) _ (sym (c .before .before .before .before .joined-counts .ensures) ∙ ap toldCounts (c .before .before .found2 .given .1))) .left, c .if1 .taken)
 
 returns-2 : tie.Need-returns-2
-returns-2 c = c .body-in .ensures ∙ sym (body-left (c .before .before .before .before .before .before .before .before .args .left .now) (c .before .before .before .before .before .before .before .before .args .right .now) (c .before .before .before .before .before .before .before .before .args .n) _ _ (counts-joining (c .before .before .before .before .before .before .before .before .args .left .now) (c .before .before .before .before .before .before .before .before .args .right .now) _ (sym (c .before .before .before .before .before .joined-counts .ensures) ∙ ap toldCounts (c .before .before .before .found2 .given .1))) (c .before .if1 .taken))
+unfolding addressOf stretchIn
+returns-2 c =
+    let found = c .before .before .before in
+    let s = found .before .before .before .before .before in
+    let l = s .args .left in
+    let r = s .args .right in
+    let j = counts-joining (l .now) (r .now) _ (sym (found .before .before .joined-counts .ensures) ∙ ap toldCounts (found .found2 .given .1)) in (
+      c .body-in .ensures .0 ∙ sym (body-left (l .now) (r .now) (s .args .n) _ _ j (c .before .if1 .taken)),
+      c .body-in .ensures .1 ∙ sym (ap (addressOf (l .ptr) (r .ptr)) (stretch-left (l .now) (r .now) (s .args .n) _ _ j (c .before .if1 .taken))),
+    )
 
 body-in-requires-2 : tie.Need-body-in-requires-2
 body-in-requires-2 c κs = ((counts-joining (c .before .before .before .before .before .before .before .before .args .left .now) (c .before .before .before .before .before .before .before .before .args .right .now) _ (sym (c .before .before .before .before .before .joined-counts .ensures) ∙ ap toldCounts (c .before .before .before .found2 .given .1))) .right, c .if2 .taken)
 
 returns-3 : tie.Need-returns-3
-returns-3 c = c .body-in2 .ensures ∙ sym (body-right (c .before .before .before .before .before .before .before .before .before .args .left .now) (c .before .before .before .before .before .before .before .before .before .args .right .now) (c .before .before .before .before .before .before .before .before .before .args .n) _ _ (counts-joining (c .before .before .before .before .before .before .before .before .before .args .left .now) (c .before .before .before .before .before .before .before .before .before .args .right .now) _ (sym (c .before .before .before .before .before .before .joined-counts .ensures) ∙ ap toldCounts (c .before .before .before .before .found2 .given .1))) (c .before .before .if1 .left) (c .before .if2 .taken))
+unfolding addressOf stretchIn
+returns-3 c =
+    let found = c .before .before .before .before in
+    let s = found .before .before .before .before .before in
+    let l = s .args .left in
+    let r = s .args .right in
+    let j = counts-joining (l .now) (r .now) _ (sym (found .before .before .joined-counts .ensures) ∙ ap toldCounts (found .found2 .given .1)) in
+    let past = c .before .before .if1 .left in (
+      c .body-in2 .ensures .0 ∙ sym (body-right (l .now) (r .now) (s .args .n) _ _ j past (c .before .if2 .taken)),
+      c .body-in2 .ensures .1 ∙ sym (ap (addressOf (l .ptr) (r .ptr)) (stretch-right (l .now) (r .now) (s .args .n) _ _ j past (c .before .if2 .taken))),
+    )
 
 sub-result-2 : tie.Need-sub-result-2
 sub-result-2 c = search needs
@@ -50,7 +77,16 @@ part-result-end-2 : tie.Need-part-result-end-2
 part-result-end-2 c = search needs
 
 returns-4 : tie.Need-returns-4
-returns-4 c = sym (body-past (c .before .before .before .before .before .before .before .before .before .args .left .now) (c .before .before .before .before .before .before .before .before .before .args .right .now) (c .before .before .before .before .before .before .before .before .before .args .n) _ _ (counts-joining (c .before .before .before .before .before .before .before .before .before .args .left .now) (c .before .before .before .before .before .before .before .before .before .args .right .now) _ (sym (c .before .before .before .before .before .before .joined-counts .ensures) ∙ ap toldCounts (c .before .before .before .before .found2 .given .1))) (omega (arith, c .before .if2 .left, c .before .before .if1 .left)))
+unfolding addressOf
+returns-4 c =
+    let found = c .before .before .before .before in
+    let s = found .before .before .before .before .before in
+    let l = s .args .left in
+    let r = s .args .right in
+    let j = counts-joining (l .now) (r .now) _ (sym (found .before .before .joined-counts .ensures) ∙ ap toldCounts (found .found2 .given .1)) in (
+      sym (body-past (l .now) (r .now) (s .args .n) _ _ j (omega (arith, c .before .if2 .left, c .before .before .if1 .left))),
+      sym (ap (addressOf (l .ptr) (r .ptr)) (stretch-past (l .now) (r .now) (s .args .n) _ _ j (omega (arith, c .before .if2 .left, c .before .before .if1 .left)))),
+    )
 
 pub joined-body-spec : {M : Type 1} → statement M
 joined-body-spec =

@@ -17,7 +17,7 @@ enum-known-l : tie.Need-enum-known-l
 enum-known-l c = search needs
 
 returns : tie.Need-returns
-returns c = left-refused (c .before .before .before .before .before .before .before .args .left .now) (c .before .before .before .before .before .before .before .args .i) (c .before .before .before .before .before .before .before .args .right .now) (c .before .before .before .before .before .before .before .args .j) (c .before .before .before .before .before .before .before .args .out .now) _ _ (sym (c .before .before .before .check-roll .ensures) ∙ ap toldCount (c .before .l .given .1))
+returns c = left-refused (c .before .before .before .before .before .before .before .args .left .now) (c .before .before .before .before .before .before .before .args .i) (c .before .before .before .before .before .before .before .args .right .now) (c .before .before .before .before .before .before .before .args .j) (c .before .before .before .before .before .before .before .args .out .now) _ _ _ refl (sym (c .before .before .before .check-roll .ensures) ∙ ap toldCount (c .before .l .given .1))
 
 enum-known-l-2 : tie.Need-enum-known-l-2
 enum-known-l-2 c = search needs
@@ -29,7 +29,7 @@ enum-known-r : tie.Need-enum-known-r
 enum-known-r c = search needs
 
 returns-2 : tie.Need-returns-2
-returns-2 c = right-refused (c .before .before .before .before .before .before .before .before .before .before .before .args .left .now) (c .before .before .before .before .before .before .before .before .before .before .before .args .i) (c .before .before .before .before .before .before .before .before .before .before .before .args .right .now) (c .before .before .before .before .before .before .before .before .before .before .before .args .j) (c .before .before .before .before .before .before .before .before .before .before .before .args .out .now) _ (sym (c .before .before .before .before .before .before .before .check-roll .ensures) ∙ ap toldCount (c .before .before .before .before .before .l2 .given .1)) _ _ (sym (c .before .before .before .check-roll2 .ensures) ∙ ap toldCount (c .before .r .given .1))
+returns-2 c = right-refused (c .before .before .before .before .before .before .before .before .before .before .before .args .left .now) (c .before .before .before .before .before .before .before .before .before .before .before .args .i) (c .before .before .before .before .before .before .before .before .before .before .before .args .right .now) (c .before .before .before .before .before .before .before .before .before .before .before .args .j) (c .before .before .before .before .before .before .before .before .before .before .before .args .out .now) _ (sym (c .before .before .before .before .before .before .before .check-roll .ensures) ∙ ap toldCount (c .before .before .before .before .before .l2 .given .1)) _ _ _ refl (sym (c .before .before .before .check-roll2 .ensures) ∙ ap toldCount (c .before .r .given .1))
 
 enum-known-r-2 : tie.Need-enum-known-r-2
 enum-known-r-2 c = search needs
@@ -43,15 +43,15 @@ join-support-requires c κs = ((sym (c .before .before .before .before .before .
 
 returns-3 : tie.Need-returns-3
 unfolding mostQubits
-returns-3 c = many-refused (c .before .before .before .before .before .before .before .before .before .before .before .before .before .before .before .args .left .now) (c .before .before .before .before .before .before .before .before .before .before .before .before .before .before .before .args .i) (c .before .before .before .before .before .before .before .before .before .before .before .before .before .before .before .args .right .now) (c .before .before .before .before .before .before .before .before .before .before .before .before .before .before .before .args .j) (c .before .before .before .before .before .before .before .before .before .before .before .before .before .before .before .args .out .now) _ (sym (c .before .before .before .before .before .before .before .before .before .before .before .check-roll .ensures) ∙ ap toldCount (c .before .before .before .before .before .before .before .before .before .l2 .given .1)) _ (sym (c .before .before .before .before .before .before .before .check-roll2 .ensures) ∙ ap toldCount (c .before .before .before .before .before .r2 .given .1)) _ _ _ (c .before .before .join-support .ensures) (c .if1 .taken)
+returns-3 c = many-refused (c .before .before .before .before .before .before .before .before .before .before .before .before .before .before .before .args .left .now) (c .before .before .before .before .before .before .before .before .before .before .before .before .before .before .before .args .i) (c .before .before .before .before .before .before .before .before .before .before .before .before .before .before .before .args .right .now) (c .before .before .before .before .before .before .before .before .before .before .before .before .before .before .before .args .j) (c .before .before .before .before .before .before .before .before .before .before .before .before .before .before .before .args .out .now) _ (sym (c .before .before .before .before .before .before .before .before .before .before .before .check-roll .ensures) ∙ ap toldCount (c .before .before .before .before .before .before .before .before .before .l2 .given .1)) _ (sym (c .before .before .before .before .before .before .before .check-roll2 .ensures) ∙ ap toldCount (c .before .before .before .before .before .r2 .given .1)) _ _ _ (c .before .before .join-support .ensures) (c .if1 .taken) _ refl
 
 returns-4 : tie.Need-returns-4
 unfolding mostQubits
-returns-4 c = past-left-refused (c .before .before .before .before .before .before .before .before .before .before .before .before .before .before .before .before .args .left .now) (c .before .before .before .before .before .before .before .before .before .before .before .before .before .before .before .before .args .i) (c .before .before .before .before .before .before .before .before .before .before .before .before .before .before .before .before .args .right .now) (c .before .before .before .before .before .before .before .before .before .before .before .before .before .before .before .before .args .j) (c .before .before .before .before .before .before .before .before .before .before .before .before .before .before .before .before .args .out .now) _ (sym (c .before .before .before .before .before .before .before .before .before .before .before .before .check-roll .ensures) ∙ ap toldCount (c .before .before .before .before .before .before .before .before .before .before .l2 .given .1)) _ (sym (c .before .before .before .before .before .before .before .before .check-roll2 .ensures) ∙ ap toldCount (c .before .before .before .before .before .before .r2 .given .1)) _ _ _ (c .before .before .before .join-support .ensures) (omega (arith, c .before .if1 .left)) (omega (arith, c .if2 .taken))
+returns-4 c = past-left-refused (c .before .before .before .before .before .before .before .before .before .before .before .before .before .before .before .before .args .left .now) (c .before .before .before .before .before .before .before .before .before .before .before .before .before .before .before .before .args .i) (c .before .before .before .before .before .before .before .before .before .before .before .before .before .before .before .before .args .right .now) (c .before .before .before .before .before .before .before .before .before .before .before .before .before .before .before .before .args .j) (c .before .before .before .before .before .before .before .before .before .before .before .before .before .before .before .before .args .out .now) _ (sym (c .before .before .before .before .before .before .before .before .before .before .before .before .check-roll .ensures) ∙ ap toldCount (c .before .before .before .before .before .before .before .before .before .before .l2 .given .1)) _ (sym (c .before .before .before .before .before .before .before .before .check-roll2 .ensures) ∙ ap toldCount (c .before .before .before .before .before .before .r2 .given .1)) _ _ _ (c .before .before .before .join-support .ensures) (omega (arith, c .before .if1 .left)) (omega (arith, c .if2 .taken)) _ refl
 
 returns-5 : tie.Need-returns-5
 unfolding mostQubits
-returns-5 c = past-right-refused (c .before .before .before .before .before .before .before .before .before .before .before .before .before .before .before .before .before .args .left .now) (c .before .before .before .before .before .before .before .before .before .before .before .before .before .before .before .before .before .args .i) (c .before .before .before .before .before .before .before .before .before .before .before .before .before .before .before .before .before .args .right .now) (c .before .before .before .before .before .before .before .before .before .before .before .before .before .before .before .before .before .args .j) (c .before .before .before .before .before .before .before .before .before .before .before .before .before .before .before .before .before .args .out .now) _ (sym (c .before .before .before .before .before .before .before .before .before .before .before .before .before .check-roll .ensures) ∙ ap toldCount (c .before .before .before .before .before .before .before .before .before .before .before .l2 .given .1)) _ (sym (c .before .before .before .before .before .before .before .before .before .check-roll2 .ensures) ∙ ap toldCount (c .before .before .before .before .before .before .before .r2 .given .1)) _ _ _ (c .before .before .before .before .join-support .ensures) (omega (arith, c .before .before .if1 .left)) (omega (arith, c .before .if2 .left)) (omega (arith, c .if3 .taken))
+returns-5 c = past-right-refused (c .before .before .before .before .before .before .before .before .before .before .before .before .before .before .before .before .before .args .left .now) (c .before .before .before .before .before .before .before .before .before .before .before .before .before .before .before .before .before .args .i) (c .before .before .before .before .before .before .before .before .before .before .before .before .before .before .before .before .before .args .right .now) (c .before .before .before .before .before .before .before .before .before .before .before .before .before .before .before .before .before .args .j) (c .before .before .before .before .before .before .before .before .before .before .before .before .before .before .before .before .before .args .out .now) _ (sym (c .before .before .before .before .before .before .before .before .before .before .before .before .before .check-roll .ensures) ∙ ap toldCount (c .before .before .before .before .before .before .before .before .before .before .before .l2 .given .1)) _ (sym (c .before .before .before .before .before .before .before .before .before .check-roll2 .ensures) ∙ ap toldCount (c .before .before .before .before .before .before .before .r2 .given .1)) _ _ _ (c .before .before .before .before .join-support .ensures) (omega (arith, c .before .before .if1 .left)) (omega (arith, c .before .if2 .left)) (omega (arith, c .if3 .taken)) _ refl
 
 slice-aggregate-write-product : tie.Need-slice-aggregate-write-product
 slice-aggregate-write-product c = search needs

@@ -1,81 +1,66 @@
--- The refusal of the checks is told on; else the number of the description is told.
-use mathlib.Core.Path.{sym, _∙_}
-use lib.Seq.{length-take-le}
+-- The refusal of the description is told on; else its number for a stabilizer group is told.
+use mathlib.Core.Path.{ap, _∙_}
 use Rattle.pauli.specs.Condense.{listOf}
 use Rattle.pauli_theory.specs.Standard.{stabilizer}
 use Rattle.pauli_group.specs.Promises.{promiseOf}
-use Rattle.pauli_group.specs.Inner.Groups.{paulis}
-use Rattle.pauli_group.specs.Calls.{stabilizerCall}
-use Rattle.pauli_group.proofs.calls.CallLaws.{list-given, list-none, answers, area-cleared, refuses, area-kept}
+use Rattle.pauli_group.specs.Calls.{paulis, stabilizerCall}
+use Rattle.pauli_group.proofs.calls.CallLaws.{facts-none, facts-given}
 use Rattle.pauli_group.proofs.group.GroupedLaws.{stabilizer-le}
+use Rattle.pauli_group.proofs.checks.OneList.{answers, refuses}
 use borrow.Author.Needs.{needs}
 use Rattle.pauli_group.proofs.calls.is_stabilizer_group.Statement.{statement}
 use Rattle.pauli_group.proofs.calls.is_stabilizer_group.Tie as tie
 
-check-list-requires : tie.Need-check-list-requires
-check-list-requires c κs = search needs
+describe-list-requires : tie.Need-describe-list-requires
+describe-list-requires c κs = search needs
 
-enum-known-checked : tie.Need-enum-known-checked
-enum-known-checked c = search needs
+enum-known-found : tie.Need-enum-known-found
+enum-known-found c = search needs
 
-returns : tie.Need-returns
-unfolding stabilizerCall
-returns c =
-    let b = c .before .before .before .before .before .before .args .b .now in
-    let work = c .before .before .before .before .before .before .args .work .now in
-    let promise = promiseOf (c .before .before .before .before .before .before .args .promise) in
-    let none = list-none _ _ (c .before .before .before .check-list .ensures) _ (c .before .checked .given .1) in
-    record { told = refuses b work none (stabilizer promise); area = area-kept b work none }
-
-enum-known-checked-2 : tie.Need-enum-known-checked-2
-enum-known-checked-2 c = search needs
-
-slice-relend-prefix-describe-once : tie.Need-slice-relend-prefix-describe-once
-slice-relend-prefix-describe-once c = list-given _ _ (c .before .before .before .check-list .ensures) _ (c .before .checked2 .given .1) .room
-
-slice-aggregate-describe-once : tie.Need-slice-aggregate-describe-once
-slice-aggregate-describe-once c =
-    let given = list-given _ _ (c .before .before .before .before .check-list .ensures) _ (c .before .before .checked2 .given .1) in
-    sym (length-take-le 4096 (c .before .before .before .before .before .before .before .args .work .now) (given .room))
-
-describe-once-requires : tie.Need-describe-once-requires
-describe-once-requires c κs =
-    let given = list-given _ _ (c .before .before .before .before .check-list .ensures) _ (c .before .before .checked2 .given .1) in
-    (given .count, length-take-le 4096 (c .before .before .before .before .before .before .before .args .work .now) (given .room))
+enum-known-found-2 : tie.Need-enum-known-found-2
+enum-known-found-2 c = search needs
 
 decided-requires : tie.Need-decided-requires
 decided-requires c κs =
-    let promise = promiseOf (c .before .before .before .before .before .before .before .before .before .before .args .promise) in
-    rw (c .before .before .describe-once .ensures .0 .stabilizer-is) (stabilizer-le promise (paulis (listOf (c .before .before .before .before .before .before .before .before .before .before .args .b .now))))
+    let s = c .before .before .before .before .before .before .before .before .before in
+    let promise = promiseOf (s .args .promise) in
+    let e = c .before .before .before .before .before .describe-list .ensures in
+    let found = facts-given promise _ _ (e .told) _ (c .before .found2 .given .1) in
+    rw (found .facts .stabilizer-is) (stabilizer-le promise (paulis (listOf (s .args .b .now))))
 
 same-length : tie.Need-same-length
 same-length c = search needs
 
+returns : tie.Need-returns
+unfolding stabilizerCall
+returns c =
+    let s = c .before .before .before .before .before .before .before .before .before in
+    let promise = promiseOf (s .args .promise) in
+    let e = c .before .before .before .before .before .describe-list .ensures in
+    let refused = facts-none promise _ _ (e .told) _ (c .before .found .given .1) in
+    record { told = refuses (s .args .b .now) (s .args .work .now) refused (stabilizer promise); area = e .area }
+
+same-length-2 : tie.Need-same-length-2
+same-length-2 c = search needs
+
 returns-2 : tie.Need-returns-2
 unfolding stabilizerCall
 returns-2 c =
-    let b = c .before .before .before .before .before .before .before .before .before .before .before .args .b .now in
-    let work = c .before .before .before .before .before .before .before .before .before .before .before .args .work .now in
-    let promise = promiseOf (c .before .before .before .before .before .before .before .before .before .before .before .args .promise) in
-    let given = list-given _ _ (c .before .before .before .before .before .before .before .before .check-list .ensures) _
-    (c .before .before .before .before .before .before .checked2 .given .1) in
-    let description = c .before .before .before .describe-once .ensures in
-    record {
-      told = c .decided .ensures ∙ answers b work given (stabilizer promise) _ (description .0 .stabilizer-is);
-      area = area-cleared b work given _ (description .1);
-    }
+    let s = c .before .before .before .before .before .before .before .before .before .before in
+    let promise = promiseOf (s .args .promise) in
+    let e = c .before .before .before .before .before .before .describe-list .ensures in
+    let found = facts-given promise _ _ (e .told) _ (c .before .before .found2 .given .1) in
+    record { told = c .decided .ensures ∙ answers (s .args .b .now) (s .args .work .now) (found .given) (stabilizer promise) _ (found .facts .stabilizer-is); area = e .area }
 
 pub is-stabilizer-group-spec : {M : Type 1} → statement M
 is-stabilizer-group-spec =
     tie.close
     (tie.spec
-    check-list-requires
-    enum-known-checked
-    returns
-    enum-known-checked-2
-    slice-relend-prefix-describe-once
-    slice-aggregate-describe-once
-    describe-once-requires
+    describe-list-requires
+    enum-known-found
+    enum-known-found-2
     decided-requires
     same-length
+    returns
+    same-length-2
     returns-2)

@@ -11,10 +11,10 @@ use Rattle.pauli_group.proofs.common.write_common.Statement.{statement}
 use Rattle.pauli_group.proofs.common.write_common.Tie as tie
 
 order-of-requires : tie.Need-order-of-requires
-order-of-requires c κs = let s = c .before .before .before .before .before in (s .pre .0, s .pre .1, s .pre .2, s .pre .3, s .pre .4)
+order-of-requires c κs = let s = c .before .before .before .before .before in (s .pre .0, s .pre .1)
 
 write-lesser-requires : tie.Need-write-lesser-requires
-write-lesser-requires c κs = let s = c .before .before .before .before .before .before .before .before .before .before in (s .pre .0, s .pre .1, s .pre .2, s .pre .3, c .before .before .before .before .order-of .kept .1 .1 .1 .1 .1 .1 .0 ∙ s .pre .4)
+write-lesser-requires c κs = let s = c .before .before .before .before .before .before .before .before .before .before in (s .pre .0, c .before .before .before .before .order-of .kept .1 .1 .1 .1 .1 .1 .0 ∙ s .pre .1)
 
 clear-bits-requires : tie.Need-clear-bits-requires
 clear-bits-requires c κs = search needs
@@ -33,7 +33,7 @@ returns c =
       wrote .0 ∙ ap (λ (bs : List ℕ). toldBytes (answer bs) (s .args .out .now)) roll,
       (
         wrote .1 ∙ ap (λ (bs : List ℕ). leftIn (answer bs) (s .args .out .now)) roll,
-        c .before .before .clear-bits .ensures ∙ cleared-whole _ _ (c .before .before .before .before .before .before .before .before .write-lesser .kept .1 .1 .1 .1 .1 .1 .1 .0 ∙ c .before .before .before .before .before .before .before .before .before .before .before .before .before .order-of .kept .1 .1 .1 .1 .1 .1 .0 ∙ s .pre .4) (s .pre .4),
+        c .before .before .clear-bits .ensures ∙ cleared-whole _ _ (c .before .before .before .before .before .before .before .before .write-lesser .kept .1 .1 .1 .1 .1 .1 .1 .0 ∙ c .before .before .before .before .before .before .before .before .before .before .before .before .before .order-of .kept .1 .1 .1 .1 .1 .1 .0 ∙ s .pre .1) (s .pre .1),
       ),
     )
 

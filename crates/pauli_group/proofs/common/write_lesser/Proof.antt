@@ -8,25 +8,25 @@ enum-told : tie.Need-enum-told
 enum-told c = search needs
 
 write-list-requires : tie.Need-write-list-requires
-write-list-requires c κs = let s = c .before .before .before .before .before .before .before .before in (s .pre .0, s .pre .4)
+write-list-requires c κs = let s = c .before .before .before .before .before .before .before .before in (s .pre .0 .left, s .pre .1)
 
 enum-told-2 : tie.Need-enum-told-2
 enum-told-2 c = search needs
 
 write-list-requires-2 : tie.Need-write-list-requires-2
-write-list-requires-2 c κs = let s = c .before .before .before .before .before .before .before .before in (s .pre .0, s .pre .4)
+write-list-requires-2 c κs = let s = c .before .before .before .before .before .before .before .before in (s .pre .0 .left, s .pre .1)
 
 enum-told-3 : tie.Need-enum-told-3
 enum-told-3 c = search needs
 
 write-list-requires-3 : tie.Need-write-list-requires-3
-write-list-requires-3 c κs = let s = c .before .before .before .before .before .before .before .before in (s .pre .1, s .pre .4)
+write-list-requires-3 c κs = let s = c .before .before .before .before .before .before .before .before in (s .pre .0 .right, s .pre .1)
 
 enum-told-4 : tie.Need-enum-told-4
 enum-told-4 c = search needs
 
 write-part-requires : tie.Need-write-part-requires
-write-part-requires c κs = let s = c .before .before .before .before .before .before .before .before in (s .pre .0, s .pre .1, s .pre .2, s .pre .3, s .pre .4)
+write-part-requires c κs = let s = c .before .before .before .before .before .before .before .before in (s .pre .0, s .pre .1)
 
 same-length : tie.Need-same-length
 same-length c = search needs

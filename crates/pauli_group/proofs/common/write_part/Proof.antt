@@ -17,7 +17,7 @@ slice-aggregate-join-support c = search needs
 
 join-support-requires : tie.Need-join-support-requires
 unfolding mostQubits
-join-support-requires c κs = (c .before .before .before .before .before .pre .0, c .before .before .before .before .before .pre .1, omega arith)
+join-support-requires c κs = (c .before .before .before .before .before .pre .0 .left, c .before .before .before .before .before .pre .0 .right, omega arith)
 
 slice-aggregate-common-basis : tie.Need-slice-aggregate-common-basis
 slice-aggregate-common-basis c = search needs
@@ -25,8 +25,8 @@ slice-aggregate-common-basis c = search needs
 common-basis-requires : tie.Need-common-basis-requires
 common-basis-requires c κs =
     let s = c .before .before .before .before .before .before .before .before .before in
-    let J = joint-is _ _ _ _ _ (c .before .before .before .join-support .ensures) (s .pre .3) in
-    (s .pre .0, s .pre .1, s .pre .2, s .pre .4, omega (arith, J .few, c .before .before .before .join-support .kept .1 .1 .1 .1 .0), J)
+    let J = joint-is _ _ _ _ _ (c .before .before .before .join-support .ensures) (s .pre .0 .qubits) in
+    (s .pre .0 .left, s .pre .0 .right, s .pre .0 .few, s .pre .1, omega (arith, J .few, c .before .before .before .join-support .kept .1 .1 .1 .1 .0), J)
 
 slice-aggregate-note-by : tie.Need-slice-aggregate-note-by
 slice-aggregate-note-by c = search needs
@@ -34,10 +34,10 @@ slice-aggregate-note-by c = search needs
 note-by-requires : tie.Need-note-by-requires
 note-by-requires c κs =
     let s = c .before .before .before .before .before .before .before .before .before .before .before .before .before .before in
-    let J = joint-is _ _ _ _ _ (c .before .before .before .before .before .before .before .before .join-support .ensures) (s .pre .3) in
+    let J = joint-is _ _ _ _ _ (c .before .before .before .before .before .before .before .before .join-support .ensures) (s .pre .0 .qubits) in
     let B = c .before .before .before .before .common-basis .ensures in (
-      s .pre .0,
-      c .before .before .before .before .common-basis .kept .1 .1 .1 .1 .1 .1 .0 ∙ s .pre .4,
+      s .pre .0 .left,
+      c .before .before .before .before .common-basis .kept .1 .1 .1 .1 .1 .1 .0 ∙ s .pre .1,
       B .0,
       J .few,
       omega (arith, J .few, c .before .before .before .before .before .before .before .before .join-support .kept .1 .1 .1 .1 .0),
@@ -51,11 +51,11 @@ slice-aggregate-note-by-2 c = search needs
 note-by-requires-2 : tie.Need-note-by-requires-2
 note-by-requires-2 c κs =
     let s = c .before .before .before .before .before .before .before .before .before .before .before .before .before .before .before .before .before .before .before in
-    let J = joint-is _ _ _ _ _ (c .before .before .before .before .before .before .before .before .before .before .before .before .before .join-support .ensures) (s .pre .3) in
+    let J = joint-is _ _ _ _ _ (c .before .before .before .before .before .before .before .before .before .before .before .before .before .join-support .ensures) (s .pre .0 .qubits) in
     let B = c .before .before .before .before .before .before .before .before .before .common-basis .ensures in
     let N = c .before .before .before .before .note-by .ensures in (
-      s .pre .1,
-      c .before .before .before .before .note-by .kept .1 .1 .1 .1 .1 .0 ∙ c .before .before .before .before .before .before .before .before .before .common-basis .kept .1 .1 .1 .1 .1 .1 .0 ∙ s .pre .4,
+      s .pre .0 .right,
+      c .before .before .before .before .note-by .kept .1 .1 .1 .1 .1 .0 ∙ c .before .before .before .before .before .before .before .before .before .common-basis .kept .1 .1 .1 .1 .1 .1 .0 ∙ s .pre .1,
       B .0,
       J .few,
       omega (arith, J .few, c .before .before .before .before .before .before .before .before .before .before .before .before .before .join-support .kept .1 .1 .1 .1 .0),
@@ -66,7 +66,7 @@ note-by-requires-2 c κs =
 keep-shared-requires : tie.Need-keep-shared-requires
 keep-shared-requires c κs =
     let s = c .before .before .before .before .before .before .before .before .before .before .before .before .before .before .before .before .before .before .before .before .before .before .before in (
-      c .before .before .before .note-by2 .kept .1 .1 .1 .1 .1 .0 ∙ c .before .before .before .before .before .before .before .before .note-by .kept .1 .1 .1 .1 .1 .0 ∙ c .before .before .before .before .before .before .before .before .before .before .before .before .before .common-basis .kept .1 .1 .1 .1 .1 .1 .0 ∙ s .pre .4,
+      c .before .before .before .note-by2 .kept .1 .1 .1 .1 .1 .0 ∙ c .before .before .before .before .before .before .before .before .note-by .kept .1 .1 .1 .1 .1 .0 ∙ c .before .before .before .before .before .before .before .before .before .before .before .before .before .common-basis .kept .1 .1 .1 .1 .1 .1 .0 ∙ s .pre .1,
       c .before .before .before .before .before .before .before .before .before .before .before .before .before .common-basis .ensures .0,
       rw (c .before .before .before .before .before .before .before .before .note-by .ensures .0) (step-kinds _ _ .0),
       rw (c .before .before .before .note-by2 .ensures .0) (step-kinds _ _ .0),
@@ -75,7 +75,7 @@ keep-shared-requires c κs =
 append-phases-requires : tie.Need-append-phases-requires
 append-phases-requires c κs =
     let s = c .before .before .before .before .before .before .before .before .before .before .before .before .before .before .before .before .before .before .before .before .before .before .before .before .before .before .before in (
-      c .before .before .before .keep-shared .kept .0 ∙ c .before .before .before .before .before .before .before .note-by2 .kept .1 .1 .1 .1 .1 .0 ∙ c .before .before .before .before .before .before .before .before .before .before .before .before .note-by .kept .1 .1 .1 .1 .1 .0 ∙ c .before .before .before .before .before .before .before .before .before .before .before .before .before .before .before .before .before .common-basis .kept .1 .1 .1 .1 .1 .1 .0 ∙ s .pre .4,
+      c .before .before .before .keep-shared .kept .0 ∙ c .before .before .before .before .before .before .before .note-by2 .kept .1 .1 .1 .1 .1 .0 ∙ c .before .before .before .before .before .before .before .before .before .before .before .before .note-by .kept .1 .1 .1 .1 .1 .0 ∙ c .before .before .before .before .before .before .before .before .before .before .before .before .before .before .before .before .before .common-basis .kept .1 .1 .1 .1 .1 .1 .0 ∙ s .pre .1,
       omega (arith, c .before .before .before .keep-shared .ensures .0, c .before .before .before .before .before .before .before .before .before .before .before .before .before .before .before .before .before .common-basis .ensures .0),
       rw (c .before .before .before .before .before .before .before .before .before .before .before .before .note-by .ensures .0) (step-kinds _ _ .0),
       rw (c .before .before .before .before .before .before .before .note-by2 .ensures .0) (step-kinds _ _ .0),
@@ -87,11 +87,11 @@ slice-aggregate-write-roll c = search needs
 write-roll-requires : tie.Need-write-roll-requires
 write-roll-requires c κs =
     let s = c .before .before .before .before .before .before .before .before .before .before .before .before .before .before .before .before .before .before .before .before .before .before .before .before .before .before .before .before .before .before .before .before .before in
-    let J = joint-is _ _ _ _ _ (c .before .before .before .before .before .before .before .before .before .before .before .before .before .before .before .before .before .before .before .before .before .before .before .before .before .before .before .join-support .ensures) (s .pre .3) in
+    let J = joint-is _ _ _ _ _ (c .before .before .before .before .before .before .before .before .before .before .before .before .before .before .before .before .before .before .before .before .before .before .before .before .before .before .before .join-support .ensures) (s .pre .0 .qubits) in
     let B = c .before .before .before .before .before .before .before .before .before .before .before .before .before .before .before .before .before .before .before .before .before .before .before .common-basis .ensures in
     let A = c .before .before .before .before .before .append-phases .ensures in
     let K = c .before .before .before .before .before .before .before .before .before .keep-shared .ensures in
-    let size = c .before .before .before .before .before .append-phases .kept .0 ∙ c .before .before .before .before .before .before .before .before .before .keep-shared .kept .0 ∙ c .before .before .before .before .before .before .before .before .before .before .before .before .before .note-by2 .kept .1 .1 .1 .1 .1 .0 ∙ c .before .before .before .before .before .before .before .before .before .before .before .before .before .before .before .before .before .before .note-by .kept .1 .1 .1 .1 .1 .0 ∙ c .before .before .before .before .before .before .before .before .before .before .before .before .before .before .before .before .before .before .before .before .before .before .before .common-basis .kept .1 .1 .1 .1 .1 .1 .0 ∙ s .pre .4 in (
+    let size = c .before .before .before .before .before .append-phases .kept .0 ∙ c .before .before .before .before .before .before .before .before .before .keep-shared .kept .0 ∙ c .before .before .before .before .before .before .before .before .before .before .before .before .before .note-by2 .kept .1 .1 .1 .1 .1 .0 ∙ c .before .before .before .before .before .before .before .before .before .before .before .before .before .before .before .before .before .before .note-by .kept .1 .1 .1 .1 .1 .0 ∙ c .before .before .before .before .before .before .before .before .before .before .before .before .before .before .before .before .before .before .before .before .before .before .before .common-basis .kept .1 .1 .1 .1 .1 .1 .0 ∙ s .pre .1 in (
       omega (arith, A .0, K .0, B .0, size),
       omega (arith, A .0, K .0, B .0),
       J .few,
@@ -108,7 +108,7 @@ same-length-2 c = search needs
 returns : tie.Need-returns
 returns c =
     let s = c .before .before .before .before .before .before .before .before .before .before .before .before .before .before .before .before .before .before .before .before .before .before .before .before .before .before .before .before .before .before .before .before .before .before .before .before in
-    let J = joint-is _ _ _ _ _ (c .before .before .before .before .before .before .before .before .before .before .before .before .before .before .before .before .before .before .before .before .before .before .before .before .before .before .before .before .before .before .join-support .ensures) (s .pre .3) in
+    let J = joint-is _ _ _ _ _ (c .before .before .before .before .before .before .before .before .before .before .before .before .before .before .before .before .before .before .before .before .before .before .before .before .before .before .before .before .before .before .join-support .ensures) (s .pre .0 .qubits) in
     let B = c .before .before .before .before .before .before .before .before .before .before .before .before .before .before .before .before .before .before .before .before .before .before .before .before .before .before .common-basis .ensures in
     let wrote = c .before .before .write-roll .ensures in
     let roll = part-written _ _ _ _ J _ _ (B .1) _ (c .before .before .before .before .before .before .before .before .before .before .before .before .before .before .before .before .before .before .before .before .before .note-by .ensures .1) _ _ _ (c .before .before .before .before .before .before .before .before .before .before .before .before .before .before .before .before .note-by2 .ensures .1) _ _ (c .before .before .before .before .before .before .before .before .before .before .before .before .before .before .before .before .before .before .before .before .before .note-by .ensures .0) (c .before .before .before .before .before .before .before .before .before .before .before .before .before .before .before .before .note-by2 .ensures .0) _ _ (c .before .before .before .before .before .before .before .before .before .before .before .before .keep-shared .ensures .1) _ _ (c .before .before .before .before .before .before .before .before .append-phases .ensures .1) in

@@ -1,5 +1,6 @@
 -- The refusal of the checks is told on; else the element is factored, and the indexes are written if there is room.
-use Rattle.pauli_group.proofs.factorization.QuestionLaws.{asking-few, counts-asking, counts-none, call-refused, call-none, set-below, call-short, call-found}
+use Rattle.pauli_group.proofs.factorization.QuestionLaws.{call-refused, call-none, set-below, call-short, call-found}
+use Rattle.pauli_group.proofs.checks.Question.{asking-few, counts-asking, counts-none}
 use Rattle.pauli_group.specs.Inner.Members.{factoringTold}
 use lib.Seq.{length-take-le}
 use mathlib.Core.Path.{sym, ap, _∙_}

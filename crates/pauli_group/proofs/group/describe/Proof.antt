@@ -4,7 +4,7 @@ use Rattle.pauli.proofs.joined.JoinLaws.{accepted, accepted-few}
 use Rattle.pauli.specs.Roll.{mostPaulis}
 use Rattle.pauli.specs.Support.{mostQubits}
 use Rattle.pauli.specs.Sets.{pauliOf}
-use Rattle.pauli_group.proofs.group.GroupLaws.{standards-few, described}
+use Rattle.pauli_group.proofs.group.GroupLaws.{standards-few, described, facts-are}
 use Rattle.pauli_group.proofs.group.GroupedLaws.{list-few}
 use Rattle.pauli_group.specs.Inner.Area.{standardAt}
 use lib.ListN.{length}
@@ -27,7 +27,7 @@ same-length : tie.Need-same-length
 same-length c = c .before .before .before .before .before .group-of .kept .1 .1 .1 .0
 
 returns : tie.Need-returns
-returns c = described (c .before .before .before .before .before .group-of .ensures .0) _ _ _ _ (c .signs-of .ensures .0) (c .signs-of .ensures .1 .0) (c .signs-of .ensures .1 .1)
+returns c = facts-are _ _ (described (c .before .before .before .before .before .group-of .ensures .0) _ _ _ _ (c .signs-of .ensures .0) (c .signs-of .ensures .1 .0) (c .signs-of .ensures .1 .1))
 
 pub describe-spec : {M : Type 1} → statement M
 describe-spec =

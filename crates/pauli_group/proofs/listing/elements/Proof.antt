@@ -6,7 +6,7 @@ use lib.Seq.{length-take-le}
 use Rattle.pauli.specs.Told.{Told}
 use Rattle.pauli.specs.Writing.{toldBytes, leftIn}
 use Rattle.pauli_group.specs.Promises.{promiseOf}
-use Rattle.pauli_group.proofs.calls.CallLaws.{list-given, list-none, area-cleared, area-kept}
+use Rattle.pauli_group.proofs.checks.OneList.{list-given, list-none, area-cleared, area-kept}
 use Rattle.pauli_group.proofs.listing.PageLaws.{call-refused, call-answered}
 use borrow.Author.Needs.{needs}
 use Rattle.pauli_group.proofs.listing.elements.Statement.{statement}

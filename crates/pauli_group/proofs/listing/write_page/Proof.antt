@@ -5,7 +5,7 @@ use Prim.Native.Nat.{ℕ, _-_, min}
 use native.Mathlib.Omega.{arith}
 use Rattle.pauli.specs.Condense.{listOf}
 use Rattle.pauli_group.specs.Promises.{promiseOf}
-use Rattle.pauli_group.specs.Inner.Groups.{paulis}
+use Rattle.pauli_group.specs.Calls.{paulis}
 use Rattle.pauli.specs.Support.{mostQubits}
 use Rattle.pauli.specs.Told.{Told, answer}
 use Rattle.pauli.specs.Writing.{toldBytes, leftIn}

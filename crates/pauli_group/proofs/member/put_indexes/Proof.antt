@@ -9,7 +9,7 @@ use Rattle.pauli.specs.Sets.{members}
 use Rattle.pauli.specs.PlaceSet.{setIn}
 use Rattle.pauli_theory.proofs.OverPlaces.{upTo}
 use Rattle.pauli_group.proofs.member.MemberLaws.{indexes-start, indexes-done, indexes-skip, indexes-room, indexes-hit}
-use Rattle.pauli_group.specs.Inner.Members.{le16s}
+use Rattle.pauli_group.specs.Calls.{le16s}
 use Rattle.pauli_group.proofs.member.put_indexes.Statement.{statement}
 use Rattle.pauli_group.proofs.member.put_indexes.Tie as tie
 

@@ -58,14 +58,14 @@ returns c =
     let s = stride .before .before in (
       pauli-set _ (λ q. stride .before .slice-known .given q .fits) _ _ _ (s .args .p) (s .pre .2) (s .pre .3) (s .pre .4)
           (s .pre .5) _ (stride .stride-of .ensures) _ _ (clear .clear-bits .ensures) (put .put-row .ensures)
-          _ (solve .transpose-solve .ensures .1) _
+          _ (solve .transpose-solve .ensures .left) _
           (c .named-by .ensures
           ∙ names-whole _ _ _ (λ q. c .before .before .before .before .slice-known4 .given q .fits)
           (omega (arith, s .pre .5 .target, solve .transpose-solve .kept .0, put .put-row .kept .0, clear .clear-bits .kept .0)) (s .pre .1))
-          (sym (c .before .before .enum-told .given .1) ∙ solve .transpose-solve .ensures .0),
+          (sym (c .before .before .enum-told .given .1) ∙ solve .transpose-solve .ensures .told),
       pauli-rest _ (λ q. stride .before .slice-known .given q .fits) _ _ _ (s .args .p) (s .pre .2) (s .pre .3) (s .pre .4)
           (s .pre .5) _ (stride .stride-of .ensures) _ _ (clear .clear-bits .ensures) (put .put-row .ensures)
-          _ (solve .transpose-solve .ensures .1),
+          _ (solve .transpose-solve .ensures .left),
     )
 
 same-length-2 : tie.Need-same-length-2
@@ -80,10 +80,10 @@ returns-2 c =
     let s = stride .before .before in (
       pauli-none _ (λ q. stride .before .slice-known .given q .fits) _ _ _ (s .args .p) (s .pre .2) (s .pre .3) (s .pre .4)
           (s .pre .5) _ (stride .stride-of .ensures) _ _ (clear .clear-bits .ensures) (put .put-row .ensures)
-          _ (solve .transpose-solve .ensures .1) (sym (c .enum-told2 .given .1) ∙ solve .transpose-solve .ensures .0),
+          _ (solve .transpose-solve .ensures .left) (sym (c .enum-told2 .given .1) ∙ solve .transpose-solve .ensures .told),
       pauli-rest _ (λ q. stride .before .slice-known .given q .fits) _ _ _ (s .args .p) (s .pre .2) (s .pre .3) (s .pre .4)
           (s .pre .5) _ (stride .stride-of .ensures) _ _ (clear .clear-bits .ensures) (put .put-row .ensures)
-          _ (solve .transpose-solve .ensures .1),
+          _ (solve .transpose-solve .ensures .left),
     )
 
 pub solve-spec : {M : Type 1} → statement M

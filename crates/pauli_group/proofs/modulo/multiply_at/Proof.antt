@@ -6,7 +6,7 @@ use Prim.Native.Nat.{_-_, _*_, _≤_}
 use Rattle.pauli.specs.Pauli.{I, normal}
 use Rattle.pauli.specs.Signed.{held, listIn}
 use Rattle.pauli.proofs.write.Writers.{length-list}
-use Rattle.pauli_theory.specs.ModuloPlaces.{multipliedAt}
+use Rattle.pauli_theory.specs.Inner.ModuloPlaces.{multipliedAt}
 use Rattle.pauli_group.specs.Inner.Area.{Outside}
 use Rattle.pauli_group.proofs.list.ListLaws.{StoredUpTo, stored-none, stored-step, stored-all, list-at, pauli-kept-after, outside-refl, store-further}
 use Rattle.pauli_group.proofs.modulo.RemainderLaws.{multiplied-value}

@@ -4,7 +4,7 @@ use lib.ListN.{length}
 use Rattle.pauli.specs.Support.{mostQubits}
 use Rattle.pauli.specs.Condense.{listOf}
 use Rattle.pauli_group.specs.Inner.Area.{spareAt}
-use Rattle.pauli_group.specs.Inner.Groups.{paulis}
+use Rattle.pauli_group.specs.Calls.{paulis}
 use Rattle.pauli_group.specs.Promises.{promiseOf}
 use Rattle.pauli_group.proofs.group.GroupLaws.{described}
 use Rattle.pauli_group.proofs.group.GroupedLaws.{step-kinds, list-length, list-few, group-total, group-places, group-on}

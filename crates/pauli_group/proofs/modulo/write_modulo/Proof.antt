@@ -5,7 +5,7 @@ use Rattle.pauli.specs.Support.{mostQubits}
 use Rattle.pauli.specs.Told.{answer}
 use Rattle.pauli.specs.Condense.{listOf}
 use Rattle.pauli.specs.Writing.{toldBytes, leftIn}
-use Rattle.pauli_group.specs.Inner.Groups.{paulis}
+use Rattle.pauli_group.specs.Calls.{paulis}
 use Rattle.pauli_group.proofs.group.GroupedLaws.{cleared-whole}
 use Rattle.pauli_group.proofs.modulo.ModuloLaws.{joined-places, joined-support, joined-size, remainder-on, remainder-written}
 use borrow.Author.Needs.{needs}
@@ -17,7 +17,7 @@ slice-aggregate-join-support c = search needs
 
 join-support-requires : tie.Need-join-support-requires
 unfolding mostQubits
-join-support-requires c κs = let s = c .before .before .before .before .before in (s .pre .0, s .pre .1, omega arith)
+join-support-requires c κs = let s = c .before .before .before .before .before in (s .pre .0 .left, s .pre .0 .right, omega arith)
 
 slice-aggregate-remainder : tie.Need-slice-aggregate-remainder
 slice-aggregate-remainder c = search needs
@@ -26,8 +26,8 @@ remainder-requires : tie.Need-remainder-requires
 remainder-requires c κs =
     let s = c .before .before .before .before .before .before .before .before .before in
     let join = c .before .before .before .join-support in
-    let places = joined-places (s .args .left .now) (s .args .right .now) _ _ _ (s .pre .2) (join .ensures) in
-    (s .pre .0, s .pre .1, places, omega (arith, places, join .kept .1 .1 .1 .1 .0), joined-support (s .args .left .now) (s .args .right .now) _ _ _ (s .pre .2) (join .ensures), s .pre .3)
+    let places = joined-places (s .args .left .now) (s .args .right .now) _ _ _ (s .pre .0 .qubits) (join .ensures) in
+    (s .pre .0 .left, s .pre .0 .right, places, omega (arith, places, join .kept .1 .1 .1 .1 .0), joined-support (s .args .left .now) (s .args .right .now) _ _ _ (s .pre .0 .qubits) (join .ensures), s .pre .1)
 
 slice-aggregate-write-roll : tie.Need-slice-aggregate-write-roll
 slice-aggregate-write-roll c = search needs
@@ -37,16 +37,16 @@ write-roll-requires c κs =
     let s = c .before .before .before .before .before .before .before .before .before .before .before .before .before .before .before in
     let join = c .before .before .before .before .before .before .before .before .before .join-support in
     let left = c .before .before .before .before .before .remainder .ensures in
-    let places = joined-places (s .args .left .now) (s .args .right .now) _ _ _ (s .pre .2) (join .ensures) in (
-      omega (arith, left .few, c .before .before .before .before .before .remainder .kept .1 .1 .1 .1 .1 .1 .1 .0, s .pre .3),
+    let places = joined-places (s .args .left .now) (s .args .right .now) _ _ _ (s .pre .0 .qubits) (join .ensures) in (
+      omega (arith, left .few, c .before .before .before .before .before .remainder .kept .1 .1 .1 .1 .1 .1 .1 .0, s .pre .1),
       omega (arith, left .few),
       places,
       omega (arith, places, join .kept .1 .1 .1 .1 .0),
-      remainder-on left _ (joined-size (s .args .left .now) (s .args .right .now) _ _ _ (s .pre .2) (join .ensures)),
+      remainder-on left _ (joined-size (s .args .left .now) (s .args .right .now) _ _ _ (s .pre .0 .qubits) (join .ensures)),
     )
 
 clear-bits-requires : tie.Need-clear-bits-requires
-clear-bits-requires c κs = let s = c .before .before .before .before .before .before .before .before .before .before .before .before .before .before .before .before .before .before .before in omega (arith, c .before .before .before .before .before .before .before .before .before .remainder .kept .1 .1 .1 .1 .1 .1 .1 .0, s .pre .3)
+clear-bits-requires c κs = let s = c .before .before .before .before .before .before .before .before .before .before .before .before .before .before .before .before .before .before .before in omega (arith, c .before .before .before .before .before .before .before .before .before .remainder .kept .1 .1 .1 .1 .1 .1 .1 .0, s .pre .1)
 
 same-length : tie.Need-same-length
 same-length c = c .before .before .clear-bits .kept .0 ∙ c .before .before .before .before .before .before .before .before .before .before .before .before .remainder .kept .1 .1 .1 .1 .1 .1 .1 .0
@@ -57,13 +57,13 @@ same-length-2 c = c .before .before .before .before .before .before .write-roll 
 returns : tie.Need-returns
 returns c =
     let s = c .before .before .before .before .before .before .before .before .before .before .before .before .before .before .before .before .before .before .before .before .before .before in
-    let joint = joined-support (s .args .left .now) (s .args .right .now) _ _ _ (s .pre .2) (c .before .before .before .before .before .before .before .before .before .before .before .before .before .before .before .before .join-support .ensures) in
+    let joint = joined-support (s .args .left .now) (s .args .right .now) _ _ _ (s .pre .0 .qubits) (c .before .before .before .before .before .before .before .before .before .before .before .before .before .before .before .before .join-support .ensures) in
     let roll = remainder-written (c .before .before .before .before .before .before .before .before .before .before .before .before .remainder .ensures) _ joint in
     let write = c .before .before .before .before .before .before .write-roll .ensures in (
       write .0 ∙ ap (λ b. toldBytes (answer b) (s .args .out .now)) roll,
       (
         write .1 ∙ ap (λ b. leftIn (answer b) (s .args .out .now)) roll,
-        c .before .before .clear-bits .ensures ∙ cleared-whole _ (s .args .w .now) (c .before .before .before .before .before .before .before .before .before .before .before .before .remainder .kept .1 .1 .1 .1 .1 .1 .1 .0 ∙ s .pre .3) (s .pre .3),
+        c .before .before .clear-bits .ensures ∙ cleared-whole _ (s .args .w .now) (c .before .before .before .before .before .before .before .before .before .before .before .before .remainder .kept .1 .1 .1 .1 .1 .1 .1 .0 ∙ s .pre .1) (s .pre .1),
       ),
     )
 

@@ -6,7 +6,7 @@ use lib.ListN.{take}
 use Rattle.pauli.specs.Pauli.{I, normal}
 use Rattle.pauli.specs.Signed.{listIn}
 use Rattle.pauli.proofs.write.Writers.{length-list}
-use Rattle.pauli_theory.specs.ModuloPlaces.{movedPauli}
+use Rattle.pauli_theory.specs.Inner.ModuloPlaces.{movedPauli}
 use Rattle.pauli_group.proofs.list.ListLaws.{StoredUpTo, stored-none, stored-step, stored-all}
 use Rattle.pauli_group.proofs.moved.MoveLaws.{kept-at, kept-movable, moved-value}
 use Rattle.pauli_group.proofs.moved.move_list.Statement.{statement}

@@ -2,7 +2,7 @@ use mathlib.Core.Path.{refl}
 use Rattle.pauli.proofs.signed.Algebra.{pauli-path}
 use Rattle.pauli.specs.Signed.{held}
 use Rattle.pauli.specs.PlaceSet.{setIn}
-use Rattle.pauli_theory.specs.ModuloPlaces.{movedPauli}
+use Rattle.pauli_theory.specs.Inner.ModuloPlaces.{movedPauli}
 use Rattle.pauli_group.proofs.moved.move_pauli.Statement.{statement}
 use Rattle.pauli_group.proofs.moved.move_pauli.Tie as tie
 

@@ -8,7 +8,7 @@ use Rattle.binar.specs.Row.{bit}
 use Rattle.pauli.specs.Known.{lower}
 use Rattle.pauli.specs.PlaceSet.{setIn}
 use Rattle.pauli.proofs.places.Firsts.{first-told}
-use Rattle.pauli_theory.specs.ModuloPlaces.{movedSet}
+use Rattle.pauli_theory.specs.Inner.ModuloPlaces.{movedSet}
 use Rattle.pauli_group.proofs.moved.MoveLaws.{move-place, move-further, move-with, move-start, move-skip, move-end}
 use Rattle.pauli_group.proofs.moved.move_set.Statement.{statement}
 use Rattle.pauli_group.proofs.moved.move_set.Tie as tie

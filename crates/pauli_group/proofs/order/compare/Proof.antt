@@ -14,7 +14,7 @@ same-length : tie.Need-same-length
 same-length c = search needs
 
 returns : tie.Need-returns
-returns c = let s = c .before .before .before .before .before .before .before .before .before .before .before in (c .before .before .before .before .before .before .order-of .ensures, c .before .before .clear-bits .ensures ∙ cleared-whole _ (s .args .w .now) (c .before .before .before .before .before .before .order-of .kept .1 .1 .1 .1 .1 .1 .0 ∙ s .pre .4) (s .pre .4))
+returns c = let s = c .before .before .before .before .before .before .before .before .before .before .before in (c .before .before .before .before .before .before .order-of .ensures, c .before .before .clear-bits .ensures ∙ cleared-whole _ (s .args .w .now) (c .before .before .before .before .before .before .order-of .kept .1 .1 .1 .1 .1 .1 .0 ∙ s .pre .1) (s .pre .1))
 
 pub compare-spec : {M : Type 1} → statement M
 compare-spec = tie.close (tie.spec order-of-requires clear-bits-requires same-length returns)

@@ -18,13 +18,13 @@ describe-two-requires : tie.Need-describe-two-requires
 describe-two-requires c κs = search needs
 
 ranks-of-requires : tie.Need-ranks-of-requires
-ranks-of-requires c κs = step-positive (c .before .before .before .before .before .before .before .before .before .before .describe .ensures)
+ranks-of-requires c κs = step-positive _ _ _ (c .before .before .before .before .before .before .before .before .before .before .describe .ensures)
 
 ranks-of-requires-2 : tie.Need-ranks-of-requires-2
-ranks-of-requires-2 c κs = step-positive (c .before .before .before .before .before .before .before .describe2 .ensures)
+ranks-of-requires-2 c κs = step-positive _ _ _ (c .before .before .before .before .before .before .before .describe2 .ensures)
 
 ranks-of-requires-3 : tie.Need-ranks-of-requires-3
-ranks-of-requires-3 c κs = step-positive (c .before .before .before .before .describe-two .ensures)
+ranks-of-requires-3 c κs = step-positive _ _ _ (c .before .before .before .before .describe-two .ensures)
 
 order-by-requires : tie.Need-order-by-requires
 order-by-requires c κs = search needs
@@ -36,9 +36,9 @@ returns : tie.Need-returns
 returns c =
     let s = c .before .before .before .before .before .before .before .before .before .before .before .before .before .before .before .before .before .before .before in
     c .order-by .ensures
-    ∙ compared _ _ _ _ _ _ _ (ranks-are (c .before .before .before .before .before .before .before .before .before .before .before .before .before .before .describe .ensures) _ _ (c .before .before .before .ranks-of .ensures .0) (c .before .before .before .ranks-of .ensures .1))
-    (ranks-are (c .before .before .before .before .before .before .before .before .before .before .describe2 .ensures) _ _ (c .before .before .ranks-of2 .ensures .0) (c .before .before .ranks-of2 .ensures .1))
-    (ranks-are (c .before .before .before .before .before .before .describe-two .ensures) _ _ (c .before .ranks-of3 .ensures .0) (c .before .ranks-of3 .ensures .1)
+    ∙ compared _ _ _ _ _ _ _ (ranks-are _ _ _ (c .before .before .before .before .before .before .before .before .before .before .before .before .before .before .describe .ensures) _ _ (c .before .before .before .ranks-of .ensures .0) (c .before .before .before .ranks-of .ensures .1))
+    (ranks-are _ _ _ (c .before .before .before .before .before .before .before .before .before .before .describe2 .ensures) _ _ (c .before .before .ranks-of2 .ensures .0) (c .before .before .ranks-of2 .ensures .1))
+    (ranks-are _ _ _ (c .before .before .before .before .before .before .describe-two .ensures) _ _ (c .before .ranks-of3 .ensures .0) (c .before .ranks-of3 .ensures .1)
     ∙ ap (ranksOf none) (paulis-append (listOf (s .args .left .now)) (listOf (s .args .right .now))))
 
 pub order-of-spec : {M : Type 1} → statement M

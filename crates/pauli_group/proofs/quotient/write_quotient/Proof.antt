@@ -5,22 +5,22 @@ use Rattle.pauli.specs.Support.{mostQubits}
 use Rattle.pauli.specs.Told.{refused}
 use Rattle.pauli.specs.Condense.{listOf}
 use Rattle.pauli.specs.Writing.{toldBytes, leftIn}
-use Rattle.pauli_group.specs.Inner.Area.{cleared}
+use Rattle.pauli_group.specs.WorkArea.{cleared}
 use Rattle.pauli_group.proofs.group.GroupedLaws.{cleared-whole}
 use Rattle.pauli_group.specs.Answers.{orderOf}
-use Rattle.pauli_group.proofs.quotient.QuotientLaws.{swapped-few, quotient-none, quotient-some}
+use Rattle.pauli_group.proofs.quotient.QuotientLaws.{swapped, quotient-none, quotient-some}
 use borrow.Author.Needs.{needs}
 use Rattle.pauli_group.proofs.quotient.write_quotient.Statement.{statement}
 use Rattle.pauli_group.proofs.quotient.write_quotient.Tie as tie
 
 order-of-requires : tie.Need-order-of-requires
-order-of-requires c κs = let s = c .before .before .before .before .before in (s .pre .1, s .pre .0, omega (arith, s .pre .2), swapped-few (listOf (s .args .left .now)) (listOf (s .args .right .now)) mostQubits (s .pre .3), s .pre .4)
+order-of-requires c κs = let s = c .before .before .before .before .before in (swapped (s .pre .0), s .pre .1)
 
 is-below-requires : tie.Need-is-below-requires
 is-below-requires c κs = search needs
 
 clear-bits-requires : tie.Need-clear-bits-requires
-clear-bits-requires c κs = let s = c .before .before .before .before .before .before .before .before .before .before .before in omega (arith, c .before .before .before .before .before .order-of .kept .1 .1 .1 .1 .1 .1 .0, s .pre .4)
+clear-bits-requires c κs = let s = c .before .before .before .before .before .before .before .before .before .before .before in omega (arith, c .before .before .before .before .before .order-of .kept .1 .1 .1 .1 .1 .1 .0, s .pre .1)
 
 same-length : tie.Need-same-length
 same-length c = c .before .before .clear-bits .kept .0 ∙ c .before .before .before .before .before .before .before .before .order-of .kept .1 .1 .1 .1 .1 .1 .0
@@ -33,12 +33,12 @@ returns c =
       sym (ap (λ t. toldBytes t (s .args .out .now)) none),
       (
         sym (ap (λ t. leftIn t (s .args .out .now)) none),
-        c .before .before .clear-bits .ensures ∙ cleared-whole _ (s .args .w .now) (c .before .before .before .before .before .before .before .before .order-of .kept .1 .1 .1 .1 .1 .1 .0 ∙ s .pre .4) (s .pre .4),
+        c .before .before .clear-bits .ensures ∙ cleared-whole _ (s .args .w .now) (c .before .before .before .before .before .before .before .before .order-of .kept .1 .1 .1 .1 .1 .1 .0 ∙ s .pre .1) (s .pre .1),
       ),
     )
 
 write-modulo-requires : tie.Need-write-modulo-requires
-write-modulo-requires c κs = let s = c .before .before .before .before .before .before .before .before .before .before .before .before in (s .pre .0, s .pre .1, s .pre .3, c .before .before .before .before .before .before .order-of .kept .1 .1 .1 .1 .1 .1 .0 ∙ s .pre .4)
+write-modulo-requires c κs = let s = c .before .before .before .before .before .before .before .before .before .before .before .before in (s .pre .0, c .before .before .before .before .before .before .order-of .kept .1 .1 .1 .1 .1 .1 .0 ∙ s .pre .1)
 
 same-length-2 : tie.Need-same-length-2
 same-length-2 c = c .before .before .before .before .write-modulo .kept .1 .1 .1 .1 .1 .0 ∙ c .before .before .before .before .before .before .before .before .before .before .before .order-of .kept .1 .1 .1 .1 .1 .1 .0
@@ -55,7 +55,7 @@ returns-2 c =
       write .0 ∙ sym (ap (λ t. toldBytes t (s .args .out .now)) some),
       (
         write .1 .0 ∙ sym (ap (λ t. leftIn t (s .args .out .now)) some),
-        write .1 .1 ∙ cleared-whole _ (s .args .w .now) (c .before .before .before .before .before .before .before .before .before .before .before .order-of .kept .1 .1 .1 .1 .1 .1 .0 ∙ s .pre .4) (s .pre .4),
+        write .1 .1 ∙ cleared-whole _ (s .args .w .now) (c .before .before .before .before .before .before .before .before .before .before .before .order-of .kept .1 .1 .1 .1 .1 .1 .0 ∙ s .pre .1) (s .pre .1),
       ),
     )
 

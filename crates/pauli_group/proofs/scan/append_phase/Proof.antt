@@ -1,8 +1,9 @@
 -- Nothing is written, or one power of i behind the list.
+use Rattle.pauli.specs.Pauli.{phase}
 use mathlib.Core.Path.{refl}
 use Prim.Native.Nat.{_+_, _*_}
 use native.Mathlib.Omega.{arith}
-use Rattle.pauli_theory.specs.Standard.{phase}
+use Rattle.pauli_theory.specs.Standard.{}
 use Rattle.pauli_group.proofs.scan.PhaseLaws.{appended-zero, appended-power, appended-identity, appended-nothing, nothing-behind, power-behind}
 use borrow.Author.Needs.{needs}
 use Rattle.pauli_group.proofs.scan.append_phase.Statement.{statement}
