@@ -15,6 +15,7 @@ use crate::text::put_text;
 use pauli::places::Places;
 use pauli::refusal::Refusal;
 use pauli::refusal::number_of;
+use pauli::support::Place;
 
 // ---- the first line
 
@@ -78,16 +79,16 @@ pub(crate) fn put_first_line(out: &mut [u8], at: usize, rank: usize, step: u64, 
     put_text(out, end, b"\n")
 }
 
-// ---- the line of an element
+// ---- the line of an element: the numbers of its index set are places in the list of generators
 
 fn indexes_length(set: Places) -> usize
     ensures { λ r. ⌜ (r ≡ length (indexesText (members (setIn set)))) × (r ≤ 2688) ⌝ }
 {
     let mut total = 0;
-    let mut i = set.first_from(0);
+    let mut i = set.first_from(Place(0)).0;
     while i < 128 {
         total += 1 + number_length(i);
-        i = set.first_from(i + 1);
+        i = set.first_from(Place(i + 1)).0;
     }
     total
 }
@@ -97,10 +98,10 @@ fn put_indexes(out: &mut [u8], at: usize, set: Places) -> usize
     ensures { λ r. ⌜ Put (now (out .entry)) at (indexesText (members (setIn set))) (now (out .exit)) r ⌝ }
 {
     let mut next = at;
-    let mut i = set.first_from(0);
+    let mut i = set.first_from(Place(0)).0;
     while i < 128 {
         next = put_labelled(out, next, b" ", i);
-        i = set.first_from(i + 1);
+        i = set.first_from(Place(i + 1)).0;
     }
     next
 }

@@ -5,6 +5,7 @@ ghost use lib.Bits.{bitOr};
 ghost use lib.Dec.{eqb};
 ghost use Rattle.binar.specs.Row.{_⊕_, bit, dot, weight as weightOf};
 ghost use Rattle.pauli.specs.PlaceSet.{setIn, firstFrom};
+use crate::support::Place;
 
 // A set of at most 128 places: place p is bit p % 64 of low, or of high from 64 on.
 pub struct Places {
@@ -20,35 +21,37 @@ impl Places {
     }
 
     // 1 where the place is in the set, else 0.
-    pub fn index(self, p: usize) -> u64
-        requires { ⌜ p < 128 ⌝ }
-        ensures { λ r. ⌜ r ≡ bit (setIn self) p ⌝ }
+    pub fn index(self, p: Place) -> u64
+        requires { ⌜ p .0 < 128 ⌝ }
+        ensures { λ r. ⌜ r ≡ bit (setIn self) (p .0) ⌝ }
     {
-        if p < 64 {
-            return (self.low >> p) % 2;
+        let i = p.0;
+        if i < 64 {
+            return (self.low >> i) % 2;
         }
-        (self.high >> (p - 64)) % 2
+        (self.high >> (i - 64)) % 2
     }
 
     // The first place of the set from p on, or 128.
-    pub fn first_from(self, p: usize) -> usize
-        requires { ⌜ p ≤ 128 ⌝ }
-        ensures { λ r. ⌜ r ≡ firstFrom (setIn self) p ⌝ }
+    pub fn first_from(self, p: Place) -> Place
+        requires { ⌜ p .0 ≤ 128 ⌝ }
+        ensures { λ r. ⌜ r .0 ≡ firstFrom (setIn self) (p .0) ⌝ }
     {
-        if p < 64 {
-            let rest = self.low >> p;
+        let i = p.0;
+        if i < 64 {
+            let rest = self.low >> i;
             if rest != 0 {
-                return p + (u64::trailing_zeros(rest) as usize);
+                return Place(i + (u64::trailing_zeros(rest) as usize));
             }
-            return 64 + (u64::trailing_zeros(self.high) as usize);
+            return Place(64 + (u64::trailing_zeros(self.high) as usize));
         }
-        if p < 128 {
-            let rest = self.high >> (p - 64);
+        if i < 128 {
+            let rest = self.high >> (i - 64);
             if rest != 0 {
-                return p + (u64::trailing_zeros(rest) as usize);
+                return Place(i + (u64::trailing_zeros(rest) as usize));
             }
         }
-        128
+        Place(128)
     }
 
     // The places in one of the two sets and not in the other.

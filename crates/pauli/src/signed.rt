@@ -8,6 +8,7 @@ ghost use Rattle.pauli.specs.Pauli.{I, normal, times as timesOf, anticom
 ghost use Rattle.pauli.specs.Signed.{held, pauliIn, pauliWords, listIn};
 ghost use Rattle.pauli.specs.PlaceSet.{setIn};
 use crate::places::Places;
+use crate::support::Place;
 
 // The exponent is eight bits and wraps; its value is its remainder by 4.
 pub struct Pauli {
@@ -126,16 +127,17 @@ pub fn store(w: &mut [u64], at: usize, p: Pauli)
     w[at + 4] = z.high;
 }
 
-// The product of those of the n Paulis from word base on whose numbers are in the set, in rising order.
+// The product of those of the n Paulis from word base on whose numbers are in the set, in rising order. The numbers of an index set
+// are places too: places in the list of generators.
 pub fn indexed_product(w: &[u64], base: usize, n: usize, set: Places) -> Pauli
     requires { ⌜ (base + 5 * n ≤ length (now w)) × (n ≤ 128) ⌝ }
     ensures { λ r. ⌜ normal (held r) ≡ indexedProduct (setIn set) (listIn (now (w .entry)) base n) ⌝ }
 {
     let mut product = Pauli::identity();
-    let mut i = set.first_from(0);
+    let mut i = set.first_from(Place(0)).0;
     while i < n {
         product = product.times(load(w, base + 5 * i)).pauli;
-        i = set.first_from(i + 1);
+        i = set.first_from(Place(i + 1)).0;
     }
     product
 }

@@ -15,6 +15,8 @@ use crate::places::Places;
 use crate::refusal::Reason;
 use crate::refusal::Refusal;
 use crate::signed::load;
+use crate::support::Place;
+use crate::support::qubit_at;
 
 // What a call that writes a roll tells: how many bytes it wrote, or why it is refused.
 pub enum Wrote {
@@ -68,11 +70,12 @@ fn put_set(out: &mut [u8], at: usize, set: Places, support: &[u32], count: usize
     ensures next { λ r. ⌜ r ≡ at + 4 * length (select (setIn set) (take count (now (support .entry)))) ⌝ }
 {
     let mut next = at;
-    let mut p = set.first_from(0);
+    let mut p = set.first_from(Place(0)).0;
     while p < count {
-        put_u32(out, next, support[p]);
+        let q = qubit_at(support, Place(p));
+        put_u32(out, next, q.0);
         next += 4;
-        p = set.first_from(p + 1);
+        p = set.first_from(Place(p + 1)).0;
     }
     next
 }

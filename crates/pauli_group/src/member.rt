@@ -39,6 +39,7 @@ use pauli::signed::indexed_product;
 use pauli::support::Place;
 use pauli::support::Qubit;
 use pauli::support::place_from;
+use pauli::support::qubit_at;
 use pauli::support::walk_start;
 use pauli::write::put_u16;
 
@@ -74,7 +75,8 @@ fn covers(b: &[u8], at: usize, total: usize, support: &[u32], count: usize) -> b
         if i >= count {
             return false;
         }
-        if support[i] != q.0 {
+        let met = qubit_at(support, place);
+        if met.0 != q.0 {
             return false;
         }
         from = Place(i + 1);
@@ -152,16 +154,16 @@ pub fn factor(
     }
 }
 
-// Writes the numbers below n in the set, rising, two bytes each.
+// Writes the numbers below n in the set, rising, two bytes each: places in the list of generators.
 pub(crate) fn put_indexes(out: &mut [u8], set: Places, n: usize)
     requires { ⌜ (n ≤ 128) × (setIn set < 2 ^ n) × (2 * weight (setIn set) ≤ length (now out)) ⌝ }
     ensures { λ _. ⌜ now (out .exit) ≡ putBytes (now (out .entry)) 0 (le16s (members (setIn set))) ⌝ }
 {
     let mut next = 0;
-    let mut i = set.first_from(0);
+    let mut i = set.first_from(Place(0)).0;
     while i < n {
         put_u16(out, next, i);
         next += 2;
-        i = set.first_from(i + 1);
+        i = set.first_from(Place(i + 1)).0;
     }
 }

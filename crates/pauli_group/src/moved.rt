@@ -27,12 +27,12 @@ fn move_set(set: Places, own: &[u32], count: usize, joined: &[u32], size: usize)
 {
     let mut moved = Places::none();
     let mut from = Place(0);
-    let mut i = set.first_from(0);
+    let mut i = set.first_from(Place(0)).0;
     while i < count {
         let place = place_from(joined, size, from, qubit_at(own, Place(i)));
         moved = with_place(moved, place);
         from = place;
-        i = set.first_from(i + 1);
+        i = set.first_from(Place(i + 1)).0;
     }
     moved
 }

@@ -32,8 +32,8 @@ add-total c = omega arith
 add-total-2 : tie.Need-add-total-2 Inv-loop μ-loop
 add-total-2 c = omega arith
 
-add-first-from : tie.Need-add-first-from Inv-loop μ-loop
-add-first-from c = omega arith
+add-t7 : tie.Need-add-t7 Inv-loop μ-loop
+add-t7 c = omega arith
 
 first-from-requires-2 : tie.Need-first-from-requires-2 Inv-loop μ-loop
 first-from-requires-2 c κs = omega arith
@@ -63,7 +63,7 @@ indexes-length-spec =
     number-length-requires
     add-total
     add-total-2
-    add-first-from
+    add-t7
     first-from-requires-2
     loop-less
     loop-again

@@ -40,8 +40,8 @@ put-labelled-requires c κs =
     let inv = t .before .loop .inv in
     put-fits _ _ (inv .1) (t .loop-test .taken) (inv .0 (t .loop-test .taken))
 
-add-first-from : tie.Need-add-first-from Inv-loop μ-loop
-add-first-from c = omega arith
+add-t15 : tie.Need-add-t15 Inv-loop μ-loop
+add-t15 c = omega arith
 
 first-from-requires-2 : tie.Need-first-from-requires-2 Inv-loop μ-loop
 first-from-requires-2 c κs = omega arith
@@ -74,7 +74,7 @@ put-indexes-spec =
     loop-holds
     slice-aggregate-put-labelled
     put-labelled-requires
-    add-first-from
+    add-t15
     first-from-requires-2
     loop-less
     loop-again

@@ -44,8 +44,8 @@ load-requires c κs = omega arith
 times-requires : tie.Need-times-requires Inv-loop μ-loop
 times-requires c κs = omega arith
 
-add-first-from : tie.Need-add-first-from Inv-loop μ-loop
-add-first-from c = omega arith
+add-t12 : tie.Need-add-t12 Inv-loop μ-loop
+add-t12 c = omega arith
 
 first-from-requires-2 : tie.Need-first-from-requires-2 Inv-loop μ-loop
 first-from-requires-2 c κs = omega arith
@@ -87,7 +87,7 @@ indexed-product-spec =
     add-load
     load-requires
     times-requires
-    add-first-from
+    add-t12
     first-from-requires-2
     loop-less
     loop-again

@@ -46,21 +46,19 @@ returns c =
     covered-none _ _ _ _ _ _ _ (t .before .loop .inv) (t .loop-test .taken) _ (place .before .before .u32-at .ensures) _ (place .place-from .ensures)
     (s .pre .2) (λ l e. omega (arith, size, c .if1 .taken))
 
-mul-if2 : tie.Need-mul-if2 Inv-loop μ-loop
-mul-if2 c = omega arith
-
-shared-slice-read-if2 : tie.Need-shared-slice-read-if2 Inv-loop μ-loop
-shared-slice-read-if2 c = omega arith
+qubit-at-requires : tie.Need-qubit-at-requires Inv-loop μ-loop
+qubit-at-requires c κs = omega (arith, c .if1 .left, c .before .before .before .before .before .before .before .before .pre .1)
 
 returns-2 : tie.Need-returns-2 Inv-loop μ-loop
 returns-2 c =
-    let inside = c .before .before .before in
+    let met = c .before .before .before in
+    let inside = met .before in
     let place = inside .before in
     let t = place .before .before .before in
     let s = t .before .before .before .before in
     let at = getD-take (s .args .count) (s .args .support .now) (place .place-from .result .0) 0 (omega (arith, inside .if1 .left)) in
     covered-none _ _ _ _ _ _ _ (t .before .loop .inv) (t .loop-test .taken) _ (place .before .before .u32-at .ensures) _ (place .place-from .ensures)
-    (s .pre .2) (λ l e. c .if2 .taken (sym at ∙ e))
+    (s .pre .2) (λ l e. c .if2 .taken (met .qubit-at .ensures ∙ sym at ∙ e))
 
 add-t15 : tie.Need-add-t15 Inv-loop μ-loop
 add-t15 c = omega arith
@@ -73,14 +71,15 @@ loop-less c = omega arith
 
 loop-again : tie.Need-loop-again Inv-loop μ-loop
 loop-again c =
-    let inside = c .before .before .before in
+    let met = c .before .before .before in
+    let inside = met .before in
     let place = inside .before in
     let t = place .before .before .before in
     let s = t .before .before .before .before in
     let size = length-take-le (s .args .count) (s .args .support .now) (s .pre .1) in
     let at = getD-take (s .args .count) (s .args .support .now) (place .place-from .result .0) 0 (omega (arith, inside .if1 .left)) in
     covered-next _ _ _ _ _ _ _ (t .before .loop .inv) (t .loop-test .taken) _ (place .before .before .u32-at .ensures) _ (place .place-from .ensures)
-    (omega (arith, size, inside .if1 .left)) (at ∙ c .if2 .left)
+    (omega (arith, size, inside .if1 .left)) (at ∙ sym (met .qubit-at .ensures) ∙ c .if2 .left)
 
 returns-3 : tie.Need-returns-3 Inv-loop μ-loop
 returns-3 c = covered-end _ _ _ _ _ _ _ (c .before .loop .inv) (c .loop-test .left)
@@ -98,8 +97,7 @@ covers-spec =
     walk-start-requires
     place-from-requires
     returns
-    mul-if2
-    shared-slice-read-if2
+    qubit-at-requires
     returns-2
     add-t15
     add-k

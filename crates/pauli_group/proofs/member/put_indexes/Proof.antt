@@ -41,8 +41,8 @@ add-next c =
     let small = l .before .before .before .pre .1 in
     omega (arith, indexes-room _ _ small _ (l .loop .inv .1) (c .before .before .before .before .loop-test .taken) (l .loop .inv .0 (omega arith)))
 
-add-first-from : tie.Need-add-first-from Inv-loop μ-loop
-add-first-from c = omega arith
+add-t13 : tie.Need-add-t13 Inv-loop μ-loop
+add-t13 c = omega arith
 
 first-from-requires-2 : tie.Need-first-from-requires-2 Inv-loop μ-loop
 first-from-requires-2 c κs = omega arith
@@ -78,7 +78,7 @@ put-indexes-spec =
     loop-holds
     put-u16-requires
     add-next
-    add-first-from
+    add-t13
     first-from-requires-2
     loop-less
     loop-again

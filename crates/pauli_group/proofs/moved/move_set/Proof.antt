@@ -50,8 +50,8 @@ with-place-requires c κs =
     let p = t .before .before .before .before .before .before .pre in
     rw (c .place-from .ensures) (move-place _ _ _ _ _ (p .2) (p .1) (p .3) (p .5) _ _ (t .loop-test .taken) (l .inv .0 (omega (arith, p .0))) (c .before .qubit-at .ensures))
 
-add-first-from : tie.Need-add-first-from Inv-loop μ-loop
-add-first-from c = omega arith
+add-t15 : tie.Need-add-t15 Inv-loop μ-loop
+add-t15 c = omega arith
 
 first-from-requires-2 : tie.Need-first-from-requires-2 Inv-loop μ-loop
 first-from-requires-2 c κs = omega (arith, c .before .before .before .before .before .before .before .before .before .pre .0)
@@ -90,7 +90,7 @@ move-set-spec =
     qubit-at-requires
     place-from-requires
     with-place-requires
-    add-first-from
+    add-t15
     first-from-requires-2
     loop-less
     loop-again

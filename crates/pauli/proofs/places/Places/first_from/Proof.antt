@@ -10,38 +10,38 @@ use Rattle.pauli.proofs.places.Places.first_from.Tie as tie
 shr-rest : tie.Need-shr-rest
 shr-rest c = search needs
 
-cast-result : tie.Need-cast-result
-cast-result c = omega (arith, trailing-le 64 (c .before .before .before .args .self .low / 2 ^ (c .before .before .before .args .p)))
+cast-t10 : tie.Need-cast-t10
+cast-t10 c = omega (arith, trailing-le 64 (c .before .before .before .args .self .low / 2 ^ (c .before .before .before .args .p .0)))
 
-add-result : tie.Need-add-result
-add-result c = omega (arith, trailing-le 64 (c .before .before .before .args .self .low / 2 ^ (c .before .before .before .args .p)))
+add-t11 : tie.Need-add-t11
+add-t11 c = omega (arith, trailing-le 64 (c .before .before .before .args .self .low / 2 ^ (c .before .before .before .args .p .0)))
 
 returns : tie.Need-returns
-returns c = low-some (c .before .before .before .args .self) (record { low = omega arith; high = omega arith }) (c .before .before .before .args .p) (c .before .before .if1 .taken) (c .if2 .taken)
+returns c = low-some (c .before .before .before .args .self) (record { low = omega arith; high = omega arith }) (c .before .before .before .args .p .0) (c .before .before .if1 .taken) (c .if2 .taken)
 
-cast-result-2 : tie.Need-cast-result-2
-cast-result-2 c = omega (arith, trailing-le 64 (c .before .before .before .before .args .self .high))
+cast-t13 : tie.Need-cast-t13
+cast-t13 c = omega (arith, trailing-le 64 (c .before .before .before .before .args .self .high))
 
-add-result-2 : tie.Need-add-result-2
-add-result-2 c = omega (arith, trailing-le 64 (c .before .before .before .before .args .self .high))
+add-t14 : tie.Need-add-t14
+add-t14 c = omega (arith, trailing-le 64 (c .before .before .before .before .args .self .high))
 
 returns-2 : tie.Need-returns-2
-returns-2 c = low-none (c .before .before .before .before .args .self) (record { low = omega arith; high = omega arith }) (c .before .before .before .before .args .p) (c .before .before .before .if1 .taken) (c .before .if2 .left)
+returns-2 c = low-none (c .before .before .before .before .args .self) (record { low = omega arith; high = omega arith }) (c .before .before .before .before .args .p .0) (c .before .before .before .if1 .taken) (c .before .if2 .left)
 
 shr-rest-2 : tie.Need-shr-rest-2
 shr-rest-2 c = search needs
 
-cast-result-3 : tie.Need-cast-result-3
-cast-result-3 c = omega (arith, trailing-le 64 (c .before .before .before .before .args .self .high / 2 ^ (c .before .before .before .before .args .p - 64)))
+cast-t19 : tie.Need-cast-t19
+cast-t19 c = omega (arith, trailing-le 64 (c .before .before .before .before .args .self .high / 2 ^ (c .before .before .before .before .args .p .0 - 64)))
 
-add-result-3 : tie.Need-add-result-3
-add-result-3 c = omega (arith, trailing-le 64 (c .before .before .before .before .args .self .high / 2 ^ (c .before .before .before .before .args .p - 64)))
+add-t20 : tie.Need-add-t20
+add-t20 c = omega (arith, trailing-le 64 (c .before .before .before .before .args .self .high / 2 ^ (c .before .before .before .before .args .p .0 - 64)))
 
 returns-3 : tie.Need-returns-3
-returns-3 c = high-some (c .before .before .before .before .args .self) (record { low = omega arith; high = omega arith }) (c .before .before .before .before .args .p) (omega arith) (omega arith) (c .if4 .taken)
+returns-3 c = high-some (c .before .before .before .before .args .self) (record { low = omega arith; high = omega arith }) (c .before .before .before .before .args .p .0) (omega arith) (omega arith) (c .if4 .taken)
 
 returns-4 : tie.Need-returns-4
-returns-4 c = high-none (c .before .before .before .before .args .self) (record { low = omega arith; high = omega arith }) (c .before .before .before .before .args .p) (omega arith) (omega arith) (c .if4 .left)
+returns-4 c = high-none (c .before .before .before .before .args .self) (record { low = omega arith; high = omega arith }) (c .before .before .before .before .args .p .0) (omega arith) (omega arith) (c .if4 .left)
 
 returns-5 : tie.Need-returns-5
 returns-5 c = past-all _ _ (omega arith)
@@ -51,15 +51,15 @@ first-from-spec =
     tie.close
     (tie.spec
     shr-rest
-    cast-result
-    add-result
+    cast-t10
+    add-t11
     returns
-    cast-result-2
-    add-result-2
+    cast-t13
+    add-t14
     returns-2
     shr-rest-2
-    cast-result-3
-    add-result-3
+    cast-t19
+    add-t20
     returns-3
     returns-4
     returns-5)
