@@ -1,4 +1,3 @@
-pub mod Lists
 pub mod Span
 pub mod Steps
 pub mod Kept

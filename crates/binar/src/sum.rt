@@ -23,7 +23,7 @@ fn add_two(w: &mut [u64], to: usize, from: usize, bit: u64)
     w[to + 1] = b;
 }
 
-// The same, for rows of any length.
+// Adds n words of a row to those of another, if bit is 1.
 fn add_words(w: &mut [u64], to: usize, from: usize, n: usize, bit: u64)
     requires { ⌜ TwoRows (now w) to from n × (bit ≤ 1) ⌝ }
     ensures { λ _. ⌜ now (w .exit) ≡ putRow (now (w .entry)) to n (rowAt (now (w .entry)) to n ⊕ bit * rowAt (now (w .entry)) from n) ⌝ }

@@ -9,7 +9,7 @@ ghost use Rattle.pauli.specs.WriteAnswers.{toldWrote};
 ghost use Rattle.pauli.specs.Condense.{listOf};
 ghost use Rattle.pauli.specs.Writing.{toldBytes, leftIn};
 ghost use Rattle.pauli_theory.specs.Membership.{factorizationOf};
-ghost use Rattle.pauli_group.specs.Inner.Area.{spareAt};
+ghost use Rattle.pauli_group.specs.Inner.Area.{furtherAt};
 ghost use Rattle.pauli_group.specs.WorkArea.{cleared};
 ghost use Rattle.pauli_group.specs.Calls.{paulis};
 ghost use Rattle.pauli_group.specs.Inner.Members.{factoringTold, Asked};
@@ -28,8 +28,9 @@ use pauli::refusal::Reason;
 use pauli::refusal::Refusal;
 use pauli::roll::Checked;
 use pauli::roll::check_roll;
+use pauli::support::MOST_QUBITS;
 use pauli::write::Wrote;
-use pauli_group::area::SPARE;
+use pauli_group::area::FURTHER;
 use pauli_group::area::WORK_WORDS;
 use pauli_group::group::Group;
 use pauli_group::group::group_of;
@@ -56,12 +57,12 @@ fn store_result(w: &mut [u64], at: usize, factoring: Factoring)
 // stores the results in place of a further list.
 fn factor_all(b: &[u8], m: usize, known: &[u32], n: usize, group: Group, step: u64, w: &mut [u64])
     requires { ⌜ (countOf (now b) ≡ answer m) × (n ≤ 128) × (length (now w) ≡ 4096) × (group .places ≤ 128) × Asked (now known) (now w) n (group .places) (group .rank) (group .total) step ⌝ }
-    ensures { λ _. ⌜ ((g : Asked (now (known .entry)) (now (w .entry)) n (group .places) (group .rank) (group .total) step) → storedIn (now (w .exit)) spareAt m ≡ map (factorizationOf (g .promise) (g .list)) (paulis (listOf (now (b .entry))))) ⌝ }
+    ensures { λ _. ⌜ ((g : Asked (now (known .entry)) (now (w .entry)) n (group .places) (group .rank) (group .total) step) → storedIn (now (w .exit)) furtherAt m ≡ map (factorizationOf (g .promise) (g .list)) (paulis (listOf (now (b .entry))))) ⌝ }
 {
     let mut k = 0;
     while k < m {
         let factoring = factor(b, m, k, known, n, group, step, w);
-        store_result(w, SPARE + 5 * k, factoring);
+        store_result(w, FURTHER + 5 * k, factoring);
         k += 1;
     }
 }
@@ -79,11 +80,11 @@ fn write_report(
     ensures told { λ r. ⌜ toldWrote r ≡ toldBytes (answer (report (paulis (listOf (now (b .entry)))) (paulis (listOf (now (elements .entry)))))) (now (out .entry)) ⌝ }
     ensures left { λ _. ⌜ now (out .exit) ≡ leftIn (answer (report (paulis (listOf (now (b .entry)))) (paulis (listOf (now (elements .entry)))))) (now (out .entry)) ⌝ }
 {
-    let mut known = [0u32; 129];
+    let mut known = [0u32; MOST_QUBITS + 1];
     let g = group_of(b, n, &mut known, w);
     let signs = signs_of(w, g.total, Promise::None);
     factor_all(elements, m, &known, n, g, signs.step, w);
-    write_listing(g.rank, signs.step, signs.clash, w, SPARE, m, out)
+    write_listing(g.rank, signs.step, signs.clash, w, FURTHER, m, out)
 }
 
 // Writes the line for an input without a whole first roll.
@@ -131,7 +132,7 @@ fn write_text(input: &[u8], w: &mut [u64], out: &mut [u8]) -> Wrote
     write_report(&input[4..end], n, &input[end..], m, w, out)
 }
 
-// The same, and the work area is zero at the end.
+// Writes the text of an input, and clears the work area.
 fn write_and_clear(input: &[u8], w: &mut [u64], out: &mut [u8]) -> Wrote
     requires { ⌜ length (now w) ≡ 4096 ⌝ }
     ensures told { λ r. ⌜ toldWrote r ≡ toldBytes (answer (textOf (now (input .entry)))) (now (out .entry)) ⌝ }

@@ -7,7 +7,7 @@ use native.Mathlib.Omega.{arith}
 use borrow.Author.Tests.{ltb-false, le-ltb}
 use lib.Dec.{ltb}
 use lib.ListN.{length, take, length-map, length-append, List·getD-map}
-use Rattle.binar.proofs.echelon.Lists.{all-join, all-get, all-by}
+use Rattle.binar.proofs.Lists.{all-join, all-get, all-by}
 use Rattle.pauli.specs.WriteAnswers.{toldWrote}
 use Rattle.pauli.specs.JoinCalls.{readBoth, fewQubits, joinedOf, joinOf}
 use Rattle.pauli.specs.Condense.{nothing}

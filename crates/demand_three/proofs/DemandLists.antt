@@ -5,7 +5,7 @@ use Prim.Native.Nat.{ℕ, zero, suc, _+_, _*_, _/_, _%_, _^_, _<_}
 use native.Mathlib.Omega.{arith}
 use lib.ListN.{length, getD, drop, length-map, List·getD-map}
 use lib.Seq.{ext-getD}
-use Rattle.binar.proofs.echelon.Lists.{all-map, all-over, all-under}
+use Rattle.binar.proofs.Lists.{all-map, all-over, all-under}
 use Rattle.pauli.specs.Bytes.{u16At, le16}
 use Rattle.pauli.specs.Pauli.{Pauli, I, normal, consIf, select}
 use Rattle.pauli.specs.Roll.{Sparse, byValue}

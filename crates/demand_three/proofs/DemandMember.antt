@@ -9,7 +9,7 @@ use borrow.Author.Tests.{ltb-false, le-ltb, lt-leb}
 use lib.Dec.{ltb}
 use lib.ListN.{length, replicate, length-replicate}
 use Rattle.binar.specs.Row.{weight}
-use Rattle.binar.proofs.echelon.Lists.{all-map}
+use Rattle.binar.proofs.Lists.{all-map}
 use Rattle.pauli.specs.JoinCalls.{readBoth, within}
 use Rattle.pauli.specs.Pauli.{indexedProduct}
 use Rattle.pauli.specs.Roll.{mostPaulis}

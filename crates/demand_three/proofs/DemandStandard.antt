@@ -5,7 +5,7 @@ use mathlib.Core.List.{List, map, map-id}
 use Prim.Native.Nat.{ℕ}
 use lib.Dec.{ltb}
 use lib.ListN.{length, take}
-use Rattle.binar.proofs.echelon.Lists.{all-map, map-same}
+use Rattle.binar.proofs.Lists.{all-map, map-same}
 use Rattle.pauli.specs.WriteAnswers.{toldWrote}
 use Rattle.pauli.specs.Sets.{pauliOf, sparseOf}
 use Rattle.pauli.specs.Pauli.{Pauli, normal}

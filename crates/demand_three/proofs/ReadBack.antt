@@ -7,7 +7,7 @@ use native.Mathlib.Omega.{arith}
 use borrow.Author.Tests.{ltb-false}
 use lib.Dec.{ltb}
 use lib.ListN.{length, take, drop, length-map}
-use Rattle.binar.proofs.echelon.Lists.{all-left, all-right}
+use Rattle.binar.proofs.Lists.{all-left, all-right}
 use Rattle.pauli.specs.declared.write.Wrote.{Wrote}
 use Rattle.pauli.specs.WriteAnswers.{toldWrote}
 use Rattle.pauli.specs.JoinCalls.{readBoth, fewQubits}

@@ -61,7 +61,7 @@ pub fn product(left: &[u8], i: usize, right: &[u8], j: usize, out: &mut [u8]) ->
         }
         Checked::Count(n) => n,
     };
-    let mut known = [0u32; 129];
+    let mut known = [0u32; MOST_QUBITS + 1];
     let count = join_support(left, nl, right, nr, &mut known);
     if count > MOST_QUBITS {
         return Wrote::Refused(Refusal {

@@ -10,6 +10,6 @@ pub(crate) const LIST: usize = 1056;
 // Where the standard generators stand, five words each.
 pub(crate) const STANDARD: usize = 1712;
 // Where a further list stands, five words each.
-pub const SPARE: usize = 2368;
+pub const FURTHER: usize = 2368;
 // R's words of a row of the form.
 pub(crate) const ROW_WORDS: usize = 4;

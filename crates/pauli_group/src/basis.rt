@@ -6,15 +6,16 @@ ghost use Rattle.pauli.specs.Roll.{countOf};
 ghost use Rattle.pauli.specs.Told.{answer};
 ghost use Rattle.pauli.specs.Condense.{listOf};
 ghost use Rattle.pauli.specs.Signed.{listIn};
-ghost use Rattle.pauli_group.specs.Inner.Area.{spareAt};
+ghost use Rattle.pauli_group.specs.Inner.Area.{furtherAt};
 ghost use Rattle.pauli_group.specs.Calls.{paulis};
 ghost use Rattle.pauli_group.specs.Inner.Shared.{Joint, Stack, basisOver};
-use crate::area::SPARE;
+use crate::area::FURTHER;
 use crate::area::STANDARD;
 use crate::form::form_of;
 use crate::form::put_products;
 use crate::group::group_of;
 use crate::moved::move_list;
+use pauli::support::MOST_QUBITS;
 
 // How many Paulis of each of two lists stand one after the other.
 pub(crate) struct Stacked {
@@ -35,14 +36,14 @@ fn stack_standard(
     requires { ⌜ (countOf (now left) ≡ answer nl) × (countOf (now right) ≡ answer nr) × (nl + nr ≤ 128) × (length (now w) ≡ 4096) × (size ≤ length (now joint)) × Joint (paulis (listOf (now left))) (paulis (listOf (now right))) (now joint) size ⌝ }
     ensures { λ r. ⌜ Stack (paulis (listOf (now (left .entry)))) (paulis (listOf (now (right .entry)))) (now (w .exit)) (r .first) (r .second) ⌝ }
 {
-    let mut known = [0u32; 129];
+    let mut known = [0u32; MOST_QUBITS + 1];
     let a = group_of(left, nl, &mut known, w);
-    move_list(w, STANDARD, SPARE, a.total, &known, a.places, joint, size);
+    move_list(w, STANDARD, FURTHER, a.total, &known, a.places, joint, size);
     let b = group_of(right, nr, &mut known, w);
     move_list(
         w,
         STANDARD,
-        SPARE + 5 * a.total,
+        FURTHER + 5 * a.total,
         b.total,
         &known,
         b.places,
@@ -68,14 +69,14 @@ pub(crate) fn common_basis(
 ) -> usize
     requires { ⌜ (countOf (now left) ≡ answer nl) × (countOf (now right) ≡ answer nr) × (nl + nr ≤ 128) × (length (now w) ≡ 4096) × (size ≤ length (now joint)) × Joint (paulis (listOf (now left))) (paulis (listOf (now right))) (now joint) size ⌝ }
     ensures few { λ r. ⌜ r ≤ 128 ⌝ }
-    ensures list { λ r. ⌜ listIn (now (w .exit)) spareAt r ≡ basisOver (paulis (listOf (now (left .entry)))) (paulis (listOf (now (right .entry)))) ⌝ }
+    ensures list { λ r. ⌜ listIn (now (w .exit)) furtherAt r ≡ basisOver (paulis (listOf (now (left .entry)))) (paulis (listOf (now (right .entry)))) ⌝ }
 {
     let stacked = stack_standard(left, nl, right, nr, joint, size, w);
     let n = stacked.first + stacked.second;
-    let rank = form_of(w, SPARE, n, size);
+    let rank = form_of(w, FURTHER, n, size);
     let zeros = n - rank;
-    put_products(w, n, rank, zeros, SPARE, stacked.first, STANDARD);
+    put_products(w, n, rank, zeros, FURTHER, stacked.first, STANDARD);
     let count = form_of(w, STANDARD, zeros, size);
-    put_products(w, zeros, 0, count, STANDARD, zeros, SPARE);
+    put_products(w, zeros, 0, count, STANDARD, zeros, FURTHER);
     count
 }

@@ -29,6 +29,7 @@ use crate::promise::Promise;
 use binar::row::clear_bits;
 use pauli::refusal::Refusal;
 use pauli::roll::Checked;
+use pauli::support::MOST_QUBITS;
 use pauli::write::Wrote;
 use pauli::write::write_roll;
 
@@ -39,7 +40,7 @@ fn write_standard(b: &[u8], n: usize, w: &mut [u64], out: &mut [u8]) -> Wrote
     ensures left { λ _. ⌜ now (out .exit) ≡ leftIn (answer (standardBytes (paulis (listOf (now (b .entry)))))) (now (out .entry)) ⌝ }
     ensures area { λ _. ⌜ now (w .exit) ≡ cleared (now (w .entry)) ⌝ }
 {
-    let mut known = [0u32; 129];
+    let mut known = [0u32; MOST_QUBITS + 1];
     let g = group_of(b, n, &mut known, w);
     let wrote = write_roll(w, STANDARD, g.total, &known, g.places, out);
     clear_bits(w, 0, WORK_WORDS);

@@ -13,7 +13,7 @@ ghost use Rattle.pauli.specs.Writing.{OnPlaces, toldBytes, leftIn};
 ghost use Rattle.pauli_theory.specs.Standard.{supportOf, phaseStep};
 ghost use Rattle.pauli_theory.specs.Common.{withExponent, phasesFrom, commonPart, lesser};
 ghost use Rattle.pauli_theory.specs.Inner.CommonPlaces.{sharedExponent, sharedWith};
-ghost use Rattle.pauli_group.specs.Inner.Area.{targetAt, spareAt, strideOf, Outside};
+ghost use Rattle.pauli_group.specs.Inner.Area.{targetAt, furtherAt, strideOf, Outside};
 ghost use Rattle.pauli_group.specs.WorkArea.{cleared};
 ghost use Rattle.pauli_group.specs.Inner.Lists.{Joinable};
 ghost use Rattle.pauli_group.specs.Calls.{paulis, listBytes, commonBytes};
@@ -23,8 +23,8 @@ ghost use Rattle.pauli_group.specs.CallContracts.{CommonCall};
 ghost use Rattle.pauli_group.specs.Inner.Moved.{MovablePauli};
 ghost use Rattle.pauli_group.specs.Inner.Shared.{Solving, exponentOver, exponentFor, noted, sharedNoted, exponentFound};
 use crate::answers::Order;
+use crate::area::FURTHER;
 use crate::area::LIST;
-use crate::area::SPARE;
 use crate::area::WORK_WORDS;
 use crate::basis::common_basis;
 use crate::checks::check_pair;
@@ -44,6 +44,7 @@ use pauli::signed::Pauli;
 use pauli::signed::indexed_product;
 use pauli::signed::load;
 use pauli::signed::store;
+use pauli::support::MOST_QUBITS;
 use pauli::write::Wrote;
 use pauli::write::write_roll;
 
@@ -85,19 +86,20 @@ fn note_exponents(
     joint: &[u32],
     size: usize,
 )
-    requires { ⌜ (length (now w) ≡ 4096) × (m ≤ 128) × Solving (now w) n (group .places) (group .rank) × (group .places ≤ length (now own)) × (size ≤ 128) × (size ≤ length (now joint)) × OnPlaces size (listIn (now w) spareAt m) × All (MovablePauli (take size (now joint)) (take (group .places) (now own))) (listIn (now w) spareAt m) ⌝ }
-    ensures { λ _. ⌜ listIn (now (w .exit)) spareAt m ≡ map (λ p. noted (exponentOver (take size (now (joint .entry))) (take (group .places) (now (own .entry))) n (group .places) (now (w .entry)) p) p) (listIn (now (w .entry)) spareAt m) ⌝ }
+    requires { ⌜ (length (now w) ≡ 4096) × (m ≤ 128) × Solving (now w) n (group .places) (group .rank) × (group .places ≤ length (now own)) × (size ≤ 128) × (size ≤ length (now joint)) × OnPlaces size (listIn (now w) furtherAt m) × All (MovablePauli (take size (now joint)) (take (group .places) (now own))) (listIn (now w) furtherAt m) ⌝ }
+    ensures { λ _. ⌜ listIn (now (w .exit)) furtherAt m ≡ map (λ p. noted (exponentOver (take size (now (joint .entry))) (take (group .places) (now (own .entry))) n (group .places) (now (w .entry)) p) p) (listIn (now (w .entry)) furtherAt m) ⌝ }
 {
     let mut i = 0;
     while i < m {
-        let at = SPARE + 5 * i;
+        let at = FURTHER + 5 * i;
         let e = exponent_of(w, at, n, group, own, joint, size);
         w[at] = w[at] % 4 * 4 + e;
         i += 1;
     }
 }
 
-// The same by the group of an accepted roll of n Paulis; tells the step between its phases.
+// Notes with each of the m Paulis of the further list the exponent by the group of an accepted roll of n Paulis; tells the step between
+// its phases.
 fn note_by(
     b: &[u8],
     n: usize,
@@ -107,11 +109,11 @@ fn note_by(
     w: &mut [u64],
     m: usize,
 ) -> u64
-    requires { ⌜ (countOf (now b) ≡ answer n) × (length (now w) ≡ 4096) × (m ≤ 128) × (size ≤ 128) × (size ≤ length (now joint)) × OnPlaces size (listIn (now w) spareAt m) × All (MovablePauli (take size (now joint)) (supportOf (paulis (listOf (now b))))) (listIn (now w) spareAt m) ⌝ }
+    requires { ⌜ (countOf (now b) ≡ answer n) × (length (now w) ≡ 4096) × (m ≤ 128) × (size ≤ 128) × (size ≤ length (now joint)) × OnPlaces size (listIn (now w) furtherAt m) × All (MovablePauli (take size (now joint)) (supportOf (paulis (listOf (now b))))) (listIn (now w) furtherAt m) ⌝ }
     ensures step { λ r. ⌜ r ≡ phaseStep (promiseOf promise) (paulis (listOf (now (b .entry)))) ⌝ }
-    ensures list { λ _. ⌜ listIn (now (w .exit)) spareAt m ≡ map (λ p. noted (exponentFor (take size (now (joint .entry))) (paulis (listOf (now (b .entry)))) p) p) (listIn (now (w .entry)) spareAt m) ⌝ }
+    ensures list { λ _. ⌜ listIn (now (w .exit)) furtherAt m ≡ map (λ p. noted (exponentFor (take size (now (joint .entry))) (paulis (listOf (now (b .entry)))) p) p) (listIn (now (w .entry)) furtherAt m) ⌝ }
 {
-    let mut known = [0u32; 129];
+    let mut known = [0u32; MOST_QUBITS + 1];
     let group = group_of(b, n, &mut known, w);
     let signs = signs_of(w, group.total, promise);
     note_exponents(w, m, n, group, &known, joint, size);
@@ -150,16 +152,16 @@ fn with_exponent(e: u8, p: Pauli) -> Pauli
 fn keep_shared(w: &mut [u64], m: usize, a: u64, b: u64) -> usize
     requires { ⌜ (length (now w) ≡ 4096) × (m ≤ 128) × (0 < a) × (0 < b) ⌝ }
     ensures few { λ r. ⌜ r ≤ m ⌝ }
-    ensures list { λ r. ⌜ listIn (now (w .exit)) spareAt r ≡ sharedWith (sharedNoted a b) (listIn (now (w .entry)) spareAt m) ⌝ }
+    ensures list { λ r. ⌜ listIn (now (w .exit)) furtherAt r ≡ sharedWith (sharedNoted a b) (listIn (now (w .entry)) furtherAt m) ⌝ }
 {
     let mut kept = 0;
     let mut i = 0;
     while i < m {
-        let at = SPARE + 5 * i;
+        let at = FURTHER + 5 * i;
         let e = shared_exponent(a, b, w[at] / 4 % 4, w[at] % 4);
         if e < 4 {
             let p = load(w, at);
-            store(w, SPARE + 5 * kept, with_exponent(e as u8, p));
+            store(w, FURTHER + 5 * kept, with_exponent(e as u8, p));
             kept += 1;
         }
         i += 1;
@@ -172,13 +174,13 @@ fn keep_shared(w: &mut [u64], m: usize, a: u64, b: u64) -> usize
 fn append_phases(w: &mut [u64], n: usize, a: u64, b: u64) -> usize
     requires { ⌜ (length (now w) ≡ 4096) × (n ≤ 128) × (0 < a) × (0 < b) ⌝ }
     ensures few { λ r. ⌜ r ≤ n + 4 ⌝ }
-    ensures list { λ r. ⌜ listIn (now (w .exit)) spareAt r ≡ listIn (now (w .entry)) spareAt n ++ phasesFrom a b 4 0 ⌝ }
+    ensures list { λ r. ⌜ listIn (now (w .exit)) furtherAt r ≡ listIn (now (w .entry)) furtherAt n ++ phasesFrom a b 4 0 ⌝ }
 {
     let mut total = n;
     let mut k = 0;
     while k < 4 {
         if k % a + k % b == 0 {
-            put_phase(w, SPARE + 5 * total, k as u8);
+            put_phase(w, FURTHER + 5 * total, k as u8);
             total += 1;
         }
         k += 1;
@@ -201,14 +203,14 @@ fn write_part(
     ensures told { λ r. ⌜ toldWrote r ≡ toldBytes (answer (listBytes (commonPart (promiseOf «left_promise») (promiseOf «right_promise») (paulis (listOf (now (left .entry)))) (paulis (listOf (now (right .entry))))))) (now (out .entry)) ⌝ }
     ensures left { λ _. ⌜ now (out .exit) ≡ leftIn (answer (listBytes (commonPart (promiseOf «left_promise») (promiseOf «right_promise») (paulis (listOf (now (left .entry)))) (paulis (listOf (now (right .entry))))))) (now (out .entry)) ⌝ }
 {
-    let mut joint = [0u32; 129];
+    let mut joint = [0u32; MOST_QUBITS + 1];
     let size = join_support(left, nl, right, nr, &mut joint);
     let m = common_basis(left, nl, right, nr, &joint, size, w);
     let a = note_by(left, nl, left_promise, &joint, size, w, m);
     let b = note_by(right, nr, right_promise, &joint, size, w, m);
     let kept = keep_shared(w, m, a, b);
     let total = append_phases(w, kept, a, b);
-    write_roll(w, SPARE, total, &joint, size, out)
+    write_roll(w, FURTHER, total, &joint, size, out)
 }
 
 // Writes the Paulis of an accepted roll of n.
@@ -217,7 +219,7 @@ fn write_list(b: &[u8], n: usize, w: &mut [u64], out: &mut [u8]) -> Wrote
     ensures told { λ r. ⌜ toldWrote r ≡ toldBytes (answer (listBytes (paulis (listOf (now (b .entry)))))) (now (out .entry)) ⌝ }
     ensures left { λ _. ⌜ now (out .exit) ≡ leftIn (answer (listBytes (paulis (listOf (now (b .entry)))))) (now (out .entry)) ⌝ }
 {
-    let mut known = [0u32; 129];
+    let mut known = [0u32; MOST_QUBITS + 1];
     let group = group_of(b, n, &mut known, w);
     write_roll(w, LIST, n, &known, group.places, out)
 }

@@ -26,6 +26,7 @@ use binar::row::clear_bits;
 use pauli::joined::CountsFound;
 use pauli::refusal::Reason;
 use pauli::refusal::Refusal;
+use pauli::support::MOST_QUBITS;
 
 // Factors one element by the group of an accepted roll of n, and clears the work area.
 fn factor_once(
@@ -41,7 +42,7 @@ fn factor_once(
     ensures told { λ r. ⌜ factoringTold r ≡ factorizationOf (promiseOf promise) (paulis (listOf (now (b .entry)))) (pauliOf (getD (listOf (now (elements .entry))) number nothing)) ⌝ }
     ensures area { λ _. ⌜ now (w .exit) ≡ cleared (now (w .entry)) ⌝ }
 {
-    let mut known = [0u32; 129];
+    let mut known = [0u32; MOST_QUBITS + 1];
     let g = group_of(b, n, &mut known, w);
     let signs = signs_of(w, g.total, promise);
     let factoring = factor(elements, m, number, &known, n, g, signs.step, w);

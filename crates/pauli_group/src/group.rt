@@ -11,7 +11,7 @@ ghost use Rattle.pauli.specs.Told.{answer};
 ghost use Rattle.pauli.specs.Writing.{OnPlaces};
 ghost use Rattle.pauli_theory.specs.Group.{none};
 ghost use Rattle.pauli_group.specs.Promises.{promiseOf};
-ghost use Rattle.pauli_group.specs.Inner.Area.{listAt, spareAt, Outside};
+ghost use Rattle.pauli_group.specs.Inner.Area.{listAt, furtherAt, Outside};
 ghost use Rattle.pauli_group.specs.WorkArea.{cleared};
 ghost use Rattle.pauli_group.specs.Inner.Groups.{Built, Grouped, factsIn, factsOf};
 ghost use Rattle.pauli_group.specs.Inner.Lists.{Joinable};
@@ -28,6 +28,7 @@ use crate::standard::standardize;
 use binar::row::clear_bits;
 use pauli::joined::join_support;
 use pauli::joined::numbers_of;
+use pauli::support::MOST_QUBITS;
 use pauli::support::gather;
 
 // The places of the support, the rank, and the number of standard generators.
@@ -65,7 +66,7 @@ fn build(w: &mut [u64], n: usize, s: usize) -> Group
 pub fn group_of(b: &[u8], n: usize, known: &mut [u32], w: &mut [u64]) -> Group
     requires { ⌜ (countOf (now b) ≡ answer n) × (mostQubits < length (now known)) × (length (now w) ≡ 4096) ⌝ }
     ensures group { λ r. ⌜ Grouped (paulis (listOf (now (b .entry)))) (now (known .exit)) (now (w .exit)) (r .places) (r .rank) (r .total) ⌝ }
-    ensures rest { λ _. ⌜ Outside 0 spareAt (now (w .entry)) (now (w .exit)) ⌝ }
+    ensures rest { λ _. ⌜ Outside 0 furtherAt (now (w .entry)) (now (w .exit)) ⌝ }
 {
     let places = gather(b, 2 + 10 * n, numbers_of(b, n), known, 0);
     read_list(b, n, known, places, w, LIST);
@@ -95,7 +96,7 @@ pub(crate) fn describe(b: &[u8], n: usize, promise: Promise, w: &mut [u64]) -> D
     requires { ⌜ (countOf (now b) ≡ answer n) × (length (now w) ≡ 4096) ⌝ }
     ensures { λ r. ⌜ factsIn r ≡ factsOf (promiseOf promise) (paulis (listOf (now (b .entry)))) ⌝ }
 {
-    let mut known = [0u32; 129];
+    let mut known = [0u32; MOST_QUBITS + 1];
     let g = group_of(b, n, &mut known, w);
     let s = signs_of(w, g.total, promise);
     Description {
@@ -117,7 +118,7 @@ pub(crate) fn describe_two(
     requires { ⌜ Joinable (now left) (now right) nl nr × (length (now w) ≡ 4096) ⌝ }
     ensures { λ r. ⌜ factsIn r ≡ factsOf none (paulis (listOf (now (left .entry)) ++ listOf (now (right .entry)))) ⌝ }
 {
-    let mut known = [0u32; 129];
+    let mut known = [0u32; MOST_QUBITS + 1];
     let g = group_of_two(left, nl, right, nr, &mut known, w);
     let s = signs_of(w, g.total, Promise::None);
     Description {

@@ -13,12 +13,12 @@ ghost use lib.Dec.{ltb};
 ghost use Rattle.pauli_theory.specs.Listing.{binomial as binomialOf, chosenAt, subsetAt, pageSize};
 ghost use Rattle.pauli_theory.specs.Standard.{rank};
 ghost use Rattle.pauli_group.specs.Promises.{promiseOf};
-ghost use Rattle.pauli_group.specs.Inner.Area.{standardAt, spareAt, Outside};
+ghost use Rattle.pauli_group.specs.Inner.Area.{standardAt, furtherAt, Outside};
 ghost use Rattle.pauli_group.specs.WorkArea.{cleared};
 ghost use Rattle.pauli_group.specs.Calls.{paulis, mostListed, pageBytes};
 ghost use Rattle.pauli_group.specs.CallContracts.{ElementsCall};
 ghost use Rattle.pauli_group.specs.Inner.Listed.{RowOf, elementsFrom};
-use crate::area::SPARE;
+use crate::area::FURTHER;
 use crate::area::STANDARD;
 use crate::area::WORK_WORDS;
 use crate::checks::check_list;
@@ -33,6 +33,7 @@ use pauli::roll::Checked;
 use pauli::signed::Pauli;
 use pauli::signed::indexed_product;
 use pauli::signed::store;
+use pauli::support::MOST_QUBITS;
 use pauli::write::Wrote;
 use pauli::write::write_roll;
 
@@ -146,8 +147,8 @@ fn subset_at(n: usize, i: u64) -> Places
 // Writes the n elements from number `start` on of the group whose standard generators are in the area, to the further list's place.
 fn put_elements(w: &mut [u64], rank: usize, step: u64, start: u64, n: usize)
     requires { ⌜ (length (now w) ≡ 4096) × (rank ≤ 16) × (0 < step) × (step ≤ 4) × (n ≤ 128) × (start < 2 ^ 32) ⌝ }
-    ensures list { λ _. ⌜ listIn (now (w .exit)) spareAt n ≡ elementsFrom rank (4 / step) step (listIn (now (w .entry)) standardAt rank) start n ⌝ }
-    ensures rest { λ _. ⌜ Outside spareAt (5 * n) (now (w .entry)) (now (w .exit)) ⌝ }
+    ensures list { λ _. ⌜ listIn (now (w .exit)) furtherAt n ≡ elementsFrom rank (4 / step) step (listIn (now (w .entry)) standardAt rank) start n ⌝ }
+    ensures rest { λ _. ⌜ Outside furtherAt (5 * n) (now (w .entry)) (now (w .exit)) ⌝ }
 {
     let phases = 4 / step;
     let mut i = 0;
@@ -159,7 +160,7 @@ fn put_elements(w: &mut [u64], rank: usize, step: u64, start: u64, n: usize)
         let exponent = std::num::wrapping_add_u8(product.exponent, turn);
         let x = product.x;
         let z = product.z;
-        store(w, SPARE + 5 * i, Pauli { exponent, x, z });
+        store(w, FURTHER + 5 * i, Pauli { exponent, x, z });
         i += 1;
     }
 }
@@ -206,7 +207,7 @@ fn write_page(
     ensures left { λ _. ⌜ now (out .exit) ≡ leftIn (refuseIf (ltb mostListed (rank (paulis (listOf (now (b .entry)))))) 10 0 (answer (pageBytes (promiseOf promise) start count (paulis (listOf (now (b .entry))))))) (now (out .entry)) ⌝ }
     ensures area { λ _. ⌜ now (w .exit) ≡ cleared (now (w .entry)) ⌝ }
 {
-    let mut known = [0u32; 129];
+    let mut known = [0u32; MOST_QUBITS + 1];
     let g = group_of(b, n, &mut known, w);
     if g.rank > MOST_LISTED {
         clear_bits(w, 0, WORK_WORDS);
@@ -219,7 +220,7 @@ fn write_page(
     let total = (1u64 << g.rank) * (4 / signs.step);
     let length = page_length(total, start as u64, page_size(count as usize));
     put_elements(w, g.rank, signs.step, start as u64, length);
-    let wrote = write_roll(w, SPARE, length, &known, g.places, out);
+    let wrote = write_roll(w, FURTHER, length, &known, g.places, out);
     clear_bits(w, 0, WORK_WORDS);
     wrote
 }

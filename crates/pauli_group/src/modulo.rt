@@ -14,14 +14,14 @@ ghost use Rattle.pauli.specs.Writing.{toldBytes, leftIn};
 ghost use Rattle.pauli_theory.specs.Modulo.{modulo};
 ghost use Rattle.pauli_theory.specs.Inner.ModuloPlaces.{multipliedAt};
 ghost use Rattle.pauli_theory.specs.Standard.{supportOf};
-ghost use Rattle.pauli_group.specs.Inner.Area.{spareAt, Outside};
+ghost use Rattle.pauli_group.specs.Inner.Area.{furtherAt, Outside};
 ghost use Rattle.pauli_group.specs.WorkArea.{cleared};
 ghost use Rattle.pauli_group.specs.Inner.Lists.{Joinable};
 ghost use Rattle.pauli_group.specs.Calls.{paulis, listBytes};
 ghost use Rattle.pauli_group.specs.Promises.{promiseOf};
 ghost use Rattle.pauli_group.specs.CallContracts.{ModuloCall};
 ghost use Rattle.pauli_group.specs.Inner.Remainder.{Other, remainderBy, Remainder};
-use crate::area::SPARE;
+use crate::area::FURTHER;
 use crate::area::STANDARD;
 use crate::area::WORK_WORDS;
 use crate::checks::check_pair;
@@ -39,6 +39,7 @@ use pauli::joined::join_support;
 use pauli::signed::Pauli;
 use pauli::signed::load;
 use pauli::signed::store;
+use pauli::support::MOST_QUBITS;
 use pauli::support::Place;
 use pauli::support::place_of;
 use pauli::support::qubit_at;
@@ -85,9 +86,9 @@ fn multiply_all(
     joined: &[u32],
     size: usize,
 )
-    requires { ⌜ (length (now w) ≡ 4096) × (m ≤ 128) × (group .places ≤ 128) × (group .places ≤ length (now own)) × (size ≤ 128) × (size ≤ length (now joined)) × Other (take (group .places) (now own)) (take size (now joined)) (now w) n (group .rank) (group .total) × All (λ p. p .e < 4) (listIn (now w) spareAt m) ⌝ }
-    ensures list { λ _. ⌜ listIn (now (w .exit)) spareAt m ≡ remainderBy (take (group .places) (now (own .entry))) (take size (now (joined .entry))) (now (w .entry)) n (group .rank) (group .total) (listIn (now (w .entry)) spareAt m) ⌝ }
-    ensures rest { λ _. ⌜ Outside spareAt (5 * m) (now (w .entry)) (now (w .exit)) ⌝ }
+    requires { ⌜ (length (now w) ≡ 4096) × (m ≤ 128) × (group .places ≤ 128) × (group .places ≤ length (now own)) × (size ≤ 128) × (size ≤ length (now joined)) × Other (take (group .places) (now own)) (take size (now joined)) (now w) n (group .rank) (group .total) × All (λ p. p .e < 4) (listIn (now w) furtherAt m) ⌝ }
+    ensures list { λ _. ⌜ listIn (now (w .exit)) furtherAt m ≡ remainderBy (take (group .places) (now (own .entry))) (take size (now (joined .entry))) (now (w .entry)) n (group .rank) (group .total) (listIn (now (w .entry)) furtherAt m) ⌝ }
+    ensures rest { λ _. ⌜ Outside furtherAt (5 * m) (now (w .entry)) (now (w .exit)) ⌝ }
 {
     let places = group.places;
     let at = n * stride_of(n);
@@ -97,7 +98,7 @@ fn multiply_all(
         let other = load(w, STANDARD + 5 * k);
         let moved = move_pauli(other, own, places, joined, size);
         let place = place_of(joined, size, qubit_at(own, Place(pivot % places)));
-        multiply_at(w, SPARE, m, pivot < places, place, moved);
+        multiply_at(w, FURTHER, m, pivot < places, place, moved);
         k += 1;
     }
 }
@@ -117,14 +118,14 @@ fn remainder(
     requires { ⌜ (countOf (now left) ≡ answer nl) × (countOf (now right) ≡ answer nr) × (size ≤ 128) × (size ≤ length (now joined)) × (take size (now joined) ≡ supportOf (paulis (listOf (now left)) ++ paulis (listOf (now right)))) × (length (now w) ≡ 4096) ⌝ }
     ensures { λ r. ⌜ Remainder (promiseOf promise) (paulis (listOf (now (left .entry)))) (paulis (listOf (now (right .entry)))) (now (w .exit)) r ⌝ }
 {
-    let mut own = [0u32; 129];
+    let mut own = [0u32; MOST_QUBITS + 1];
     let a = group_of(left, nl, &mut own, w);
-    move_list(w, STANDARD, SPARE, a.total, &own, a.places, joined, size);
-    let mut other = [0u32; 129];
+    move_list(w, STANDARD, FURTHER, a.total, &own, a.places, joined, size);
+    let mut other = [0u32; MOST_QUBITS + 1];
     let b = group_of(right, nr, &mut other, w);
     let signs = signs_of(w, b.total, promise);
     multiply_all(w, a.total, nr, b, &other, joined, size);
-    take_mod(w, SPARE, a.total, signs.step);
+    take_mod(w, FURTHER, a.total, signs.step);
     a.total
 }
 
@@ -143,10 +144,10 @@ pub(crate) fn write_modulo(
     ensures left { λ _. ⌜ now (out .exit) ≡ leftIn (answer (listBytes (modulo (promiseOf promise) (paulis (listOf (now (left .entry)))) (paulis (listOf (now (right .entry))))))) (now (out .entry)) ⌝ }
     ensures area { λ _. ⌜ now (w .exit) ≡ cleared (now (w .entry)) ⌝ }
 {
-    let mut joined = [0u32; 129];
+    let mut joined = [0u32; MOST_QUBITS + 1];
     let size = join_support(left, nl, right, nr, &mut joined);
     let count = remainder(left, nl, right, nr, promise, &joined, size, w);
-    let wrote = write_roll(w, SPARE, count, &joined, size, out);
+    let wrote = write_roll(w, FURTHER, count, &joined, size, out);
     clear_bits(w, 0, WORK_WORDS);
     wrote
 }

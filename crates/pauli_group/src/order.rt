@@ -61,7 +61,7 @@ fn no_more(a: GroupRanks, b: GroupRanks) -> bool
     a.rank <= b.rank
 }
 
-fn all(a: bool, b: bool) -> bool
+fn both_hold(a: bool, b: bool) -> bool
     ensures { λ r. ⌜ r ≡ and a b ⌝ }
 {
     if a {
@@ -74,10 +74,10 @@ fn all(a: bool, b: bool) -> bool
 fn order_by(a: GroupRanks, b: GroupRanks, both: GroupRanks) -> Order
     ensures { λ r. ⌜ orderOf r ≡ orderBy (ranksIn a) (ranksIn b) (ranksIn both) ⌝ }
 {
-    if all(same_ranks(a, b), same_ranks(a, both)) {
+    if both_hold(same_ranks(a, b), same_ranks(a, both)) {
         return Order::Equal;
     }
-    if all(no_more(a, b), same_ranks(b, both)) {
+    if both_hold(no_more(a, b), same_ranks(b, both)) {
         return Order::Less;
     }
     if same_ranks(a, both) {
@@ -105,7 +105,7 @@ pub(crate) fn order_of(
     order_by(ranks_of(a), ranks_of(b), ranks_of(both))
 }
 
-// The same, and clears the work area.
+// Compares the groups of two accepted rolls that can be joined, and clears the work area.
 fn compare(
     left: &[u8],
     nl: usize,

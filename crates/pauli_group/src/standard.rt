@@ -66,18 +66,18 @@ pub fn signs_of(w: &[u64], n: usize, promise: Promise) -> Signs
         return Signs {
             step: 1,
             clash: clash,
-            stabilizer: unless(minus),
+            stabilizer: one_if_zero(minus),
         };
     }
     Signs {
-        step: 2 + 2 * unless(minus),
+        step: 2 + 2 * one_if_zero(minus),
         clash: clash,
-        stabilizer: unless(minus),
+        stabilizer: one_if_zero(minus),
     }
 }
 
 // 1 where n is 0, else 0.
-fn unless(n: u64) -> u64
+fn one_if_zero(n: u64) -> u64
     ensures { λ r. ⌜ r ≡ ifZero n 1 0 ⌝ }
 {
     if n == 0 {

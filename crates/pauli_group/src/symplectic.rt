@@ -11,13 +11,13 @@ ghost use Rattle.pauli.specs.Signed.{held, listIn};
 ghost use Rattle.pauli.specs.Told.{answer};
 ghost use Rattle.pauli.specs.Writing.{toldBytes, leftIn};
 ghost use Rattle.pauli_theory.specs.Symplectic.{position, timesIf, cleared as clearedBy, onPosition, symplecticForm};
-ghost use Rattle.pauli_group.specs.Inner.Area.{listAt, standardAt, spareAt, Outside};
+ghost use Rattle.pauli_group.specs.Inner.Area.{listAt, standardAt, furtherAt, Outside};
 ghost use Rattle.pauli_group.specs.WorkArea.{cleared};
 ghost use Rattle.pauli_group.specs.Calls.{paulis, symplecticBytes};
 ghost use Rattle.pauli_group.specs.CallContracts.{SymplecticCall};
 ghost use Rattle.pauli_group.specs.Inner.Pairs.{PairedTo};
+use crate::area::FURTHER;
 use crate::area::LIST;
-use crate::area::SPARE;
 use crate::area::STANDARD;
 use crate::area::WORK_WORDS;
 use crate::checks::check_list;
@@ -28,6 +28,7 @@ use pauli::roll::Checked;
 use pauli::signed::Pauli;
 use pauli::signed::load;
 use pauli::signed::store;
+use pauli::support::MOST_QUBITS;
 use pauli::support::gather;
 use pauli::write::Wrote;
 use pauli::write::write_roll;
@@ -93,7 +94,7 @@ fn pair_last(w: &mut [u64], p: Pairing) -> Pairing
     let x = load(w, LIST + 5 * m);
     let k = first_anticommuting(w, LIST, m, x);
     if k >= m {
-        store(w, SPARE + 5 * p.commuting, x);
+        store(w, FURTHER + 5 * p.commuting, x);
         return Pairing {
             left: m,
             conjugate: p.conjugate,
@@ -138,7 +139,7 @@ fn pair_up(w: &mut [u64], n: usize)
     while p.left > 0 {
         p = pair_last(w, p);
     }
-    copy_list(w, SPARE, p.commuting, STANDARD + 5 * p.conjugate);
+    copy_list(w, FURTHER, p.commuting, STANDARD + 5 * p.conjugate);
 }
 
 // Writes the paired list of an accepted roll of n Paulis, and clears the work area.
@@ -148,7 +149,7 @@ fn write_symplectic(b: &[u8], n: usize, w: &mut [u64], out: &mut [u8]) -> Wrote
     ensures left { λ _. ⌜ now (out .exit) ≡ leftIn (answer (symplecticBytes (paulis (listOf (now (b .entry)))))) (now (out .entry)) ⌝ }
     ensures area { λ _. ⌜ now (w .exit) ≡ cleared (now (w .entry)) ⌝ }
 {
-    let mut known = [0u32; 129];
+    let mut known = [0u32; MOST_QUBITS + 1];
     let places = gather(b, 2 + 10 * n, numbers_of(b, n), &mut known, 0);
     read_list(b, n, &known, places, w, LIST);
     pair_up(w, n);

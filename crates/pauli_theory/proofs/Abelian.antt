@@ -4,7 +4,7 @@ use mathlib.Core.List.{List}
 use Prim.Native.Nat.{ℕ, zero, suc}
 use native.Mathlib.Omega.{arith}
 use lib.ListN.{getD}
-use Rattle.binar.proofs.echelon.Lists.{all-map, all-get, all-by}
+use Rattle.binar.proofs.Lists.{all-map, all-get, all-by}
 use Rattle.pauli.specs.Support.{All}
 use Rattle.pauli.specs.Pauli.{Pauli, I, anticommute}
 use Rattle.pauli_theory.specs.Group.{Generated, Abelian, NotAbelian, Promise, none, abelian, notAbelian, Honest}

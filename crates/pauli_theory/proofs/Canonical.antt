@@ -8,7 +8,7 @@ use native.Mathlib.Omega.{arith}
 use lib.ListN.{length, take}
 use Rattle.binar.specs.Echelon.{echelon, R, rank as echelonRank}
 use Rattle.binar.specs.Space.{RowSpace, SameSpace}
-use Rattle.binar.proofs.echelon.Lists.{all-map, all-zip, all-over}
+use Rattle.binar.proofs.Lists.{all-map, all-zip, all-over}
 use Rattle.binar.proofs.echelon.Span.{same-space}
 use Rattle.binar.proofs.matrix_form.Theorems.{unique-law}
 use Rattle.pauli.specs.Support.{All}

@@ -8,7 +8,7 @@ use native.Mathlib.Omega.{arith}
 use native.Mathlib.Decide.{ℕ-discrete}
 use lib.ListN.{length, length-append, length-map}
 use Rattle.binar.specs.Space.{RowSpace}
-use Rattle.binar.proofs.echelon.Lists.{all-map, all-join, all-left, all-right, all-over, all-of, map-same}
+use Rattle.binar.proofs.Lists.{all-map, all-join, all-left, all-right, all-over, all-of, map-same}
 use Rattle.binar.proofs.echelon.Span.{below-subspace, space-rows, space-in}
 use Rattle.pauli.specs.Roll.{mostPaulis}
 use Rattle.pauli.specs.Support.{All}

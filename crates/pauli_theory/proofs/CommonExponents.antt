@@ -9,7 +9,7 @@ use native.Mathlib.Omega.{arith}
 use lib.ListN.{length}
 use Rattle.binar.specs.Solve.{transposeSolve}
 use Rattle.binar.specs.Space.{RowSpace}
-use Rattle.binar.proofs.echelon.Lists.{all-zip, all-under}
+use Rattle.binar.proofs.Lists.{all-zip, all-under}
 use Rattle.binar.proofs.echelon.Span.{space-rows}
 use Rattle.pauli.specs.Support.{All}
 use Rattle.pauli.specs.Pauli.{Pauli, indexedProduct}

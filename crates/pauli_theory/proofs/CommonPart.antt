@@ -7,7 +7,7 @@ use Prim.Native.Nat.{ℕ, _+_, _%_}
 use native.Mathlib.Nat.{mod-mod}
 use native.Mathlib.Omega.{arith}
 use Rattle.binar.specs.Space.{RowSpace}
-use Rattle.binar.proofs.echelon.Lists.{all-of, all-left, all-right}
+use Rattle.binar.proofs.Lists.{all-of, all-left, all-right}
 use Rattle.pauli.specs.Support.{All}
 use Rattle.pauli.specs.Pauli.{Pauli, turned, indexedProduct}
 use Rattle.pauli.specs.Sets.{rowOf}

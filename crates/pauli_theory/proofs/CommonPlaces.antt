@@ -7,7 +7,7 @@ use lib.ListN.{length}
 use lib.Pow.{field, mod-mod-pow}
 use Rattle.binar.specs.Row.{ifBit, rowSum}
 use Rattle.binar.specs.Echelon.{Row, echelon}
-use Rattle.binar.proofs.echelon.Lists.{all-of, all-map, all-left, all-over, map-same}
+use Rattle.binar.proofs.Lists.{all-of, all-map, all-left, all-over, map-same}
 use Rattle.binar.proofs.echelon.Span.{rowSum-mod}
 use Rattle.pauli.specs.Support.{All, Rising}
 use Rattle.pauli.specs.Pauli.{Pauli, I, normal, times, select, indexedProduct}

@@ -13,7 +13,7 @@ use Rattle.binar.specs.Echelon.{echelon}
 use Rattle.binar.specs.Space.{RowSpace}
 use Rattle.binar.proofs.row.Bits.{xor-self, xor-eq-zero, xor-mod, beside-mod, beside-shr}
 use Rattle.binar.proofs.echelon.Dimension.{independent-le}
-use Rattle.binar.proofs.echelon.Lists.{all-map, all-join, all-over, all-under}
+use Rattle.binar.proofs.Lists.{all-map, all-join, all-over, all-under}
 use Rattle.binar.proofs.echelon.Span.{Additive, sum-in, below-subspace, under-subspace, rowSum-xor, rowSum-mod, space-subspace, space-rows, space-in}
 use Rattle.pauli.specs.Support.{All}
 use Rattle.pauli_theory.specs.Standard.{zeroRows}

@@ -6,7 +6,7 @@ use Prim.Native.Nat.{ℕ, zero, suc, _+_, _*_, _%_, max}
 use native.Mathlib.Omega.{arith}
 use lib.ListN.{length}
 use Rattle.binar.specs.Solve.{transposeSolve}
-use Rattle.binar.proofs.echelon.Lists.{all-zip}
+use Rattle.binar.proofs.Lists.{all-zip}
 use Rattle.pauli.specs.Roll.{write}
 use Rattle.pauli.specs.Support.{All}
 use Rattle.pauli.specs.Pauli.{Pauli, indexedProduct, phase}

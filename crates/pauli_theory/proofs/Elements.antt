@@ -9,7 +9,7 @@ use lib.Pow.{pow-pos, pow-lt}
 use Rattle.binar.specs.Row.{_⊕_, rowSum}
 use Rattle.binar.specs.Space.{Independent}
 use Rattle.binar.proofs.row.Bits.{xor-self, xor-cancel, xor-lt}
-use Rattle.binar.proofs.echelon.Lists.{all-of, all-by, map-same}
+use Rattle.binar.proofs.Lists.{all-of, all-by, map-same}
 use Rattle.binar.proofs.echelon.Span.{rowSum-xor, rowSum-mod}
 use Rattle.pauli.specs.Support.{All}
 use Rattle.pauli.specs.Pauli.{Pauli, I, indexedProduct}

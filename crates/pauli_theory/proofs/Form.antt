@@ -11,7 +11,7 @@ use Rattle.binar.specs.Row.{_⊕_, bit, rowSum, units}
 use Rattle.binar.specs.Echelon.{Row, echelon, R, T, rank}
 use Rattle.binar.specs.Space.{RowSpace, Independent}
 use Rattle.binar.proofs.row.Bits.{bit-of-zero, xor-zero-l, xor-zero-r}
-use Rattle.binar.proofs.echelon.Lists.{all-of, all-zip, all-right, all-by, all-over, all-under, map-same, same-map}
+use Rattle.binar.proofs.Lists.{all-of, all-zip, all-right, all-by, all-over, all-under, map-same, same-map}
 use Rattle.binar.proofs.echelon.Span.{Subspace, sum-in, rowSum-rowSum, space-subspace, space-rows}
 use Rattle.binar.proofs.matrix_form.Theorems.{transform-law, reduced-law, space-law}
 use Rattle.pauli.specs.Support.{All}

@@ -7,7 +7,7 @@ use native.Mathlib.Nat.{zero-mod}
 use native.Mathlib.Omega.{arith}
 use lib.ListN.{length}
 use Rattle.binar.specs.Row.{rowSum}
-use Rattle.binar.proofs.echelon.Lists.{all-of, all-map, all-zip, all-over, all-under}
+use Rattle.binar.proofs.Lists.{all-of, all-map, all-zip, all-over, all-under}
 use Rattle.pauli.specs.Support.{All}
 use Rattle.pauli.specs.Pauli.{Pauli, I, anticommute, orderFour, indexedProduct}
 use Rattle.pauli.specs.Sets.{rowOf}

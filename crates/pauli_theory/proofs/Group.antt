@@ -5,7 +5,7 @@ use Prim.Native.Nat.{ℕ, _*_, _<_}
 use native.Mathlib.Omega.{arith}
 use lib.ListN.{length, getD}
 use Rattle.binar.proofs.row.Bits.{xor-zero-l, dot-zero-l}
-use Rattle.binar.proofs.echelon.Lists.{all-join, all-left, all-right, all-get, all-by, all-over, all-map}
+use Rattle.binar.proofs.Lists.{all-join, all-left, all-right, all-get, all-by, all-over, all-map}
 use Rattle.pauli.specs.Support.{All}
 use Rattle.pauli.specs.Pauli.{Pauli, I, times, turned, orderFour, product, indexedProduct}
 use Rattle.pauli.proofs.signed.Algebra.{pauli-path, times-assoc, times-self, times-I}

@@ -12,7 +12,7 @@ use lib.Pow.{pow-add}
 use lib.Seq.{getD-append-add, take-at}
 use Rattle.binar.specs.Row.{weight}
 use Rattle.binar.proofs.row.Bits.{ones-zero}
-use Rattle.binar.proofs.echelon.Lists.{all-map, all-by}
+use Rattle.binar.proofs.Lists.{all-map, all-by}
 use Rattle.pauli.specs.Support.{All}
 use Rattle.pauli.specs.Pauli.{Pauli, I, turned, pauliWeight, product, consIf, select, indexedProduct, phase}
 use Rattle.pauli.specs.PauliTheorems.{PauliOn}

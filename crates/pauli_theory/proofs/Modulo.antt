@@ -11,7 +11,7 @@ use borrow.Author.Tests.{ltb-true, ltb-false}
 use Rattle.binar.specs.Row.{bit, ifBit}
 use Rattle.binar.specs.Echelon.{clear, R, rank as echelonRank}
 use Rattle.binar.specs.Solve.{sweep}
-use Rattle.binar.proofs.echelon.Lists.{all-of, all-map, all-zip, all-join, all-over, all-under}
+use Rattle.binar.proofs.Lists.{all-of, all-map, all-zip, all-join, all-over, all-under}
 use Rattle.binar.proofs.echelon.Span.{ifBit-case, ifBit-map}
 use Rattle.binar.proofs.echelon.Reduced.{pivots-in}
 use Rattle.binar.proofs.echelon.Solve.{sweep-clears}

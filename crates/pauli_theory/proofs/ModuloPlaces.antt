@@ -15,7 +15,7 @@ use lib.Pow.{pow-lt, pow-pos}
 use Rattle.binar.specs.Row.{bit, ifBit}
 use Rattle.binar.specs.Echelon.{rank as echelonRank}
 use Rattle.binar.proofs.row.Bits.{bit-of-zero, bit-past, bit-mod, xor-lt}
-use Rattle.binar.proofs.echelon.Lists.{all-of, all-map, all-over, all-left, all-right, map-same}
+use Rattle.binar.proofs.Lists.{all-of, all-map, all-over, all-left, all-right, map-same}
 use Rattle.binar.proofs.echelon.Span.{ifBit-case, ifBit-map}
 use Rattle.pauli.specs.Roll.{write}
 use Rattle.pauli.specs.Support.{All, Rising}

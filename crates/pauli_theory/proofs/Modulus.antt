@@ -3,7 +3,7 @@ use mathlib.Core.Path.{_≡_, refl, sym}
 use mathlib.Core.List.{List, [], _∷_, map}
 use Prim.Native.Nat.{ℕ, zero, suc, _*_, _/_, _%_, _<_, min}
 use native.Mathlib.Omega.{arith}
-use Rattle.binar.proofs.echelon.Lists.{all-map, all-over, all-under}
+use Rattle.binar.proofs.Lists.{all-map, all-over, all-under}
 use Rattle.pauli.specs.Support.{All}
 use Rattle.pauli.specs.Pauli.{Pauli, I, turned, indexedProduct}
 use Rattle.pauli_theory.specs.Group.{Generated}

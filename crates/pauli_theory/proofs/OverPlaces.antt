@@ -12,7 +12,7 @@ use Rattle.binar.specs.Row.{bit}
 use Rattle.binar.specs.Echelon.{echelon, rank as echelonRank}
 use Rattle.binar.specs.Solve.{transposeSolve}
 use Rattle.binar.proofs.row.Bits.{bit-past}
-use Rattle.binar.proofs.echelon.Lists.{all-of, all-map, all-over, all-left, map-drop, map-same}
+use Rattle.binar.proofs.Lists.{all-of, all-map, all-over, all-left, map-drop, map-same}
 use Rattle.pauli.specs.Support.{All, Rising}
 use Rattle.pauli.specs.Pauli.{Pauli, normal, indexedProduct}
 use Rattle.pauli.specs.Sets.{members, condense, rowOf}

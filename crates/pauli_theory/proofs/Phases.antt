@@ -11,7 +11,7 @@ use lib.Pow.{pow-pos, pow-lt}
 use Rattle.binar.specs.Row.{bit}
 use Rattle.binar.specs.Space.{Independent}
 use Rattle.binar.proofs.row.Bits.{no-bits, bit-of-zero, dot-zero-l}
-use Rattle.binar.proofs.echelon.Lists.{all-map, all-by}
+use Rattle.binar.proofs.Lists.{all-map, all-by}
 use Rattle.binar.proofs.echelon.Span.{rowSum-unit}
 use Rattle.pauli.specs.Support.{All}
 use Rattle.pauli.specs.Pauli.{Pauli, I, turned, orderFour, indexedProduct, phase}

@@ -9,7 +9,7 @@ use lib.Pow.{pow-lt}
 use Rattle.binar.specs.Row.{dot, rowSum}
 use Rattle.binar.specs.Space.{RowSpace, Independent}
 use Rattle.binar.proofs.row.Bits.{dot-zero-l}
-use Rattle.binar.proofs.echelon.Lists.{all-map, all-zip, all-join, all-left, all-right, all-get, all-by, all-under, map-same}
+use Rattle.binar.proofs.Lists.{all-map, all-zip, all-join, all-left, all-right, all-get, all-by, all-under, map-same}
 use Rattle.binar.proofs.echelon.Span.{Subspace}
 use Rattle.pauli.specs.Support.{All}
 use Rattle.pauli.specs.Pauli.{Pauli, I, anticommute, orderFour, indexedProduct}

@@ -8,7 +8,7 @@ use lib.Bits.{bitOr}
 use lib.ListN.{length}
 use Rattle.binar.specs.Row.{_⊕_, ifBit}
 use Rattle.binar.proofs.row.Bits.{bit-of-zero, xor-self}
-use Rattle.binar.proofs.echelon.Lists.{all-of, all-map, all-over}
+use Rattle.binar.proofs.Lists.{all-of, all-map, all-over}
 use Rattle.binar.proofs.echelon.Span.{ifBit-case}
 use Rattle.pauli.specs.Support.{All, Rising}
 use Rattle.pauli.specs.Pauli.{Pauli, I, normal, times, anticommute, orderFour, select, indexedProduct, phase}

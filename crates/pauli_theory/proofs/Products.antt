@@ -6,7 +6,7 @@ use native.Mathlib.Omega.{arith}
 use lib.ListN.{getD}
 use Rattle.binar.specs.Row.{_⊕_, ifBit}
 use Rattle.binar.proofs.row.Bits.{xor-low, xor-half}
-use Rattle.binar.proofs.echelon.Lists.{all-map, all-get, all-by}
+use Rattle.binar.proofs.Lists.{all-map, all-get, all-by}
 use Rattle.binar.proofs.echelon.Span.{ifBit-case, Subspace}
 use Rattle.pauli.specs.Support.{All}
 use Rattle.pauli.specs.Pauli.{Pauli, I, normal, times, turned, anticommute, orderFour, product, productFrom, consIf, select, indexedProduct}

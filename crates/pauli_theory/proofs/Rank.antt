@@ -7,7 +7,7 @@ use lib.ListN.{length, length-map}
 use Rattle.binar.specs.Row.{rowSum}
 use Rattle.binar.specs.Space.{RowSpace, Independent}
 use Rattle.binar.proofs.echelon.Dimension.{independent-le}
-use Rattle.binar.proofs.echelon.Lists.{all-map, all-over}
+use Rattle.binar.proofs.Lists.{all-map, all-over}
 use Rattle.binar.proofs.matrix_form.Theorems.{space-law}
 use Rattle.pauli.specs.Support.{All}
 use Rattle.pauli.specs.Pauli.{Pauli, indexedProduct}

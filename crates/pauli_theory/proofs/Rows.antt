@@ -9,7 +9,7 @@ use lib.ListN.{length}
 use Rattle.binar.specs.Row.{bit, rowSum}
 use Rattle.binar.specs.Space.{RowSpace}
 use Rattle.binar.proofs.row.Bits.{xor-self, bit-lt, bit-of-zero}
-use Rattle.binar.proofs.echelon.Lists.{all-of, all-map, all-over, all-under}
+use Rattle.binar.proofs.Lists.{all-of, all-map, all-over, all-under}
 use Rattle.binar.proofs.echelon.Span.{space-subspace, space-rows, space-in}
 use Rattle.pauli.specs.Support.{All, Rising}
 use Rattle.pauli.specs.Pauli.{Pauli, I, normal, indexedProduct}

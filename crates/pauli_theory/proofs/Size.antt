@@ -8,7 +8,7 @@ use native.Mathlib.Omega.{arith}
 use lib.Arith.{digits-lt, digits-div, digits-mod}
 use lib.ListN.{length, getD, length-map}
 use lib.Pow.{pow-add}
-use Rattle.binar.proofs.echelon.Lists.{all-by}
+use Rattle.binar.proofs.Lists.{all-by}
 use Rattle.pauli.specs.Pauli.{Pauli, I, Same, turned, indexedProduct}
 use Rattle.pauli.specs.Sets.{rowOf}
 use Rattle.pauli_theory.specs.Group.{Generated, Promise, Honest}

@@ -13,7 +13,7 @@ use Rattle.binar.specs.Solve.{transposeSolve}
 use Rattle.binar.specs.Space.{RowSpace, Independent}
 use Rattle.binar.proofs.row.Bits.{xor-self, xor-zero-l, xor-zero-r, xor-assoc, xor-eq-zero, xor-lt, xor-beside, beside-parts}
 use Rattle.binar.proofs.echelon.Dimension.{independent-le}
-use Rattle.binar.proofs.echelon.Lists.{all-map, map-same}
+use Rattle.binar.proofs.Lists.{all-map, map-same}
 use Rattle.binar.proofs.echelon.Span.{ifBit-case, Subspace, sum-in, rowSum-xor, rowSum-mod, rowSum-zero}
 use Rattle.binar.proofs.matrix_form.Theorems.{solve-law}
 use Rattle.pauli.specs.Support.{All}

@@ -3,7 +3,7 @@ use mathlib.Core.Path.{_≡_, refl, sym, ap, _∙_}
 use mathlib.Core.List.{List}
 use Prim.Native.Nat.{ℕ, _%_, max}
 use native.Mathlib.Omega.{arith}
-use Rattle.binar.proofs.echelon.Lists.{all-map}
+use Rattle.binar.proofs.Lists.{all-map}
 use Rattle.pauli.specs.Pauli.{Pauli, I, turned, orderFour}
 use Rattle.pauli_theory.specs.Group.{Generated, Abelian, Promise, Honest}
 use Rattle.pauli_theory.specs.Standard.{standard, someOrderFour, nonabelian, someImaginary, someMinus, phaseStep, stabilizer}

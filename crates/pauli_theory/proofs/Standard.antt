@@ -3,7 +3,7 @@ use mathlib.Core.Path.{_≡_, refl, sym, ap, ap₂, _∙_}
 use mathlib.Core.List.{List, [], _∷_, _++_, map, map-map}
 use Prim.Native.Nat.{ℕ, zero, suc, _%_, _<_, max}
 use native.Mathlib.Omega.{arith}
-use Rattle.binar.proofs.echelon.Lists.{all-of, all-join, all-left, all-right, map-same}
+use Rattle.binar.proofs.Lists.{all-of, all-join, all-left, all-right, map-same}
 use Rattle.pauli.specs.Support.{All}
 use Rattle.pauli.specs.Pauli.{Pauli, I, turned, anticommute, orderFour, indexedProduct, phase}
 use Rattle.pauli.proofs.signed.Algebra.{pauli-path}

@@ -6,7 +6,7 @@ use native.Mathlib.Nat.{mod-lt}
 use native.Mathlib.Omega.{arith}
 use lib.ListN.{length, length-append, length-map}
 use Rattle.binar.specs.Echelon.{Row}
-use Rattle.binar.proofs.echelon.Lists.{all-of, all-map, all-join, all-over}
+use Rattle.binar.proofs.Lists.{all-of, all-map, all-join, all-over}
 use Rattle.binar.proofs.echelon.Transform.{rows-count}
 use Rattle.pauli.specs.Support.{All}
 use Rattle.pauli.specs.Pauli.{Pauli, phase}

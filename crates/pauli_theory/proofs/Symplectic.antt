@@ -8,7 +8,7 @@ use native.Mathlib.Decide.{ℕ-discrete}
 use lib.ListN.{length, getD, set, take, drop, length-append, length-map, length-set, length-take, take-append-drop}
 use lib.Seq.{length-take-le, take-length, take-suc, take-take, take-set-le, getD-take, getD-set-same, getD-set-other}
 use Rattle.binar.proofs.row.Bits.{dot-comm}
-use Rattle.binar.proofs.echelon.Lists.{all-of, all-map, all-zip, all-join, all-left, all-right, all-get, all-by, all-over, all-under}
+use Rattle.binar.proofs.Lists.{all-of, all-map, all-zip, all-join, all-left, all-right, all-get, all-by, all-over, all-under}
 use Rattle.binar.proofs.echelon.Span.{ifBit-case}
 use Rattle.pauli.specs.Support.{All}
 use Rattle.pauli.specs.Pauli.{Pauli, I, anticommute}

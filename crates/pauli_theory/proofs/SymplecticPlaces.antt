@@ -8,7 +8,7 @@ use native.Mathlib.Nat.{mod-mod}
 use native.Mathlib.Omega.{arith}
 use lib.ListN.{length, getD, set, take, drop}
 use Rattle.binar.specs.Row.{ifBit}
-use Rattle.binar.proofs.echelon.Lists.{all-of, all-over, map-same}
+use Rattle.binar.proofs.Lists.{all-of, all-over, map-same}
 use Rattle.pauli.specs.Roll.{Sparse, encode, write}
 use Rattle.pauli.specs.Support.{All, Rising}
 use Rattle.pauli.specs.Pauli.{Pauli, I, normal, Same, times, anticommute, select}

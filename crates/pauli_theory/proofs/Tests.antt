@@ -4,7 +4,7 @@ use mathlib.Core.List.{List, [], _∷_, _++_, map}
 use Prim.Native.Nat.{ℕ, zero, suc, _/_, _%_, _<_, max}
 use native.Mathlib.Omega.{arith}
 use Rattle.binar.proofs.row.Bits.{dot-comm}
-use Rattle.binar.proofs.echelon.Lists.{all-map, all-zip}
+use Rattle.binar.proofs.Lists.{all-map, all-zip}
 use Rattle.pauli.specs.Support.{All}
 use Rattle.pauli.specs.Pauli.{Pauli, anticommute, orderFour}
 use Rattle.pauli.proofs.signed.Algebra.{anticommute-lt, anticommute-comm}

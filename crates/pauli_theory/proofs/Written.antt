@@ -3,7 +3,7 @@ use mathlib.Core.Path.{_≡_, refl, sym, ap, _∙_}
 use mathlib.Core.Logic.{⊎-elim}
 use mathlib.Core.List.{List, map, map-map, List·Memᴰ as Mem, List·Memᴰ·append-cases as in-append, Memᴰ·map}
 use Prim.Native.Nat.{ℕ}
-use Rattle.binar.proofs.echelon.Lists.{all-map, all-over, map-same}
+use Rattle.binar.proofs.Lists.{all-map, all-over, map-same}
 use Rattle.pauli.specs.Roll.{Sparse, support, encode, write, byValue}
 use Rattle.pauli.specs.Support.{All, Rising}
 use Rattle.pauli.specs.Pauli.{Pauli, normal, select}

@@ -10,7 +10,7 @@ use Rattle.binar.specs.declared.echelon.Found.the-variants.{At}
 use Rattle.binar.specs.Row.{_⊕_}
 use Rattle.binar.specs.Solve.{sweep}
 use Rattle.binar.proofs.row.Bits.{xor-lt, xors}
-use Rattle.binar.proofs.echelon.Lists.{All}
+use Rattle.binar.proofs.Lists.{All}
 use Rattle.binar.proofs.echelon.Span.{below-subspace}
 use Rattle.binar.proofs.echelon.Steps.{Search, found, pivot-is}
 use Rattle.binar.proofs.echelon.Kept.{echelonize-length, echelonize-in}

@@ -10,7 +10,7 @@ use lib.Pow.{pow-pos, pow-lt}
 use Rattle.binar.specs.Row.{_⊕_, rowSum}
 use Rattle.binar.specs.Space.{RowSpace, Independent, Dimension}
 use Rattle.binar.proofs.row.Bits.{xor-self, xor-eq-zero, xor-lt}
-use Rattle.binar.proofs.echelon.Lists.{All, all-map}
+use Rattle.binar.proofs.Lists.{All, all-map}
 use Rattle.binar.proofs.echelon.Span.{sum-in, rowSum-xor, rowSum-mod, space-subspace, space-rows}
 
 -- ---- numbers below m, told apart by a map to the numbers below n, are no more than n

@@ -7,7 +7,7 @@ use lib.ListN.{length, length-append, length-map}
 use Rattle.binar.specs.Row.{_⊕_, bit}
 use Rattle.binar.specs.Echelon.{clear, Reduction, withPivot, echelonize}
 use Rattle.binar.proofs.row.Bits.{bit-lt, bit-xor, xors}
-use Rattle.binar.proofs.echelon.Lists.{All, all-map, all-join, all-left, all-right, all-over, all-under}
+use Rattle.binar.proofs.Lists.{All, all-map, all-join, all-left, all-right, all-over, all-under}
 use Rattle.binar.proofs.echelon.Span.{ifBit-case, Subspace}
 use Rattle.binar.proofs.echelon.Steps.{others, length-others, others-in, others-out, Run, stop, step, run-is}
 

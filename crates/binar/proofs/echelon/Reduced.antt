@@ -8,7 +8,7 @@ use lib.Seq.{append-snoc, drop-at}
 use Rattle.binar.specs.Row.{bit, columns}
 use Rattle.binar.specs.Echelon.{clear, Reduction, withPivot, echelonize}
 use Rattle.binar.proofs.row.Bits.{bit-mod, Blank, blank-one, blank-join}
-use Rattle.binar.proofs.echelon.Lists.{All, all-of, all-map, all-zip, all-join, all-right, all-over}
+use Rattle.binar.proofs.Lists.{All, all-of, all-map, all-zip, all-join, all-right, all-over}
 use Rattle.binar.proofs.echelon.Span.{blank-subspace}
 use Rattle.binar.proofs.echelon.Steps.{others, others-in, Run, stop, step, run-is}
 use Rattle.binar.proofs.echelon.Kept.{clear-bit, clear-column, clear-in}

@@ -12,7 +12,7 @@ use Rattle.binar.specs.Echelon.{clear, echelon}
 use Rattle.binar.specs.Solve.{sweep, solved, transposeSolve}
 use Rattle.binar.specs.Space.{RowSpace}
 use Rattle.binar.proofs.row.Bits.{bit-lt, bit-mod, bit-xor, xors, xor-self, xor-zero-l, xor-zero-r, xor-mod, xor-shr, beside-parts, blank-zero}
-use Rattle.binar.proofs.echelon.Lists.{All, all-zip, map-same, all-of}
+use Rattle.binar.proofs.Lists.{All, all-zip, map-same, all-of}
 use Rattle.binar.proofs.echelon.Span.{ifBit-case, Subspace, blank-subspace, space-subspace}
 use Rattle.binar.proofs.echelon.Kept.{clear-column}
 use Rattle.binar.proofs.echelon.Reduced.{Reduced, last, next, pivots-in, reduced-blank}

@@ -9,7 +9,7 @@ use Rattle.binar.specs.Row.{columns, rowSum, units}
 use Rattle.binar.specs.Echelon.{echelon, besideIdentity, R, T, rank}
 use Rattle.binar.specs.Space.{RowSpace, SameSpace, Independent, Dimension}
 use Rattle.binar.proofs.row.Bits.{xor-mod, xor-shr, blank-zero}
-use Rattle.binar.proofs.echelon.Lists.{All, all-map, all-zip, all-join, all-left, all-right}
+use Rattle.binar.proofs.Lists.{All, all-map, all-zip, all-join, all-left, all-right}
 use Rattle.binar.proofs.echelon.Span.{space-subspace, space-rows, same-space, same-flip, same-join, columns-lt}
 use Rattle.binar.proofs.echelon.Reduced.{Reduced, echelonize-reduced, reduced-room, reduced-take, reduced-drop, reduced-columns}
 use Rattle.binar.proofs.echelon.Unique.{reduced-independent}

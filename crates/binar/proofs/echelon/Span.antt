@@ -9,7 +9,7 @@ use lib.Pow.{pow-pos, field, mod-mod-pow}
 use Rattle.binar.specs.Row.{_⊕_, ifBit, columns, rowSum}
 use Rattle.binar.specs.Space.{RowSpace, SameSpace}
 use Rattle.binar.proofs.row.Bits.{bit-of-zero, bit-xor, xor-self, xor-zero-l, xor-zero-r, xor-low, xor-half, xor-lt, xor-mod, xor-swap, Blank}
-use Rattle.binar.proofs.echelon.Lists.{All, all-of, all-map, all-over}
+use Rattle.binar.proofs.Lists.{All, all-of, all-map, all-over}
 
 pub ifBit-case {ℓ ℓ′} : {X : Type ℓ} (P : X → Type ℓ′) (d : ℕ) {x y : X} → (d ≡ 0 → P y) → (0 < d → P x) → P (ifBit d x y)
 unfolding ifBit

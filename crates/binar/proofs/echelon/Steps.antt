@@ -13,7 +13,7 @@ use Rattle.binar.specs.Echelon.{inColumn, byColumns, pivotOf, swapRows, 
 use Rattle.binar.specs.declared.echelon.Found.{Found}
 use Rattle.binar.specs.declared.echelon.Found.the-variants.{At, Nothing}
 use Rattle.binar.proofs.row.Bits.{bit-lt, Blank, blank-one, blank-join}
-use Rattle.binar.proofs.echelon.Lists.{All, all-of, all-zip, all-join, all-left, all-right}
+use Rattle.binar.proofs.Lists.{All, all-of, all-zip, all-join, all-left, all-right}
 use Rattle.binar.proofs.echelon.Span.{ifBit-case}
 
 -- ---- the search

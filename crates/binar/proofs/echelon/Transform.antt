@@ -10,7 +10,7 @@ use Rattle.binar.specs.Row.{columns, rowSum, units}
 use Rattle.binar.specs.Echelon.{echelonize, besideIdentity, Row, echelon, R, T}
 use Rattle.binar.specs.Space.{RowSpace, SameSpace}
 use Rattle.binar.proofs.row.Bits.{xor-mod, xor-shr, beside-mod, beside-shr}
-use Rattle.binar.proofs.echelon.Lists.{All, all-getD, all-over, all-under, map-same, same-map}
+use Rattle.binar.proofs.Lists.{All, all-getD, all-over, all-under, map-same, same-map}
 use Rattle.binar.proofs.echelon.Span.{Additive, Subspace, below-subspace, equal-subspace, under-subspace, rowSum-xor, rowSum-head, rowSum-unit, space-subspace, space-rows, same-space}
 use Rattle.binar.proofs.echelon.Kept.{echelonize-length, echelonize-in, echelonize-out}
 

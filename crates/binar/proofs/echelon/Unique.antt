@@ -9,7 +9,7 @@ use lib.ListN.{length, take}
 use Rattle.binar.specs.Row.{_⊕_, bit, ifBit, rowSum}
 use Rattle.binar.specs.Space.{RowSpace, SameSpace, Independent}
 use Rattle.binar.proofs.row.Bits.{bit-of-zero, bit-xor, xor-zero-l, xor-eq-zero, xor-lt, Blank, blank-zero}
-use Rattle.binar.proofs.echelon.Lists.{All, all-map, all-zip}
+use Rattle.binar.proofs.Lists.{All, all-map, all-zip}
 use Rattle.binar.proofs.echelon.Span.{sum-in, blank-subspace, space-subspace, space-head, space-tail, space-in}
 use Rattle.binar.proofs.echelon.Reduced.{Reduced, last, next, reduced-blank}
 

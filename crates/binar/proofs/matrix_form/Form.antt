@@ -8,7 +8,7 @@ use lib.Pow.{pow-pos}
 use Rattle.binar.specs.Row.{bit}
 use Rattle.binar.specs.Space.{ReducedForm}
 use Rattle.binar.proofs.row.Bits.{bit-of-zero, Blank, blank-zero}
-use Rattle.binar.proofs.echelon.Lists.{All, all-map, all-get, all-getD, all-by}
+use Rattle.binar.proofs.Lists.{All, all-map, all-get, all-getD, all-by}
 use Rattle.binar.proofs.echelon.Span.{blank-subspace}
 use Rattle.binar.proofs.echelon.Reduced.{Reduced, last, next, pivots-in, reduced-room, reduced-from, reduced-blank}
 

@@ -19,7 +19,7 @@ use Rattle.binar.specs.Layout.{formStride, both, fits, formed, FormIs}
 use Rattle.binar.specs.Laid.{laidOut}
 use Rattle.binar.proofs.row.Slice.{AreWords}
 use Rattle.binar.proofs.echelon.Matrix.{Below, length-matrix, matrix-image, drop-image}
-use Rattle.binar.proofs.echelon.Lists.{all-getD, all-by}
+use Rattle.binar.proofs.Lists.{all-getD, all-by}
 use Rattle.binar.proofs.echelon.Kept.{echelonize-length}
 use Rattle.binar.proofs.echelon.Bounds.{echelonize-lt}
 use Rattle.binar.proofs.echelon.Transform.{beside-length}

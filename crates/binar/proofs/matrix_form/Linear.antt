@@ -15,7 +15,7 @@ use Rattle.binar.specs.Solve.{sweep, solved, transposeSolve}
 use Rattle.binar.specs.declared.echelon.Found.{Found}
 use Rattle.binar.specs.declared.echelon.Found.the-variants.{At}
 use Rattle.binar.proofs.row.Bits.{bit-mod, bit-beside, beside-mod, beside-shr, xor-mod, xor-shr, xor-beside}
-use Rattle.binar.proofs.echelon.Lists.{All, all-of, map-same, map-drop, map-set}
+use Rattle.binar.proofs.Lists.{All, all-of, map-same, map-drop, map-set}
 use Rattle.binar.proofs.echelon.Span.{ifBit-map, Additive, additive-zero}
 use Rattle.binar.proofs.echelon.Steps.{Search, nowhere, found, pivot-is}
 use Rattle.binar.proofs.echelon.Transform.{parts, whole}

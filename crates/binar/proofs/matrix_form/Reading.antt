@@ -16,7 +16,7 @@ use Rattle.binar.specs.Solve.{sweep, solved, transposeSolve}
 use Rattle.binar.specs.Layout.{formStride, fits, formed, FormIs, formIn, FormLeft, swept}
 use Rattle.binar.specs.Laid.{laidOut}
 use Rattle.binar.specs.Theorems.{FormLaw, SolutionLaw}
-use Rattle.binar.proofs.echelon.Lists.{All, all-by}
+use Rattle.binar.proofs.Lists.{All, all-by}
 use Rattle.binar.proofs.echelon.Span.{additive-zero}
 use Rattle.binar.proofs.matrix_form.Linear.{narrowed, narrowed-additive, narrowed-same, narrowed-mod, narrowed-shr, sweep-map, beside-law}
 use Rattle.binar.proofs.echelon.Matrix.{matrix-image, drop-image}

@@ -20,7 +20,7 @@ use Rattle.binar.specs.Solve.{solved, transposeSolve}
 use Rattle.binar.specs.Space.{RowSpace}
 use Rattle.binar.specs.Layout.{formStride, fits, formed, FormIs, formIn, FormLeft, swept, solution, SolutionIs}
 use Rattle.binar.specs.Theorems.{Targeted, SetLaw, CallsLaw}
-use Rattle.binar.proofs.echelon.Lists.{all-by}
+use Rattle.binar.proofs.Lists.{all-by}
 use Rattle.binar.proofs.echelon.Bounds.{rank-rows, sweep-lt}
 use Rattle.binar.proofs.echelon.Matrix.{Below, length-matrix}
 use Rattle.binar.proofs.echelon.Solve.{solve-sound, solve-none, none-solves}

@@ -10,7 +10,7 @@ use Rattle.pauli.specs.Roll.{Sparse}
 use Rattle.pauli.specs.Condense.{nothing}
 use Rattle.pauli.specs.Sets.{pauliOf}
 use Rattle.pauli_theory.specs.Membership.{Factorization, factorizationOf}
-use Rattle.pauli_group.specs.Inner.Area.{targetAt, spareAt, strideOf, Outside}
+use Rattle.pauli_group.specs.Inner.Area.{targetAt, furtherAt, strideOf, Outside}
 use Rattle.pauli_group.specs.Inner.Groups.{Grouped}
 use Rattle.pauli_group.specs.Calls.{paulis}
 use Rattle.pauli_group.specs.Inner.Members.{Asked}
@@ -23,7 +23,7 @@ module _ {known first : List ℕ} {n places r total step : ℕ} (g : Asked known
   -- the results of the first k elements are in the area w, and the group still is
   pub record Factored (k : ℕ) (w : List ℕ) : Type 0 where
     pub grouped : Grouped (g .list) known w places r total
-    pub results : storedIn w spareAt k ≡ map (λ e. factorizationOf (g .promise) (g .list) (pauliOf e)) (take k es)
+    pub results : storedIn w furtherAt k ≡ map (λ e. factorizationOf (g .promise) (g .list) (pauliOf e)) (take k es)
 
   pub factored-start : Factored 0 first
   unfolding storedIn
@@ -35,21 +35,21 @@ module _ {known first : List ℕ} {n places r total step : ℕ} (g : Asked known
 
     pub factored-next : n ≤ 128 → length w ≡ 4096 → k < length es → {o : Option Factorization}
         → o ≡ factorizationOf (g .promise) (g .list) (pauliOf (getD es k nothing)) → {x u : List ℕ} → Outside targetAt (strideOf n) w x
-        → Stored x (spareAt + 5 * k) o u → Factored (k + 1) u
+        → Stored x (furtherAt + 5 * k) o u → Factored (k + 1) u
     factored-next few size h {o = o} e {x = x} {u = u} target stored =
         let low : length (g .list) ≤ 128 = omega (arith, g .size) in
         let G = grouped-target (f .grouped) low (omega arith) (subst (λ (m : ℕ). Outside targetAt (strideOf m) w x) (g .size) target) in
         record {
           grouped = grouped-spare G low (omega (arith, target .size)) (stored .rest) (omega arith);
           results =
-              results-next (λ e. factorizationOf (g .promise) (g .list) (pauliOf e)) es nothing x u spareAt k
-              (stored-kept w x targetAt (strideOf n) target spareAt k (omega (arith, form-room n few .1)) ∙ f .results) h
-              (subst (λ (q : Option Factorization). Stored x (spareAt + 5 * k) q u) e stored);
+              results-next (λ e. factorizationOf (g .promise) (g .list) (pauliOf e)) es nothing x u furtherAt k
+              (stored-kept w x targetAt (strideOf n) target furtherAt k (omega (arith, form-room n few .1)) ∙ f .results) h
+              (subst (λ (q : Option Factorization). Stored x (furtherAt + 5 * k) q u) e stored);
         }
 
-    pub factored-all : (m : ℕ) → length es ≡ m → k ≤ m → m ≤ k → storedIn w spareAt m ≡ map (factorizationOf (g .promise) (g .list)) (paulis es)
+    pub factored-all : (m : ℕ) → length es ≡ m → k ≤ m → m ≤ k → storedIn w furtherAt m ≡ map (factorizationOf (g .promise) (g .list)) (paulis es)
     unfolding paulis
     factored-all m size a b =
         let e : m ≡ k = omega arith in
-        ap (storedIn w spareAt) e ∙ f .results ∙ ap (map (λ e. factorizationOf (g .promise) (g .list) (pauliOf e))) (take-all k es (omega arith))
+        ap (storedIn w furtherAt) e ∙ f .results ∙ ap (map (λ e. factorizationOf (g .promise) (g .list) (pauliOf e))) (take-all k es (omega arith))
         ∙ sym (map-map (factorizationOf (g .promise) (g .list)) pauliOf es)

@@ -6,7 +6,7 @@ use native.Mathlib.Omega.{arith}
 use native.Mathlib.Decide.{decLt}
 use borrow.Author.Tests.{lt-ltb, le-ltb}
 use lib.ListN.{length, getD, length-append, List·getD-append}
-use Rattle.binar.proofs.echelon.Lists.{all-join}
+use Rattle.binar.proofs.Lists.{all-join}
 use Rattle.pauli.specs.Support.{All}
 use Rattle.closing_report.specs.Decimal.{digitsUpTo, digits, valueFrom, DecimalLaw}
 

@@ -11,7 +11,7 @@ use lib.ListN.{length, getD}
 use lib.Pow.{pow-pos, pow-add, shr-lt}
 use Rattle.binar.specs.Row.{_⊕_, bit, weight}
 use Rattle.binar.proofs.row.Bits.{bit-of-zero, bit-beside, bit-beside-past, beside-mod, beside-shr, beside-parts, xor-beside}
-use Rattle.binar.proofs.echelon.Lists.{all-map, all-by}
+use Rattle.binar.proofs.Lists.{all-map, all-by}
 use Rattle.pauli.specs.Support.{All, Rising}
 use Rattle.pauli.specs.Pauli.{Pauli, I, times, pauliWeight}
 use Rattle.pauli.specs.Sets.{condense, expand, rowOf, pauliOfRow}

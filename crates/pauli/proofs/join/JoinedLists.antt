@@ -6,7 +6,7 @@ use native.Mathlib.Omega.{arith}
 use borrow.Author.Tests.{ltb-false}
 use lib.Dec.{ltb}
 use lib.ListN.{length, length-map, length-append}
-use Rattle.binar.proofs.echelon.Lists.{all-join, all-map, all-over}
+use Rattle.binar.proofs.Lists.{all-join, all-map, all-over}
 use Rattle.pauli.specs.Told.{answer, refuseIf, andThen, mapTold}
 use Rattle.pauli.specs.Roll.{mostPaulis, Sparse, support, read, write, byValue}
 use Rattle.pauli.specs.Support.{mostQubits, All}

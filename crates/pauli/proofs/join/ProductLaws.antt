@@ -9,7 +9,7 @@ use lib.Dec.{ltb, leb}
 use lib.ListN.{length, getD, take, drop}
 use lib.Seq.{sets}
 use Rattle.binar.specs.Row.{_⊕_, dot}
-use Rattle.binar.proofs.echelon.Lists.{all-get}
+use Rattle.binar.proofs.Lists.{all-get}
 use Rattle.pauli.specs.Told.{Told, answer, refused, refuseIf, andThen, mapTold}
 use Rattle.pauli.specs.Bytes.{u16At, numbersAt}
 use Rattle.pauli.specs.Roll.{Sparse, support, numbers, read, countOf, byValue, encode, write}

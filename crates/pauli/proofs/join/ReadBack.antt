@@ -8,7 +8,7 @@ use borrow.Author.Tests.{ltb-false, leb-false}
 use lib.Dec.{ltb, leb}
 use lib.ListN.{length, getD, take, drop, length-map}
 use lib.Seq.{take-at}
-use Rattle.binar.proofs.echelon.Lists.{all-join, all-map, all-over}
+use Rattle.binar.proofs.Lists.{all-join, all-map, all-over}
 use Rattle.pauli.specs.declared.write.Wrote.{Wrote}
 use Rattle.pauli.specs.WriteAnswers.{toldWrote}
 use Rattle.pauli.specs.Told.{Told, answer, refused, refuseIf, andThen}

@@ -10,7 +10,7 @@ use borrow.Author.Tests.{lt-ltb, le-ltb, ltb-false, le-leb, lt-leb}
 use lib.Dec.{ltb}
 use lib.ListN.{length, getD, set, take, drop, length-set, length-append, length-map, drop-of-length-le, List·getD-append}
 use lib.Seq.{drop-cons, drop-length, getD-append-add}
-use Rattle.binar.proofs.echelon.Lists.{all-by}
+use Rattle.binar.proofs.Lists.{all-by}
 use Rattle.pauli.specs.declared.roll.Entry.{Entry as CodeEntry}
 use Rattle.pauli.specs.Told.{Told, answer, refused, refuseIf, andThen, mapTold}
 use Rattle.pauli.specs.RollAnswers.{toldEntry}

@@ -3,7 +3,7 @@ use mathlib.Core.List.{List, [], _∷_, _++_, List·Memᴰ as Mem, Memᴰ·appen
 use Prim.Native.Nat.{ℕ, _+_, _*_, _^_, _≤_, _<_}
 use native.Mathlib.Omega.{arith}
 use lib.ListN.{length, length-append}
-use Rattle.binar.proofs.echelon.Lists.{all-map, all-join}
+use Rattle.binar.proofs.Lists.{all-map, all-join}
 use Rattle.pauli.specs.Roll.{mostPaulis, highestQubit, Sparse, numbers, support}
 use Rattle.pauli.specs.Support.{mostQubits, All}
 use Rattle.pauli.specs.RollTheorems.{Allowed, Within}

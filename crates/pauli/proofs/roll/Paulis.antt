@@ -5,7 +5,7 @@ use Prim.Native.Nat.{ℕ, zero, suc, _+_, _*_, _≤_, _<_}
 use native.Mathlib.Nat.{add-zero}
 use native.Mathlib.Omega.{arith}
 use lib.ListN.{length, getD, drop, length-append}
-use Rattle.binar.proofs.echelon.Lists.{all-map}
+use Rattle.binar.proofs.Lists.{all-map}
 use Rattle.pauli.specs.Bytes.{numbersAt, le32s}
 use Rattle.pauli.specs.Roll.{highestQubit, Sparse, Entry, paulisAt, entry, table, numbers, bodies}
 use Rattle.pauli.specs.RollTheorems.{Allowed}

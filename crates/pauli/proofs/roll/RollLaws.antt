@@ -8,7 +8,7 @@ use native.Mathlib.Omega.{arith}
 use lib.ListN.{length, getD, drop, length-append, length-map}
 use lib.Seq.{drop-length}
 use borrow.Author.Tests.{ltb-false, eqb-true, not-false, le-ltb, eq-eqb}
-use Rattle.binar.proofs.echelon.Lists.{all-map, all-zip, all-over}
+use Rattle.binar.proofs.Lists.{all-map, all-zip, all-over}
 use Rattle.pauli.specs.Told.{answer, andThen}
 use Rattle.pauli.specs.Bytes.{u16At, le16}
 use Rattle.pauli.specs.Roll.{mostPaulis, Sparse, Entry, entryAt, entriesAt, paulisAt, numbers, support, read, table, bodies, encode, byValue, write}

@@ -7,7 +7,7 @@ use native.Mathlib.Numerals.{add-one}
 use native.Mathlib.Omega.{arith}
 use lib.ListN.{length, getD, drop}
 use lib.Seq.{drop-cons, drop-drop, drop-at, getD-drop}
-use Rattle.binar.proofs.echelon.Lists.{all-join, all-getD}
+use Rattle.binar.proofs.Lists.{all-join, all-getD}
 use Rattle.pauli.specs.Support.{All}
 
 module _ {A : Type 0} (P : A → Type 0) where

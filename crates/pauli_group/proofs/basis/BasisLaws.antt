@@ -8,7 +8,7 @@ use lib.Seq.{take-all}
 use Rattle.binar.specs.Echelon.{Row, EchelonForm, rank as echelonRank}
 use Rattle.binar.specs.Layout.{formIn}
 use Rattle.binar.proofs.echelon.Bounds.{rank-rows}
-use Rattle.binar.proofs.echelon.Lists.{all-of, all-map, all-join, map-same}
+use Rattle.binar.proofs.Lists.{all-of, all-map, all-join, map-same}
 use Rattle.binar.proofs.matrix_form.Theorems.{transform-law}
 use Rattle.pauli.specs.Roll.{Sparse, support}
 use Rattle.pauli.specs.Support.{mostQubits, All, Rising}
@@ -31,7 +31,7 @@ use Rattle.pauli_theory.proofs.Placed.{condensed-on}
 use Rattle.pauli_theory.proofs.Rows.{support-rises}
 use Rattle.pauli_theory.proofs.StandardLaw.{standard-law}
 use Rattle.pauli_theory.proofs.Written.{support-of}
-use Rattle.pauli_group.specs.Inner.Area.{standardAt, spareAt, rowWords, strideOf, Outside}
+use Rattle.pauli_group.specs.Inner.Area.{standardAt, furtherAt, rowWords, strideOf, Outside}
 use Rattle.pauli_group.specs.Inner.Groups.{overSupport, Grouped}
 use Rattle.pauli_group.specs.Calls.{paulis}
 use Rattle.pauli_group.specs.Inner.Lists.{rowOver, formOver, productsBy}
@@ -88,17 +88,17 @@ module _ (gs hs : List Pauli) (known : List ℕ) (size : ℕ) (J : Joint gs hs k
 
   -- the area with the first list's group and its moved generators, then with the second's
   pub stack-is : {own x : List ℕ} {places rank total : ℕ} → Grouped gs own x places rank total → (y : List ℕ)
-      → listIn y spareAt total ≡ map (λ p. normal (movedPauli (take places own) (take size known) p)) (listIn x standardAt total)
-      → {own₂ z : List ℕ} {places₂ rank₂ total₂ : ℕ} → Grouped hs own₂ z places₂ rank₂ total₂ → Outside 0 spareAt y z → (u : List ℕ)
-      → listIn u (spareAt + 5 * total) total₂ ≡ map (λ p. normal (movedPauli (take places₂ own₂) (take size known) p)) (listIn z standardAt total₂)
-      → Outside (spareAt + 5 * total) (5 * total₂) z u → Stack gs hs u total total₂
+      → listIn y furtherAt total ≡ map (λ p. normal (movedPauli (take places own) (take size known) p)) (listIn x standardAt total)
+      → {own₂ z : List ℕ} {places₂ rank₂ total₂ : ℕ} → Grouped hs own₂ z places₂ rank₂ total₂ → Outside 0 furtherAt y z → (u : List ℕ)
+      → listIn u (furtherAt + 5 * total) total₂ ≡ map (λ p. normal (movedPauli (take places₂ own₂) (take size known) p)) (listIn z standardAt total₂)
+      → Outside (furtherAt + 5 * total) (5 * total₂) z u → Stack gs hs u total total₂
   stack-is {total = total} A y moved {total₂ = total₂} B o u moved₂ o₂ = record {
     first-is = A .count;
     second-is = B .count;
     left =
-        list-kept o₂ spareAt total (omega arith) ∙ list-kept-after o spareAt total (omega arith) ∙ grouped-moved A (take size known) y spareAt moved
+        list-kept o₂ furtherAt total (omega arith) ∙ list-kept-after o furtherAt total (omega arith) ∙ grouped-moved A (take size known) y furtherAt moved
         ∙ ap (λ (qs : List ℕ). standardOver qs gs) (J .support);
-    right = grouped-moved B (take size known) u (spareAt + 5 * total) moved₂ ∙ ap (λ (qs : List ℕ). standardOver qs hs) (J .support);
+    right = grouped-moved B (take size known) u (furtherAt + 5 * total) moved₂ ∙ ap (λ (qs : List ℕ). standardOver qs hs) (J .support);
   }
 
 pub standard-over : (qs : List ℕ) (ks : List Pauli) → standardOver qs ks ≡ map (condensed qs) (standard ks)
@@ -132,8 +132,8 @@ module _ (gs hs : List Pauli) (few : length gs + length hs ≤ 128) (x : List �
   abbrev n : ℕ
   n = first + second
 
-  stacked-list : listIn x spareAt n ≡ left ++ right
-  stacked-list = list-append x spareAt first second ∙ ap₂ _++_ (S .left) (S .right)
+  stacked-list : listIn x furtherAt n ≡ left ++ right
+  stacked-list = list-append x furtherAt first second ∙ ap₂ _++_ (S .left) (S .right)
 
   counts : (n ≤ 129) × (n ≤ echelonRank (formOfPlaces (length qs) (left ++ right)) + 128)
   unfolding standardOver overSupport
@@ -146,18 +146,18 @@ module _ (gs hs : List Pauli) (few : length gs + length hs ≤ 128) (x : List �
   stack-first = let a = standard-law gs .count in omega (arith, S .first-is)
 
   module _ (size : ℕ) (places : size ≡ length qs) where
-    pub stack-on : OnPlaces size (listIn x spareAt n)
+    pub stack-on : OnPlaces size (listIn x furtherAt n)
     unfolding OnPlaces
     stack-on =
         rw (stacked-list, places, standard-over qs gs, standard-over qs hs)
         (all-join (λ p. (p .x < 2 ^ length qs) × (p .z < 2 ^ length qs)) (map (condensed qs) (standard gs)) (map (condensed qs) (standard hs))
         (condensed-on qs (standard gs)) (condensed-on qs (standard hs)))
 
-    module _ (rank : ℕ) (rank-is : rank ≡ echelonRank (formOver size (listIn x spareAt n))) (y : List ℕ)
-        (form : formIn (strideOf n) n rowWords (2 * size) rank y ≡ formOver size (listIn x spareAt n))
+    module _ (rank : ℕ) (rank-is : rank ≡ echelonRank (formOver size (listIn x furtherAt n))) (y : List ℕ)
+        (form : formIn (strideOf n) n rowWords (2 * size) rank y ≡ formOver size (listIn x furtherAt n))
         (formed : Outside 0 (n * strideOf n + n) x y) where
       pub stack-rank : rank ≤ n
-      stack-rank = omega (arith, rank-is, form-rank size (listIn x spareAt n), length-list x spareAt n)
+      stack-rank = omega (arith, rank-is, form-rank size (listIn x furtherAt n), length-list x furtherAt n)
 
       pub stack-zeros : n - rank ≤ 128
       stack-zeros =
@@ -168,18 +168,18 @@ module _ (gs hs : List Pauli) (few : length gs + length hs ≤ 128) (x : List �
       abbrev D : List Pauli
       D = dependencyProducts (length qs) left right
 
-      first-list : listIn y spareAt first ≡ left
-      first-list = list-kept-after formed spareAt first (omega (arith, form-room-more n stack-count .0)) ∙ S .left
+      first-list : listIn y furtherAt first ≡ left
+      first-list = list-kept-after formed furtherAt first (omega (arith, form-room-more n stack-count .0)) ∙ S .left
 
-      module _ (z : List ℕ) (put : listIn z standardAt (n - rank) ≡ productsBy n rank (n - rank) y (listIn y spareAt first)) where
+      module _ (z : List ℕ) (put : listIn z standardAt (n - rank) ≡ productsBy n rank (n - rank) y (listIn y furtherAt first)) where
         pub dependencies : listIn z standardAt (n - rank) ≡ D
         unfolding dependencyProducts
         dependencies =
-            let F = formOver size (listIn x spareAt n) in
+            let F = formOver size (listIn x furtherAt n) in
             let all : take (n - rank) (drop rank (F .rows)) ≡ drop rank (F .rows) =
             take-all (n - rank) (drop rank (F .rows))
-            (omega (arith, length-drop rank (F .rows), form-rows size (listIn x spareAt n), length-list x spareAt n)) in
-            put ∙ products-rows n (2 * size) rank rank (n - rank) y (listIn y spareAt first)
+            (omega (arith, length-drop rank (F .rows), form-rows size (listIn x furtherAt n), length-list x furtherAt n)) in
+            put ∙ products-rows n (2 * size) rank rank (n - rank) y (listIn y furtherAt first)
             ∙ ap₂ (λ (f : EchelonForm) (ps : List Pauli). map (λ (q : Row). indexedProduct (q .t) ps) (take (n - rank) (drop rank (f .rows)))) form first-list
             ∙ ap (map (λ (q : Row). indexedProduct (q .t) left)) all
             ∙ ap (λ (k : ℕ). map (λ (q : Row). indexedProduct (q .t) left) (drop k (F .rows))) rank-is
@@ -201,8 +201,8 @@ module _ (gs hs : List Pauli) (few : length gs + length hs ≤ 128) (x : List �
           second-list =
               list-kept-after formed₂ standardAt (n - rank) (let k = stack-zeros in omega (arith, form-room-more (n - rank) (omega (arith, k)) .0)) ∙ dependencies
 
-          pub basis-is : (v : List ℕ) → listIn v spareAt count ≡ productsBy (n - rank) 0 count u (listIn u standardAt (n - rank))
-              → listIn v spareAt count ≡ basisOver gs hs
+          pub basis-is : (v : List ℕ) → listIn v furtherAt count ≡ productsBy (n - rank) 0 count u (listIn u standardAt (n - rank))
+              → listIn v furtherAt count ≡ basisOver gs hs
           unfolding basisOver commonProducts basisProducts
           basis-is v e =
               let P : List Pauli → Row → Pauli = λ ps q. indexedProduct (q .t) ps in

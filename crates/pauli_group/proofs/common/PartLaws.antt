@@ -5,7 +5,7 @@ use mathlib.Core.Option.{Option, some, none}
 use Prim.Native.Nat.{ℕ, _+_, _*_, _/_, _%_, _^_, _≤_, _<_}
 use native.Mathlib.Omega.{arith}
 use lib.ListN.{length, getD, take}
-use Rattle.binar.proofs.echelon.Lists.{all-map, all-over, all-under}
+use Rattle.binar.proofs.Lists.{all-map, all-over, all-under}
 use Rattle.pauli.specs.Roll.{countOf}
 use Rattle.pauli.specs.Support.{All, Rising}
 use Rattle.pauli.specs.Told.{answer}
@@ -29,7 +29,7 @@ use Rattle.pauli_theory.proofs.ModuloPlaces.{joined}
 use Rattle.pauli_theory.proofs.Placed.{condensed-on}
 use Rattle.pauli_theory.proofs.Products.{indexed-lt}
 use Rattle.pauli_theory.proofs.Rows.{support-rises}
-use Rattle.pauli_group.specs.Inner.Area.{spareAt}
+use Rattle.pauli_group.specs.Inner.Area.{furtherAt}
 use Rattle.pauli_group.specs.Inner.Groups.{overSupport}
 use Rattle.pauli_group.specs.Calls.{paulis, listBytes, commonBytes}
 use Rattle.pauli_group.proofs.group.GroupedLaws.{list-length}
@@ -124,29 +124,29 @@ module _ (gs hs : List Pauli) where
 -- ---- the area, step by step
 
 module _ (gs hs : List Pauli) (joint : List ℕ) (size : ℕ) (J : Joint gs hs joint size) (m : ℕ) (x : List ℕ)
-    (basis : listIn x spareAt m ≡ basisOver gs hs) where
-  pub part-on : OnPlaces size (listIn x spareAt m)
+    (basis : listIn x furtherAt m ≡ basisOver gs hs) where
+  pub part-on : OnPlaces size (listIn x furtherAt m)
   part-on = rw (basis, J .count) (basis-on gs hs)
 
-  pub part-left : All (MovablePauli (take size joint) (supportOf gs)) (listIn x spareAt m)
+  pub part-left : All (MovablePauli (take size joint) (supportOf gs)) (listIn x furtherAt m)
   part-left = rw (basis, J .support) (basis-movable gs hs gs (basis-left gs hs))
 
-  part-right : All (MovablePauli (take size joint) (supportOf hs)) (listIn x spareAt m)
+  part-right : All (MovablePauli (take size joint) (supportOf hs)) (listIn x furtherAt m)
   part-right = rw (basis, J .support) (basis-movable gs hs hs (basis-right gs hs))
 
-  module _ (y : List ℕ) (once : listIn y spareAt m ≡ map (λ p. noted (exponentFor (take size joint) gs p) p) (listIn x spareAt m)) where
-    pub once-on : OnPlaces size (listIn y spareAt m)
+  module _ (y : List ℕ) (once : listIn y furtherAt m ≡ map (λ p. noted (exponentFor (take size joint) gs p) p) (listIn x furtherAt m)) where
+    pub once-on : OnPlaces size (listIn y furtherAt m)
     unfolding OnPlaces
-    once-on = rw once (noted-sets (λ v. v < 2 ^ size) (exponentFor (take size joint) gs) (listIn x spareAt m) part-on)
+    once-on = rw once (noted-sets (λ v. v < 2 ^ size) (exponentFor (take size joint) gs) (listIn x furtherAt m) part-on)
 
-    pub once-right : All (MovablePauli (take size joint) (supportOf hs)) (listIn y spareAt m)
-    once-right = rw once (noted-sets (Movable (take size joint) (supportOf hs)) (exponentFor (take size joint) gs) (listIn x spareAt m) part-right)
+    pub once-right : All (MovablePauli (take size joint) (supportOf hs)) (listIn y furtherAt m)
+    once-right = rw once (noted-sets (Movable (take size joint) (supportOf hs)) (exponentFor (take size joint) gs) (listIn x furtherAt m) part-right)
 
-    module _ (left right : Promise) (z : List ℕ) (again : listIn z spareAt m ≡ map (λ p. noted (exponentFor (take size joint) hs p) p) (listIn y spareAt m))
+    module _ (left right : Promise) (z : List ℕ) (again : listIn z furtherAt m ≡ map (λ p. noted (exponentFor (take size joint) hs p) p) (listIn y furtherAt m))
         (a b : ℕ) (ea : a ≡ phaseStep left gs) (eb : b ≡ phaseStep right hs) (u : List ℕ) (kept : ℕ)
-        (shared : listIn u spareAt kept ≡ sharedWith (sharedNoted a b) (listIn z spareAt m)) (v : List ℕ) (total : ℕ)
-        (phases : listIn v spareAt total ≡ listIn u spareAt kept ++ phasesFrom a b 4 0) where
-      part-list : listIn v spareAt total ≡ partPlaces left right gs hs
+        (shared : listIn u furtherAt kept ≡ sharedWith (sharedNoted a b) (listIn z furtherAt m)) (v : List ℕ) (total : ℕ)
+        (phases : listIn v furtherAt total ≡ listIn u furtherAt kept ++ phasesFrom a b 4 0) where
+      part-list : listIn v furtherAt total ≡ partPlaces left right gs hs
       unfolding commonPhases exponentFor overSupport basisOver standardOver
       part-list =
           let qs = joined gs hs in
@@ -158,10 +158,10 @@ module _ (gs hs : List Pauli) (joint : List ℕ) (size : ℕ) (J : Joint gs hs j
           ∙ ap₂ (λ (i : ℕ) (j : ℕ). sharedWith (λ p. sharedExponent i j (exponentFor qs gs p) (exponentFor qs hs p)) (basisOver gs hs)) ea eb)
           (ap₂ (λ (i : ℕ) (j : ℕ). phasesFrom i j 4 0) ea eb)
 
-      pub part-places : OnPlaces size (listIn v spareAt total)
+      pub part-places : OnPlaces size (listIn v furtherAt total)
       part-places = rw (part-list, J .count) (part-places-on left right gs hs)
 
-      pub part-written : rollOver (take size joint) (listIn v spareAt total) ≡ listBytes (commonPart left right gs hs)
+      pub part-written : rollOver (take size joint) (listIn v furtherAt total) ≡ listBytes (commonPart left right gs hs)
       part-written = rw (part-list, J .support) (written-part left right gs hs)
 
 -- ---- the call

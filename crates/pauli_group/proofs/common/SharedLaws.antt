@@ -19,7 +19,7 @@ use Rattle.pauli.specs.Roll.{countOf}
 use Rattle.pauli.specs.Told.{answer}
 use Rattle.pauli.proofs.write.Writers.{length-list}
 use Rattle.pauli.specs.Support.{All}
-use Rattle.binar.proofs.echelon.Lists.{all-get}
+use Rattle.binar.proofs.Lists.{all-get}
 use Rattle.pauli.specs.Signed.{held, pauliIn, pauliWords, listIn}
 use Rattle.pauli.proofs.signed.Algebra.{pauli-path}
 use Rattle.pauli.proofs.condense.Places.{condense-lt}
@@ -31,7 +31,7 @@ use Rattle.pauli_theory.specs.Inner.CommonPlaces.{formOfPlaces, sharedExponentF
 use Rattle.pauli_theory.specs.Inner.ModuloPlaces.{movedSet, movedPauli}
 use Rattle.pauli_theory.proofs.CommonWritten.{shared-append, phases-next}
 use Rattle.pauli_theory.proofs.IfZero.{ifZero-zero, ifZero-more}
-use Rattle.pauli_group.specs.Inner.Area.{targetAt, listAt, spareAt, rowWords, strideOf, Outside}
+use Rattle.pauli_group.specs.Inner.Area.{targetAt, listAt, furtherAt, rowWords, strideOf, Outside}
 use Rattle.pauli_group.specs.Inner.Groups.{overSupport, Grouped}
 use Rattle.pauli_group.specs.Calls.{paulis, listBytes}
 use Rattle.pauli_group.specs.Inner.Lists.{rowOver}
@@ -94,27 +94,27 @@ module _ (a b u v : ℕ) where
 pub record KeptUpTo (a b m : ℕ) (first : List ℕ) (i kept : ℕ) (w : List ℕ) : Type 0 where
   pub low : kept ≤ i
   pub within : i ≤ m
-  pub list : listIn w spareAt kept ≡ sharedWith (sharedNoted a b) (listIn first spareAt i)
-  pub rest : Outside spareAt (5 * kept) first w
+  pub list : listIn w furtherAt kept ≡ sharedWith (sharedNoted a b) (listIn first furtherAt i)
+  pub rest : Outside furtherAt (5 * kept) first w
 
 module _ (a b m : ℕ) (first : List ℕ) where
   pub kept-none : KeptUpTo a b m first 0 0 first
   unfolding listIn sharedWith
-  kept-none = record { low = omega arith; within = omega arith; list = refl; rest = outside-refl spareAt 0 first }
+  kept-none = record { low = omega arith; within = omega arith; list = refl; rest = outside-refl furtherAt 0 first }
 
   module _ (i kept : ℕ) (w : List ℕ) (K : KeptUpTo a b m first i kept w) (h : i < m) where
     abbrev p : Pauli
-    p = pauliIn first (spareAt + 5 * i)
+    p = pauliIn first (furtherAt + 5 * i)
 
-    pub kept-here : pauliIn w (spareAt + 5 * i) ≡ p
-    kept-here = pauli-kept-after (K .rest) (spareAt + 5 * i) (let l = K .low in omega arith)
+    pub kept-here : pauliIn w (furtherAt + 5 * i) ≡ p
+    kept-here = pauli-kept-after (K .rest) (furtherAt + 5 * i) (let l = K .low in omega arith)
 
-    more : sharedWith (sharedNoted a b) (listIn first spareAt (i + 1))
-        ≡ sharedWith (sharedNoted a b) (listIn first spareAt i) ++ consSome (withSome (sharedNoted a b p) p) []
+    more : sharedWith (sharedNoted a b) (listIn first furtherAt (i + 1))
+        ≡ sharedWith (sharedNoted a b) (listIn first furtherAt i) ++ consSome (withSome (sharedNoted a b p) p) []
     unfolding sharedWith
-    more = ap (sharedWith (sharedNoted a b)) (list-snoc first spareAt i) ∙ shared-append (sharedNoted a b) (listIn first spareAt i) (p ∷ [])
+    more = ap (sharedWith (sharedNoted a b)) (list-snoc first furtherAt i) ∙ shared-append (sharedNoted a b) (listIn first furtherAt i) (p ∷ [])
 
-    module _ (e : ℕ) (found : exponentFound e ≡ sharedNoted a b (pauliIn w (spareAt + 5 * i))) where
+    module _ (e : ℕ) (found : exponentFound e ≡ sharedNoted a b (pauliIn w (furtherAt + 5 * i))) where
       told : exponentFound e ≡ sharedNoted a b p
       told = found ∙ ap (sharedNoted a b) kept-here
 
@@ -125,12 +125,12 @@ module _ (a b m : ℕ) (first : List ℕ) where
         within = omega arith;
         list =
             let z : none ≡ sharedNoted a b p = rw (le-ltb e 4 l) at told in
-            K .list ∙ sym (more ∙ ap (λ o. sharedWith (sharedNoted a b) (listIn first spareAt i) ++ consSome (withSome o p) []) (sym z)
-            ∙ append-nil (sharedWith (sharedNoted a b) (listIn first spareAt i)));
+            K .list ∙ sym (more ∙ ap (λ o. sharedWith (sharedNoted a b) (listIn first furtherAt i) ++ consSome (withSome o p) []) (sym z)
+            ∙ append-nil (sharedWith (sharedNoted a b) (listIn first furtherAt i)));
         rest = K .rest;
       }
 
-      module _ (l : e < 4) (room : spareAt + 5 * m ≤ length first) (q r : Held) (loaded : normal (held q) ≡ normal (pauliIn w (spareAt + 5 * i)))
+      module _ (l : e < 4) (room : furtherAt + 5 * m ≤ length first) (q r : Held) (loaded : normal (held q) ≡ normal (pauliIn w (furtherAt + 5 * i)))
           (made : held r ≡ withExponent e (held q)) where
         same : normal (held q) ≡ normal p
         same = loaded ∙ ap normal kept-here
@@ -139,18 +139,18 @@ module _ (a b m : ℕ) (first : List ℕ) where
         unfolding normal withExponent
         element = ap normal made ∙ pauli-path (mod-eq-of-lt l) (ap (λ (t : Pauli). t .x) same) (ap (λ (t : Pauli). t .z) same)
 
-        pub kept-more : (u : List ℕ) → u ≡ sets w (spareAt + 5 * kept) (pauliWords r) → KeptUpTo a b m first (i + 1) (kept + 1) u
+        pub kept-more : (u : List ℕ) → u ≡ sets w (furtherAt + 5 * kept) (pauliWords r) → KeptUpTo a b m first (i + 1) (kept + 1) u
         unfolding exponentFound withSome consSome
         kept-more u g = record {
           low = let k = K .low in omega arith;
           within = omega arith;
           list =
               let z : some e ≡ sharedNoted a b p = rw (lt-ltb e 4 l) at told in
-              ap (λ (x : List ℕ). listIn x spareAt (kept + 1)) g
-              ∙ list-store w spareAt kept r (let k = K .low in omega (arith, K .rest .size))
+              ap (λ (x : List ℕ). listIn x furtherAt (kept + 1)) g
+              ∙ list-store w furtherAt kept r (let k = K .low in omega (arith, K .rest .size))
               ∙ ap₂ (λ (ps : List Pauli) (t : Pauli). ps ++ (t ∷ [])) (K .list) element
-              ∙ sym (more ∙ ap (λ o. sharedWith (sharedNoted a b) (listIn first spareAt i) ++ consSome (withSome o p) []) (sym z));
-          rest = store-further first w spareAt kept r (K .rest) u g;
+              ∙ sym (more ∙ ap (λ o. sharedWith (sharedNoted a b) (listIn first furtherAt i) ++ consSome (withSome o p) []) (sym z));
+          rest = store-further first w furtherAt kept r (K .rest) u g;
         }
 
   pub found-noted : (w : List ℕ) (at e : ℕ) → exponentFound e ≡ sharedExponent a b (getD w at 0 / 4 % 4) (getD w at 0 % 4)
@@ -158,8 +158,8 @@ module _ (a b m : ℕ) (first : List ℕ) where
   unfolding sharedNoted pauliIn
   found-noted w at e h = h
 
-  pub kept-all : (i kept : ℕ) (w : List ℕ) → KeptUpTo a b m first i kept w → m ≤ i → listIn w spareAt kept ≡ sharedWith (sharedNoted a b) (listIn first spareAt m)
-  kept-all i kept w K h = let e : i ≡ m = (let l = K .within in omega arith) in K .list ∙ ap (λ (k : ℕ). sharedWith (sharedNoted a b) (listIn first spareAt k)) e
+  pub kept-all : (i kept : ℕ) (w : List ℕ) → KeptUpTo a b m first i kept w → m ≤ i → listIn w furtherAt kept ≡ sharedWith (sharedNoted a b) (listIn first furtherAt m)
+  kept-all i kept w K h = let e : i ≡ m = (let l = K .within in omega arith) in K .list ∙ ap (λ (k : ℕ). sharedWith (sharedNoted a b) (listIn first furtherAt k)) e
 
 -- ---- phases behind them
 
@@ -167,13 +167,13 @@ module _ (a b m : ℕ) (first : List ℕ) where
 pub record PhasesUpTo (a b n : ℕ) (first : List ℕ) (k total : ℕ) (w : List ℕ) : Type 0 where
   pub within : k ≤ 4
   pub few : total ≤ n + k
-  pub list : listIn w spareAt total ≡ listIn first spareAt n ++ phasesFrom a b k 0
+  pub list : listIn w furtherAt total ≡ listIn first furtherAt n ++ phasesFrom a b k 0
   pub size : length w ≡ length first
 
 module _ (a b n : ℕ) (first : List ℕ) where
   pub phases-none : PhasesUpTo a b n first 0 n first
   unfolding phasesFrom
-  phases-none = record { within = omega arith; few = omega arith; list = sym (append-nil (listIn first spareAt n)); size = refl }
+  phases-none = record { within = omega arith; few = omega arith; list = sym (append-nil (listIn first furtherAt n)); size = refl }
 
   module _ (k total : ℕ) (w : List ℕ) (P : PhasesUpTo a b n first k total w) (h : k < 4) where
     one-more : phasesFrom a b (k + 1) 0 ≡ phasesFrom a b k 0 ++ phasesFrom a b 1 k
@@ -181,10 +181,10 @@ module _ (a b n : ℕ) (first : List ℕ) where
         let z : 0 + k ≡ k = omega arith in
         ap (λ (j : ℕ). phasesFrom a b j 0) (add-one k) ∙ phases-next a b k 0 ∙ ap (λ (j : ℕ). phasesFrom a b k 0 ++ phasesFrom a b 1 j) z
 
-    here : listIn w spareAt total ++ phasesFrom a b 1 k ≡ listIn first spareAt n ++ phasesFrom a b (k + 1) 0
+    here : listIn w furtherAt total ++ phasesFrom a b 1 k ≡ listIn first furtherAt n ++ phasesFrom a b (k + 1) 0
     here =
-        ap (_++ phasesFrom a b 1 k) (P .list) ∙ append-assoc (listIn first spareAt n) (phasesFrom a b k 0) (phasesFrom a b 1 k)
-        ∙ ap (listIn first spareAt n ++_) (sym one-more)
+        ap (_++ phasesFrom a b 1 k) (P .list) ∙ append-assoc (listIn first furtherAt n) (phasesFrom a b k 0) (phasesFrom a b 1 k)
+        ∙ ap (listIn first furtherAt n ++_) (sym one-more)
 
     pub phases-skip : (k % a + k % b ≡ 0 → ⊥) → PhasesUpTo a b n first (k + 1) total w
     unfolding phasesFrom
@@ -193,11 +193,11 @@ module _ (a b n : ℕ) (first : List ℕ) where
       few = let f = P .few in omega arith;
       list =
           let z : phasesFrom a b 1 k ≡ [] = ifZero-more (max (k % a) (k % b)) (phase k ∷ []) [] (some-more (k % a) (k % b) d) in
-          sym (append-nil (listIn w spareAt total)) ∙ ap (listIn w spareAt total ++_) (sym z) ∙ here;
+          sym (append-nil (listIn w furtherAt total)) ∙ ap (listIn w furtherAt total ++_) (sym z) ∙ here;
       size = P .size;
     }
 
-    pub phases-put : k % a + k % b ≡ 0 → (u : List ℕ) → listIn u (spareAt + 5 * total) 1 ≡ phase k ∷ [] → Outside (spareAt + 5 * total) 5 w u
+    pub phases-put : k % a + k % b ≡ 0 → (u : List ℕ) → listIn u (furtherAt + 5 * total) 1 ≡ phase k ∷ [] → Outside (furtherAt + 5 * total) 5 w u
         → PhasesUpTo a b n first (k + 1) (total + 1) u
     unfolding phasesFrom
     phases-put e u put o = record {
@@ -205,15 +205,15 @@ module _ (a b n : ℕ) (first : List ℕ) where
       few = let f = P .few in omega arith;
       list =
           let z : phasesFrom a b 1 k ≡ phase k ∷ [] = ifZero-zero (phase k ∷ []) [] (let m : max (k % a) (k % b) ≡ 0 = omega (arith, e) in m) in
-          list-append u spareAt total 1 ∙ ap₂ _++_ (list-kept o spareAt total (omega arith)) (put ∙ sym z) ∙ here;
+          list-append u furtherAt total 1 ∙ ap₂ _++_ (list-kept o furtherAt total (omega arith)) (put ∙ sym z) ∙ here;
       size = o .size ∙ P .size;
     }
 
   pub phases-all : (k total : ℕ) (w : List ℕ) → PhasesUpTo a b n first k total w → 4 ≤ k
-      → (total ≤ n + 4) × (listIn w spareAt total ≡ listIn first spareAt n ++ phasesFrom a b 4 0)
+      → (total ≤ n + 4) × (listIn w furtherAt total ≡ listIn first furtherAt n ++ phasesFrom a b 4 0)
   phases-all k total w P h =
       let four : k ≡ 4 = (let l = P .within in omega arith) in
-      (let f = P .few in omega arith, P .list ∙ ap (λ (j : ℕ). listIn first spareAt n ++ phasesFrom a b j 0) four)
+      (let f = P .few in omega arith, P .list ∙ ap (λ (j : ℕ). listIn first furtherAt n ++ phasesFrom a b j 0) four)
 
 -- ---- the exponent of the product that solves for an element
 
@@ -264,11 +264,11 @@ module _ (w joint own : List ℕ) (at n size places rank : ℕ) (S : Solving w n
 
 -- with the first i of the Paulis of the further list of the slice first, exponents are noted in the slice w
 pub record NotedUpTo (f : Pauli → Pauli) (first : List ℕ) (i : ℕ) (w : List ℕ) : Type 0 where
-  pub list : listIn w spareAt i ≡ map f (listIn first spareAt i)
+  pub list : listIn w furtherAt i ≡ map f (listIn first furtherAt i)
   pub size : length w ≡ length first
   pub front : (k : ℕ) → k < targetAt → getD w k 0 ≡ getD first k 0
-  pub middle : (k : ℕ) → listAt ≤ k → k < spareAt → getD w k 0 ≡ getD first k 0
-  pub after : (k : ℕ) → spareAt + 5 * i ≤ k → getD w k 0 ≡ getD first k 0
+  pub middle : (k : ℕ) → listAt ≤ k → k < furtherAt → getD w k 0 ≡ getD first k 0
+  pub after : (k : ℕ) → furtherAt + 5 * i ≤ k → getD w k 0 ≡ getD first k 0
 
 module _ (first joint own : List ℕ) (n size places rank : ℕ) (S : Solving first n places rank) where
   abbrev pub f : Pauli → Pauli
@@ -279,7 +279,7 @@ module _ (first joint own : List ℕ) (n size places rank : ℕ) (S : Solving fi
   noted-none = record { list = refl; size = refl; front = λ k h. refl; middle = λ k a b. refl; after = λ k h. refl }
 
   module _ (i : ℕ) (w : List ℕ) (N : NotedUpTo f first i w) where
-    changed : Outside targetAt (spareAt + 5 * i) first w
+    changed : Outside targetAt (furtherAt + 5 * i) first w
     changed = record { size = N .size; before = N .front; after = λ k h. N .after k (omega arith) }
 
     list-here : listIn w listAt n ≡ listIn first listAt n
@@ -295,28 +295,28 @@ module _ (first joint own : List ℕ) (n size places rank : ℕ) (S : Solving fi
       small = S .small;
     }
 
-    pub noted-all : (m : ℕ) → i ≤ m → m ≤ i → listIn w spareAt m ≡ map f (listIn first spareAt m)
-    noted-all m a b = let e : i ≡ m = omega arith in subst (λ (k : ℕ). listIn w spareAt k ≡ map f (listIn first spareAt k)) e (N .list)
+    pub noted-all : (m : ℕ) → i ≤ m → m ≤ i → listIn w furtherAt m ≡ map f (listIn first furtherAt m)
+    noted-all m a b = let e : i ≡ m = omega arith in subst (λ (k : ℕ). listIn w furtherAt k ≡ map f (listIn first furtherAt k)) e (N .list)
 
-    pub noted-here : pauliIn w (spareAt + 5 * i) ≡ pauliIn first (spareAt + 5 * i)
-    noted-here = pauli-same w first (spareAt + 5 * i) (λ k a b. N .after k a)
+    pub noted-here : pauliIn w (furtherAt + 5 * i) ≡ pauliIn first (furtherAt + 5 * i)
+    noted-here = pauli-same w first (furtherAt + 5 * i) (λ k a b. N .after k a)
 
-    pub noted-element : (m : ℕ) → i < m → OnPlaces size (listIn first spareAt m) → (qs rs : List ℕ) → All (MovablePauli qs rs) (listIn first spareAt m)
-        → let p = pauliIn w (spareAt + 5 * i) in (p .x < 2 ^ size) × (p .z < 2 ^ size) × MovablePauli qs rs p
+    pub noted-element : (m : ℕ) → i < m → OnPlaces size (listIn first furtherAt m) → (qs rs : List ℕ) → All (MovablePauli qs rs) (listIn first furtherAt m)
+        → let p = pauliIn w (furtherAt + 5 * i) in (p .x < 2 ^ size) × (p .z < 2 ^ size) × MovablePauli qs rs p
     noted-element m h on qs rs all =
-        let o = on-places-at size first spareAt m i on h in
+        let o = on-places-at size first furtherAt m i on h in
         rw noted-here
-        (o .0, o .1, subst (MovablePauli qs rs) (list-at first spareAt m i I h) (all-get (MovablePauli qs rs) (listIn first spareAt m) I all i (rw (length-list first spareAt m) h)))
+        (o .0, o .1, subst (MovablePauli qs rs) (list-at first furtherAt m i I h) (all-get (MovablePauli qs rs) (listIn first furtherAt m) I all i (rw (length-list first furtherAt m) h)))
 
-    module _ (e : ℕ) (told : e ≡ exponentOver (take size joint) (take places own) n places w (pauliIn w (spareAt + 5 * i)))
-        (u : List ℕ) (o : Outside targetAt (strideOf n) w u) (room : spareAt + 5 * i + 5 ≤ length first) where
+    module _ (e : ℕ) (told : e ≡ exponentOver (take size joint) (take places own) n places w (pauliIn w (furtherAt + 5 * i)))
+        (u : List ℕ) (o : Outside targetAt (strideOf n) w u) (room : furtherAt + 5 * i + 5 ≤ length first) where
       abbrev at : ℕ
-      at = spareAt + 5 * i
+      at = furtherAt + 5 * i
 
       abbrev word : ℕ
       word = getD u at 0 % 4 * 4 + e
 
-      further : (k : ℕ) → spareAt ≤ k → getD u k 0 ≡ getD w k 0
+      further : (k : ℕ) → furtherAt ≤ k → getD u k 0 ≡ getD w k 0
       further k h = o .after k (omega (arith, form-room n (S .few) .1))
 
       exponent-is : e ≡ exponentOver (take size joint) (take places own) n places first (pauliIn first at)
@@ -327,7 +327,7 @@ module _ (first joint own : List ℕ) (n size places rank : ℕ) (S : Solving fi
         other : (k : ℕ) → (k ≡ at → ⊥) → getD v k 0 ≡ getD u k 0
         other k d = ap (λ (l : List ℕ). getD l k 0) put ∙ getD-set-other u at k word 0 d
 
-        past : (k : ℕ) → spareAt ≤ k → (k ≡ at → ⊥) → getD v k 0 ≡ getD w k 0
+        past : (k : ℕ) → furtherAt ≤ k → (k ≡ at → ⊥) → getD v k 0 ≡ getD w k 0
         past k h d = other k d ∙ further k h
 
         now-at : pauliIn v at ≡ f (pauliIn first at)
@@ -343,10 +343,10 @@ module _ (first joint own : List ℕ) (n size places rank : ℕ) (S : Solving fi
         pub noted-next : NotedUpTo f first (i + 1) v
         noted-next = record {
           list =
-              list-snoc v spareAt i
+              list-snoc v furtherAt i
               ∙ ap₂ (λ (ps : List Pauli) (p : Pauli). ps ++ (p ∷ []))
-              (list-same v w spareAt i (λ k a b. past k a (λ d. omega arith)) ∙ N .list) now-at
-              ∙ sym (ap (map f) (list-snoc first spareAt i) ∙ map-append f (listIn first spareAt i) (pauliIn first at ∷ []));
+              (list-same v w furtherAt i (λ k a b. past k a (λ d. omega arith)) ∙ N .list) now-at
+              ∙ sym (ap (map f) (list-snoc first furtherAt i) ∙ map-append f (listIn first furtherAt i) (pauliIn first at ∷ []));
           size = ap length put ∙ length-set u at word ∙ o .size ∙ N .size;
           front = λ k h. other k (λ d. omega arith) ∙ o .before k h ∙ N .front k h;
           middle = λ k a b. other k (λ d. omega arith) ∙ o .after k (omega (arith, form-room n (S .few) .1)) ∙ N .middle k a b;
@@ -375,18 +375,18 @@ module _ (b : List ℕ) (n : ℕ) (count : countOf b ≡ answer n) {known x : Li
     small = group-places b n count G;
   }
 
-  module _ {entry : List ℕ} (o : Outside 0 spareAt entry x) (qs : List ℕ) (m : ℕ) where
-    further-kept : listIn x spareAt m ≡ listIn entry spareAt m
-    further-kept = list-kept-after o spareAt m (omega arith)
+  module _ {entry : List ℕ} (o : Outside 0 furtherAt entry x) (qs : List ℕ) (m : ℕ) where
+    further-kept : listIn x furtherAt m ≡ listIn entry furtherAt m
+    further-kept = list-kept-after o furtherAt m (omega arith)
 
-    pub group-further : (s : ℕ) → OnPlaces s (listIn entry spareAt m) → OnPlaces s (listIn x spareAt m)
+    pub group-further : (s : ℕ) → OnPlaces s (listIn entry furtherAt m) → OnPlaces s (listIn x furtherAt m)
     group-further s on = rw further-kept on
 
-    pub group-movable : All (MovablePauli qs (supportOf gs)) (listIn entry spareAt m) → All (MovablePauli qs (take places known)) (listIn x spareAt m)
+    pub group-movable : All (MovablePauli qs (supportOf gs)) (listIn entry furtherAt m) → All (MovablePauli qs (take places known)) (listIn x furtherAt m)
     group-movable all = rw (further-kept, G .support) all
 
-    pub group-noted : (y : List ℕ) → listIn y spareAt m ≡ map (λ p. noted (exponentOver qs (take places known) n places x p) p) (listIn x spareAt m)
-        → listIn y spareAt m ≡ map (λ p. noted (exponentFor qs gs p) p) (listIn entry spareAt m)
+    pub group-noted : (y : List ℕ) → listIn y furtherAt m ≡ map (λ p. noted (exponentOver qs (take places known) n places x p) p) (listIn x furtherAt m)
+        → listIn y furtherAt m ≡ map (λ p. noted (exponentFor qs gs p) p) (listIn entry furtherAt m)
     unfolding exponentOver exponentFor
     group-noted y e = e ∙ rw (further-kept, G .support, group-list, ← G .size)
 

@@ -8,13 +8,13 @@ use lib.Seq.{take-all}
 use Rattle.binar.specs.Echelon.{Row, rank as echelonRank}
 use Rattle.binar.specs.Layout.{formIn}
 use Rattle.binar.specs.Words.{matrix}
-use Rattle.binar.proofs.echelon.Lists.{map-drop}
+use Rattle.binar.proofs.Lists.{map-drop}
 use Rattle.binar.proofs.echelon.Matrix.{length-matrix}
 use Rattle.binar.proofs.echelon.Bounds.{rank-rows}
 use Rattle.pauli.specs.Pauli.{Pauli, indexedProduct}
 use Rattle.pauli.specs.Signed.{listIn}
 use Rattle.pauli_theory.proofs.Form.{map-take}
-use Rattle.pauli_group.specs.Inner.Area.{listAt, standardAt, spareAt, rowWords, strideOf, Outside}
+use Rattle.pauli_group.specs.Inner.Area.{listAt, standardAt, furtherAt, rowWords, strideOf, Outside}
 use Rattle.pauli_group.specs.Inner.Groups.{productsNamed, Built}
 use Rattle.pauli_group.specs.Inner.Lists.{rowOver, formOver, productsBy, fromProducts}
 use Rattle.binar.proofs.matrix_form.Alike.{form-alike}
@@ -79,6 +79,6 @@ module _ (l f p x : List ℕ) (n s r total : ℕ) (few : n ≤ 128) (size : leng
     count = count ∙ ap (λ (ps : List Pauli). length (fromProducts r ps)) named;
     standards = list ∙ ap (fromProducts r) named;
     rest =
-        outside-join (outside-wider 0 spareAt formed (omega arith) (omega (arith, form-room n few .0)))
-        (outside-wider 0 spareAt later (omega arith) (omega arith));
+        outside-join (outside-wider 0 furtherAt formed (omega arith) (omega (arith, form-room n few .0)))
+        (outside-wider 0 furtherAt later (omega arith) (omega arith));
   }

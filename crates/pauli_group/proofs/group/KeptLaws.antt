@@ -6,7 +6,7 @@ use native.Mathlib.Omega.{arith}
 use lib.ListN.{length}
 use Rattle.pauli.specs.Pauli.{Pauli}
 use Rattle.pauli_theory.proofs.ByProducts.{rank-le}
-use Rattle.pauli_group.specs.Inner.Area.{targetAt, listAt, standardAt, spareAt, rowWords, strideOf, Outside}
+use Rattle.pauli_group.specs.Inner.Area.{targetAt, listAt, standardAt, furtherAt, rowWords, strideOf, Outside}
 use Rattle.pauli_group.specs.Inner.Groups.{Grouped}
 use Rattle.binar.proofs.matrix_form.Alike.{Alike, form-alike}
 use Rattle.pauli_group.proofs.area.AreaLaws.{form-room}
@@ -14,7 +14,7 @@ use Rattle.pauli_group.proofs.group.GroupLaws.{standards-few}
 use Rattle.pauli_group.proofs.list.ListLaws.{list-same}
 
 module _ {gs : List Pauli} {known x : List ℕ} {places r total : ℕ} (g : Grouped gs known x places r total) (few : length gs ≤ 128)
-    (room : spareAt ≤ length x) {y : List ℕ} where
+    (room : furtherAt ≤ length x) {y : List ℕ} where
   -- the words of the group lie before the target, and between the target and the further list
   pub grouped-kept : length y ≡ length x → Alike 0 targetAt x y → Alike listAt 1312 x y → Grouped gs known y places r total
   grouped-kept size front middle =
@@ -40,5 +40,5 @@ module _ {gs : List Pauli} {known x : List ℕ} {places r total : ℕ} (g : Grou
       grouped-kept (o .size) (λ k a b. o .before k (omega arith)) (λ k a b. o .after k (omega (arith, form-room (length gs) few .1)))
 
   -- words from the further list on change
-  pub grouped-spare : {i n : ℕ} → Outside i n x y → spareAt ≤ i → Grouped gs known y places r total
+  pub grouped-spare : {i n : ℕ} → Outside i n x y → furtherAt ≤ i → Grouped gs known y places r total
   grouped-spare o h = grouped-kept (o .size) (λ k a b. o .before k (omega arith)) (λ k a b. o .before k (omega arith))

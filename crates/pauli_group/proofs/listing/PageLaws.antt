@@ -8,7 +8,7 @@ use lib.Dec.{ltb}
 use lib.ListN.{length, getD, take, drop, length-map, length-take}
 use lib.Seq.{sets, ext-getD, getD-take, getD-drop}
 use Rattle.binar.specs.Row.{ifBit}
-use Rattle.binar.proofs.echelon.Lists.{all-by}
+use Rattle.binar.proofs.Lists.{all-by}
 use Rattle.binar.proofs.echelon.Span.{ifBit-case}
 use Rattle.pauli.specs.declared.signed.Pauli.{Pauli as Held}
 use Rattle.pauli.specs.Condense.{condensed}
@@ -39,7 +39,7 @@ use Rattle.pauli_theory.proofs.Placed.{condensed-I, condensed-on}
 use Rattle.pauli_theory.proofs.Rows.{support-rises, on-subgroup}
 use Rattle.pauli_theory.proofs.StandardLaw.{standard-law}
 use Rattle.pauli_theory.proofs.Written.{written-over}
-use Rattle.pauli_group.specs.Inner.Area.{standardAt, spareAt}
+use Rattle.pauli_group.specs.Inner.Area.{standardAt, furtherAt}
 use Rattle.pauli_group.specs.Calls.{oneList, mostListed, pageBytes, elementsCall}
 use Rattle.pauli_group.specs.Inner.Groups.{overSupport, Grouped}
 use Rattle.pauli_group.specs.Inner.Lists.{clashOf, stabilizerOf}
@@ -124,7 +124,7 @@ module _ (l : List ℕ) (r step start n : ℕ) where
 
   -- the first i are stored
   abbrev pub Listed : ℕ → List ℕ → Type 0
-  Listed i w = StoredUpTo (elementAt r (4 / step) step ps) (countFrom start n) spareAt n l i w
+  Listed i w = StoredUpTo (elementAt r (4 / step) step ps) (countFrom start n) furtherAt n l i w
 
   pub listed-none : Listed 0 l
   listed-none = stored-none _ _ _ _ _
@@ -134,7 +134,7 @@ module _ (l : List ℕ) (r step start n : ℕ) where
         → (set : ℕ) → set ≡ subsetAt r ((start + i) / (4 / step)) → (q : Held)
         → normal (held q) ≡ indexedProduct set (listIn w standardAt r)
         → (e : ℕ) → e ≡ (q .exponent + step * ((start + i) % (4 / step))) % 2 ^ 8
-        → (u : List ℕ) → u ≡ sets w (spareAt + 5 * i) (pauliWords (record { exponent = e; x = q .x; z = q .z })) → Listed (i + 1) u
+        → (u : List ℕ) → u ≡ sets w (furtherAt + 5 * i) (pauliWords (record { exponent = e; x = q .x; z = q .z })) → Listed (i + 1) u
     unfolding elementAt
     listed-next size few many h set a q b e k u v =
         stored-step _ _ _ _ _ i w s (count-length start n) 0 (record { exponent = e; x = q .x; z = q .z }) h (omega arith)
@@ -143,7 +143,7 @@ module _ (l : List ℕ) (r step start n : ℕ) where
         (list-kept (s .rest) standardAt r (omega arith))
         ∙ ap (elementAt r (4 / step) step ps) (sym (count-at start n i h))) u v
 
-    pub listed-all : i ≤ n → n ≤ i → listIn w spareAt n ≡ elementsFrom r (4 / step) step ps start n
+    pub listed-all : i ≤ n → n ≤ i → listIn w furtherAt n ≡ elementsFrom r (4 / step) step ps start n
     listed-all a b = stored-all _ _ _ _ _ i w s (count-length start n) a b ∙ elements-are r (4 / step) step ps start n
 
 -- ---- products of the first generators, over places
@@ -244,11 +244,11 @@ module _ (promise : Promise) (gs : List Pauli) where
           from-at r (4 / m) m ps start n i l ∙ element-over (start + i) (page-bounds i k .1)
           ∙ sym (get-map (condensed (supportOf gs)) shown i I I k ∙ ap (condensed (supportOf gs)) (page-at i k))
 
-      module _ (y : List ℕ) (listed : listIn y spareAt n ≡ elementsFrom r (4 / m) m (listIn x standardAt r) start n) where
-        pub page-places : OnPlaces places (listIn y spareAt n)
+      module _ (y : List ℕ) (listed : listIn y furtherAt n ≡ elementsFrom r (4 / m) m (listIn x standardAt r) start n) where
+        pub page-places : OnPlaces places (listIn y furtherAt n)
         page-places = rw (listed, page-is, g .size) (condensed-on (supportOf gs) shown)
 
-        pub page-written : rollOver (take places known) (listIn y spareAt n) ≡ pageBytes promise start count gs
+        pub page-written : rollOver (take places known) (listIn y furtherAt n) ≡ pageBytes promise start count gs
         unfolding pageBytes
         page-written = ap₂ rollOver (g .support) (listed ∙ page-is) ∙ written-over (supportOf gs) (support-rises gs) shown page-on
 

@@ -17,7 +17,7 @@ use Rattle.binar.specs.Echelon.{EchelonForm, rank as echelonRank}
 use Rattle.binar.specs.Layout.{formStride, formIn, FormLeft}
 use Rattle.binar.specs.Solve.{transposeSolve}
 use Rattle.binar.proofs.echelon.Bounds.{rank-rows}
-use Rattle.binar.proofs.echelon.Lists.{all-get}
+use Rattle.binar.proofs.Lists.{all-get}
 use Rattle.binar.proofs.matrix_form.Theorems.{reduced-law}
 use Rattle.pauli.specs.declared.signed.Pauli.{Pauli as Held}
 use Rattle.pauli.specs.Condense.{listOf, nothing, condensed, Readable}

@@ -13,7 +13,7 @@ use Rattle.binar.specs.Layout.{formStride, formIn, FormLeft, swept, solution}
 use Rattle.binar.specs.Solve.{solved, transposeSolve}
 use Rattle.binar.specs.Words.{rowAt, putRow, matrix}
 use Rattle.binar.proofs.echelon.Bounds.{sweep-lt}
-use Rattle.binar.proofs.echelon.Lists.{all-by}
+use Rattle.binar.proofs.Lists.{all-by}
 use Rattle.binar.proofs.echelon.Matrix.{matrix-lt}
 use Rattle.binar.proofs.row.Slice.{AreWords}
 use Rattle.binar.proofs.matrix_form.Alike.{form-alike, left-alike}

@@ -7,7 +7,7 @@ use lib.ListN.{length, getD, take, drop, length-map}
 use lib.Seq.{length-take-le}
 use Rattle.binar.specs.Echelon.{EchelonForm, rank as echelonRank}
 use Rattle.binar.specs.Layout.{formIn}
-use Rattle.binar.proofs.echelon.Lists.{all-of, all-map, all-over, map-same}
+use Rattle.binar.proofs.Lists.{all-of, all-map, all-over, map-same}
 use Rattle.pauli.specs.Known.{Gathered}
 use Rattle.pauli.specs.Roll.{Sparse, support}
 use Rattle.pauli.specs.Support.{mostQubits, All, Rising}
@@ -29,7 +29,7 @@ use Rattle.pauli_theory.proofs.Placed.{condensed-on}
 use Rattle.pauli_theory.proofs.Rows.{support-rises}
 use Rattle.pauli_theory.proofs.Theorems.{group-laws}
 use Rattle.pauli_theory.proofs.Written.{support-of, written-over}
-use Rattle.pauli_group.specs.Inner.Area.{standardAt, spareAt, rowWords, strideOf, targetAt, Outside}
+use Rattle.pauli_group.specs.Inner.Area.{standardAt, furtherAt, rowWords, strideOf, targetAt, Outside}
 use Rattle.pauli_group.specs.Inner.Groups.{overSupport, Grouped}
 use Rattle.pauli_group.specs.Calls.{paulis, listBytes}
 use Rattle.pauli_group.proofs.member.FactorLaws.{grouped-solvable}
@@ -58,14 +58,14 @@ module _ (gs hs : List Pauli) (qs : List ℕ) (joint : qs ≡ supportOf (gs ++ h
     left-moves on = all-map (λ p _. (left-movable (p .x), left-movable (p .z))) (listIn x standardAt total) on
 
     module _ (y : List ℕ)
-        (list : listIn y spareAt total ≡ map (λ p. normal (movedPauli (take places known) qs p)) (listIn x standardAt total)) where
-      pub moved-low : All (λ p. p .e < 4) (listIn y spareAt total)
+        (list : listIn y furtherAt total ≡ map (λ p. normal (movedPauli (take places known) qs p)) (listIn x standardAt total)) where
+      pub moved-low : All (λ p. p .e < 4) (listIn y furtherAt total)
       moved-low =
           rw list
           (all-over (λ p. p .e < 4) (λ p. normal (movedPauli (take places known) qs p)) (listIn x standardAt total)
           (all-of (λ p. normal-low (movedPauli (take places known) qs p)) (listIn x standardAt total)))
 
-      pub left-list : listIn y spareAt total ≡ map (movedPauli (supportOf gs) qs) (standard (placed gs))
+      pub left-list : listIn y furtherAt total ≡ map (movedPauli (supportOf gs) qs) (standard (placed gs))
       unfolding overSupport movedPauli
       left-list =
           list ∙ ap₂ (λ (own : List ℕ) (ps : List Pauli). map (λ p. normal (movedPauli own qs p)) ps) (g .support) (g .standards)
@@ -101,12 +101,12 @@ module _ (gs hs : List Pauli) (qs : List ℕ) (joint : qs ≡ supportOf (gs ++ h
           rw (moved, pivots, g .standards, g .support, joint) refl
 
       pub remainder-left : (promise : Promise) (m : ℕ) → m ≡ phaseStep promise hs → (w y : List ℕ) (n : ℕ)
-          → listIn w spareAt n ≡ remainderBy (take places known) qs x (length hs) r total ps
-          → listIn y spareAt n ≡ map (exponentMod m) (listIn w spareAt n) → n ≤ 128 → Remainder promise gs hs y n
+          → listIn w furtherAt n ≡ remainderBy (take places known) qs x (length hs) r total ps
+          → listIn y furtherAt n ≡ map (exponentMod m) (listIn w furtherAt n) → n ≤ 128 → Remainder promise gs hs y n
       remainder-left promise m step w y n made taken low =
           let list = taken ∙ ap (map (exponentMod m)) (made ∙ remainder-is) ∙ places-modulo gs hs promise m step in
           record {
-            count = sym (length-list y spareAt n) ∙ ap length list ∙ length-map (modulo promise gs hs) (condensed (supportOf (gs ++ hs)));
+            count = sym (length-list y furtherAt n) ∙ ap length list ∙ length-map (modulo promise gs hs) (condensed (supportOf (gs ++ hs)));
             few = low;
             list = list;
           }
@@ -131,10 +131,10 @@ module _ (l r old new : List ℕ) (m : ℕ) (few : length (support (listOf l ++ 
 -- ---- the remainder, written
 
 module _ {promise : Promise} {gs hs : List Pauli} {x : List ℕ} {n : ℕ} (left : Remainder promise gs hs x n) where
-  pub remainder-on : (m : ℕ) → m ≡ length (supportOf (gs ++ hs)) → OnPlaces m (listIn x spareAt n)
+  pub remainder-on : (m : ℕ) → m ≡ length (supportOf (gs ++ hs)) → OnPlaces m (listIn x furtherAt n)
   remainder-on m e = rw (e, left .list) (condensed-on (supportOf (gs ++ hs)) (modulo promise gs hs))
 
-  pub remainder-written : (qs : List ℕ) → qs ≡ supportOf (gs ++ hs) → rollOver qs (listIn x spareAt n) ≡ listBytes (modulo promise gs hs)
+  pub remainder-written : (qs : List ℕ) → qs ≡ supportOf (gs ++ hs) → rollOver qs (listIn x furtherAt n) ≡ listBytes (modulo promise gs hs)
   remainder-written qs e =
       ap₂ rollOver e (left .list)
       ∙ written-over (supportOf (gs ++ hs)) (support-rises (gs ++ hs)) (modulo promise gs hs) (modulo-on gs hs promise)

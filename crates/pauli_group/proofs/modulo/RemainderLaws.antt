@@ -11,7 +11,7 @@ use lib.ListN.{length, getD, take, drop, length-map, length-drop}
 use lib.Seq.{getD-take, getD-drop, length-take-le}
 use Rattle.binar.specs.Row.{bit, ifBit}
 use Rattle.binar.proofs.row.Bits.{bit-lt}
-use Rattle.binar.proofs.echelon.Lists.{all-map, all-over, all-get, map-same}
+use Rattle.binar.proofs.Lists.{all-map, all-over, all-get, map-same}
 use Rattle.pauli.specs.Known.{placeOf}
 use Rattle.pauli.specs.Support.{All}
 use Rattle.pauli.proofs.support.Lists.{in-getD}
@@ -23,7 +23,7 @@ use Rattle.pauli.proofs.signed.SignedLaws.{zero-bit}
 use Rattle.pauli.proofs.write.Writers.{length-list}
 use Rattle.pauli_theory.specs.Inner.ModuloPlaces.{movedSet, movedPauli, pivotPlace, multipliedAt, multipliedOver, multipliedByAllOver}
 use Rattle.pauli_theory.proofs.ModuloPlaces.{over-next, over-end, pivot-place}
-use Rattle.pauli_group.specs.Inner.Area.{standardAt, spareAt, strideOf, Outside}
+use Rattle.pauli_group.specs.Inner.Area.{standardAt, furtherAt, strideOf, Outside}
 use Rattle.pauli_group.proofs.area.AreaLaws.{form-room}
 use Rattle.pauli_group.proofs.list.ListLaws.{list-map-at, on-places-at, pauli-kept, outside-refl, outside-join}
 use Rattle.pauli_group.specs.Inner.Moved.{Movable, MovablePauli}
@@ -107,13 +107,13 @@ module _ (own qs x : List ℕ) (n rank total m : ℕ) where
   -- of the area x the further list alone has changed, to w, and the first k standard generators are dealt with
   pub record MultipliedUpTo (k : ℕ) (w : List ℕ) : Type 0 where
     pub within : k ≤ rank
-    pub rest : Outside spareAt (5 * m) x w
-    pub same : multipliedByAllOver own qs (drop k hs) (drop k cs) (listIn w spareAt m) ≡ remainderBy own qs x n rank total (listIn x spareAt m)
-    pub low : All (λ p. p .e < 4) (listIn w spareAt m)
+    pub rest : Outside furtherAt (5 * m) x w
+    pub same : multipliedByAllOver own qs (drop k hs) (drop k cs) (listIn w furtherAt m) ≡ remainderBy own qs x n rank total (listIn x furtherAt m)
+    pub low : All (λ p. p .e < 4) (listIn w furtherAt m)
 
-  pub multiplied-start : All (λ p. p .e < 4) (listIn x spareAt m) → MultipliedUpTo 0 x
+  pub multiplied-start : All (λ p. p .e < 4) (listIn x furtherAt m) → MultipliedUpTo 0 x
   unfolding remainderBy
-  multiplied-start h = record { within = omega arith; rest = outside-refl spareAt (5 * m) x; same = refl; low = h }
+  multiplied-start h = record { within = omega arith; rest = outside-refl furtherAt (5 * m) x; same = refl; low = h }
 
   module _ (o : Other own qs x n rank total) (size : length x ≡ 4096) where
     room : n * strideOf n + rank ≤ 1040
@@ -126,8 +126,8 @@ module _ (own qs x : List ℕ) (n rank total m : ℕ) where
     hs-length = length-map (listIn x standardAt total) (movedPauli own qs) ∙ length-list x standardAt total
 
     module _ (k : ℕ) (w : List ℕ) (u : MultipliedUpTo k w) where
-      pub multiplied-end : rank ≤ k → listIn w spareAt m ≡ remainderBy own qs x n rank total (listIn x spareAt m)
-      multiplied-end h = sym (over-end own qs hs cs k (omega (arith, cs-length)) (listIn w spareAt m)) ∙ u .same
+      pub multiplied-end : rank ≤ k → listIn w furtherAt m ≡ remainderBy own qs x n rank total (listIn x furtherAt m)
+      multiplied-end h = sym (over-end own qs hs cs k (omega (arith, cs-length)) (listIn w furtherAt m)) ∙ u .same
 
       pub pivot-room : k < rank → n * strideOf n + k < length w
       pivot-room h = omega (arith, room, size, u .rest .size)
@@ -166,24 +166,24 @@ module _ (own qs x : List ℕ) (n rank total m : ℕ) where
             placed p =
                 rw (← pivot-is, list-map-at (movedPauli own qs) x standardAt total k I (omega (arith, o .fits)), test, at) refl
 
-            step-map : map (λ p. normal (multipliedAt isX place (held moved) p)) (listIn w spareAt m)
-                ≡ map (multipliedOver own qs (getD cs k 0) (getD hs k I)) (listIn w spareAt m)
+            step-map : map (λ p. normal (multipliedAt isX place (held moved) p)) (listIn w furtherAt m)
+                ≡ map (multipliedOver own qs (getD cs k 0) (getD hs k I)) (listIn w furtherAt m)
             step-map =
                 let q = pauliIn x (standardAt + 5 * k) in
                 let value : normal (held moved) ≡ normal (movedPauli own qs q) = moved-value other q other-is own qs moved made in
-                map-same (λ p. normal (multipliedAt isX place (held moved) p)) (multipliedOver own qs (getD cs k 0) (getD hs k I)) (listIn w spareAt m)
-                (all-map (λ p low. multiplied-plain isX place (held moved) (movedPauli own qs q) p value low ∙ placed p) (listIn w spareAt m) (u .low))
+                map-same (λ p. normal (multipliedAt isX place (held moved) p)) (multipliedOver own qs (getD cs k 0) (getD hs k I)) (listIn w furtherAt m)
+                (all-map (λ p low. multiplied-plain isX place (held moved) (movedPauli own qs q) p value low ∙ placed p) (listIn w furtherAt m) (u .low))
 
-            pub multiplied-step : (v : List ℕ) → listIn v spareAt m ≡ map (λ p. normal (multipliedAt isX place (held moved) p)) (listIn w spareAt m)
-                → Outside spareAt (5 * m) w v → MultipliedUpTo (k + 1) v
+            pub multiplied-step : (v : List ℕ) → listIn v furtherAt m ≡ map (λ p. normal (multipliedAt isX place (held moved) p)) (listIn w furtherAt m)
+                → Outside furtherAt (5 * m) w v → MultipliedUpTo (k + 1) v
             multiplied-step v list rest = record {
               within = omega arith;
               rest = outside-join (u .rest) rest;
               same =
                   rw (add-one k, list, step-map)
-                  (sym (over-next own qs hs cs k (omega (arith, hs-length, o .fits)) (omega (arith, cs-length)) (listIn w spareAt m)) ∙ u .same);
-              low = rw list (all-over (λ p. p .e < 4) (λ p. normal (multipliedAt isX place (held moved) p)) (listIn w spareAt m)
-                  (all-map (λ p _. normal-low (multipliedAt isX place (held moved) p)) (listIn w spareAt m) (u .low)));
+                  (sym (over-next own qs hs cs k (omega (arith, hs-length, o .fits)) (omega (arith, cs-length)) (listIn w furtherAt m)) ∙ u .same);
+              low = rw list (all-over (λ p. p .e < 4) (λ p. normal (multipliedAt isX place (held moved) p)) (listIn w furtherAt m)
+                  (all-map (λ p _. normal-low (multipliedAt isX place (held moved) p)) (listIn w furtherAt m) (u .low)));
             }
 
 -- the same where own is the first numbers of a slice, as many as there are places
@@ -228,7 +228,7 @@ module _ (known qs x : List ℕ) (places n rank total m : ℕ) (room : places �
       place-few = place-low own qs x n rank total m o size k w u h pivot met other loaded moved made place (ltb pivot places) test place-is
 
       pub multiplied-next : (v : List ℕ)
-          → listIn v spareAt m ≡ map (λ p. normal (multipliedAt (ltb pivot places) place (held moved) p)) (listIn w spareAt m)
-          → Outside spareAt (5 * m) w v → MultipliedUpTo own qs x n rank total m (k + 1) v
+          → listIn v furtherAt m ≡ map (λ p. normal (multipliedAt (ltb pivot places) place (held moved) p)) (listIn w furtherAt m)
+          → Outside furtherAt (5 * m) w v → MultipliedUpTo own qs x n rank total m (k + 1) v
       multiplied-next =
           multiplied-step own qs x n rank total m o size k w u h pivot met other loaded moved made place (ltb pivot places) test place-is

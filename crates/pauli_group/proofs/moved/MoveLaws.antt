@@ -11,7 +11,7 @@ use lib.ListN.{length, getD, take}
 use lib.Pow.{pow-mono}
 use lib.Seq.{getD-take, length-take-le}
 use Rattle.binar.specs.Row.{bit}
-use Rattle.binar.proofs.echelon.Lists.{all-get}
+use Rattle.binar.proofs.Lists.{all-get}
 use Rattle.pauli.specs.Known.{placeOf, lower}
 use Rattle.pauli.specs.Support.{All, Rising}
 use Rattle.pauli.proofs.support.Lists.{in-getD}

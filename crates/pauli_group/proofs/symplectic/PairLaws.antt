@@ -8,7 +8,7 @@ use native.Mathlib.Nat.{mod-mod}
 use lib.ListN.{length, getD, set, take, drop, length-append, length-set, length-take}
 use lib.Seq.{sets, take-at, getD-at}
 use Rattle.binar.specs.Row.{ifBit}
-use Rattle.binar.proofs.echelon.Lists.{map-drop, map-set}
+use Rattle.binar.proofs.Lists.{map-drop, map-set}
 use Rattle.pauli.specs.declared.signed.Pauli.{Pauli as Held}
 use Rattle.pauli.specs.Pauli.{Pauli, I, normal, times, anticommute}
 use Rattle.pauli.specs.Signed.{held, pauliIn, pauliWords, listIn}
@@ -22,7 +22,7 @@ use Rattle.pauli.proofs.write.Writers.{listFrom, list-start, list-next, list-en
 use Rattle.pauli_theory.specs.Symplectic.{position, swapRemove, timesIf, cleared, onPosition, pairedFrom, symplecticForm}
 use Rattle.pauli_theory.proofs.Form.{map-take}
 use Rattle.pauli_theory.proofs.Symplectic.{cleared-length, removed-length}
-use Rattle.pauli_group.specs.Inner.Area.{Outside, listAt, standardAt, spareAt}
+use Rattle.pauli_group.specs.Inner.Area.{Outside, listAt, standardAt, furtherAt}
 use Rattle.pauli_theory.proofs.OverPlaces.{placed}
 use Rattle.pauli_theory.proofs.SymplecticPlaces.{paired-alike, written-symplectic, symplectic-places-on}
 use Rattle.pauli_theory.proofs.Written.{support-of}
@@ -310,7 +310,7 @@ module _ (l : List ℕ) (p : Pairing) (size : length l ≡ 4096) (some-left : 0 
   conjugates = listIn l standardAt (p .conjugate)
 
   abbrev others : List Pauli
-  others = listIn l spareAt (p .commuting)
+  others = listIn l furtherAt (p .commuting)
 
   begun : pairedIn l p ≡ map normal (pairedFrom (suc m) (rest ++ last ∷ []) conjugates others)
   unfolding pairedIn
@@ -325,16 +325,16 @@ module _ (l : List ℕ) (p : Pairing) (size : length l ≡ 4096) (some-left : 0 
     place : onPosition (position last 0 rest) m same ≡ k
     place = ap (λ (o : Option ℕ). onPosition o m same) (positions last (held x) rest rest (sym loaded) refl) ∙ found
 
-    pub stored-alone : m ≤ k → (u : List ℕ) → u ≡ sets l (spareAt + 5 * p .commuting) (pauliWords x)
+    pub stored-alone : m ≤ k → (u : List ℕ) → u ≡ sets l (furtherAt + 5 * p .commuting) (pauliWords x)
         → PairedTo l p u (record { left = m; conjugate = p .conjugate; commuting = p .commuting + 1 })
     unfolding pairedIn Plain
     stored-alone h u g =
-        let o : Outside (spareAt + 5 * p .commuting) 5 l u =
-        subst (Outside (spareAt + 5 * p .commuting) 5 l) (sym g) (store-outside l (spareAt + 5 * p .commuting) x) in
+        let o : Outside (furtherAt + 5 * p .commuting) 5 l u =
+        subst (Outside (furtherAt + 5 * p .commuting) 5 l) (sym g) (store-outside l (furtherAt + 5 * p .commuting) x) in
         let a : listIn u listAt m ≡ rest = list-kept o listAt m (omega arith) in
         let b : listIn u standardAt (p .conjugate) ≡ conjugates = list-kept o standardAt (p .conjugate) (omega arith) in
-        let e : listIn u spareAt (p .commuting + 1) ≡ others ++ normal (held x) ∷ [] =
-        ap (λ (w : List ℕ). listIn w spareAt (p .commuting + 1)) g ∙ list-store l spareAt (p .commuting) x (omega arith) in
+        let e : listIn u furtherAt (p .commuting + 1) ≡ others ++ normal (held x) ∷ [] =
+        ap (λ (w : List ℕ). listIn w furtherAt (p .commuting + 1)) g ∙ list-store l furtherAt (p .commuting) x (omega arith) in
         record {
           same =
               paired-alike m _ rest _ conjugates _ (others ++ last ∷ []) (ap (map normal) a) (ap (map normal) b)
@@ -411,9 +411,9 @@ module _ (l : List ℕ) (p : Pairing) (size : length l ≡ 4096) (some-left : 0 
           ∙ ap (λ (ps : List Pauli). ps ++ normal (held x) ∷ []) (list-kept-after w-outside standardAt (p .conjugate) (omega arith)))
           ∙ append-assoc conjugates (normal (held x) ∷ []) (normal (held z) ∷ [])
 
-      others-now : listIn u spareAt (p .commuting) ≡ others
+      others-now : listIn u furtherAt (p .commuting) ≡ others
       others-now =
-          list-kept-after u-outside spareAt (p .commuting) (omega arith) ∙ list-kept-after w-outside spareAt (p .commuting) (omega arith)
+          list-kept-after u-outside furtherAt (p .commuting) (omega arith) ∙ list-kept-after w-outside furtherAt (p .commuting) (omega arith)
 
       pub stored-pair : PairedTo l p u (record { left = m - 1; conjugate = p .conjugate + 2; commuting = p .commuting })
       unfolding pairedIn Plain
@@ -468,13 +468,13 @@ paired-next s t e = record {
 }
 
 pub paired-end : (first : List ℕ) (n : ℕ) (w : List ℕ) (p : Pairing) → PairedUpTo first n w p → p .left ≡ 0 → (u : List ℕ)
-    → listIn u (standardAt + 5 * p .conjugate) (p .commuting) ≡ map normal (listIn w spareAt (p .commuting))
+    → listIn u (standardAt + 5 * p .conjugate) (p .commuting) ≡ map normal (listIn w furtherAt (p .commuting))
     → Outside (standardAt + 5 * p .conjugate) (5 * p .commuting) w u
     → listIn u standardAt n ≡ map normal (symplecticForm (listIn first listAt n))
 unfolding pairedIn Plain pairedFrom
 paired-end first n w p s z u e o =
     let c : List Pauli = listIn w standardAt (p .conjugate) in
-    let d : List Pauli = listIn w spareAt (p .commuting) in
+    let d : List Pauli = listIn w furtherAt (p .commuting) in
     let m : n ≡ p .conjugate + p .commuting = omega (arith, s .count) in
     ap (listIn u standardAt) m ∙ list-append u standardAt (p .conjugate) (p .commuting)
     ∙ ap₂ (λ (ps qs : List Pauli). ps ++ qs) (list-kept o standardAt (p .conjugate) (omega arith) ∙ sym (s .plain)) e

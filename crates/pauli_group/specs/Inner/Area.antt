@@ -16,8 +16,8 @@ abbrev pub standardAt : ℕ
 standardAt = 1712
 
 -- a further list
-abbrev pub spareAt : ℕ
-spareAt = 2368
+abbrev pub furtherAt : ℕ
+furtherAt = 2368
 
 -- R's part of a row: two times 128 columns
 abbrev pub rowWords : ℕ

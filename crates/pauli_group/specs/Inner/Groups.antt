@@ -17,7 +17,7 @@ use Rattle.pauli_group.specs.declared.calls.DescriptionFound.{Descriptio
 use Rattle.pauli_group.specs.declared.calls.DescriptionFound.the-variants.{Description as Described, Refused as DescriptionRefused}
 use Rattle.pauli_group.specs.WorkArea.{areaAfter}
 use Rattle.pauli_group.specs.Calls.{oneList}
-use Rattle.pauli_group.specs.Inner.Area.{listAt, standardAt, spareAt, rowWords, strideOf, Outside}
+use Rattle.pauli_group.specs.Inner.Area.{listAt, standardAt, furtherAt, rowWords, strideOf, Outside}
 use Rattle.pauli_group.specs.Inner.Lists.{formOver, fromProducts}
 
 -- the products of the Paulis ps that the rows of T name
@@ -32,7 +32,7 @@ pub record Built (l : List ℕ) (n s : ℕ) (x : List ℕ) (rank total : ℕ) : 
   pub count : total ≡ length (fromProducts rank (productsNamed (formOver s (listIn l listAt n)) (listIn l listAt n)))
   pub standards : listIn x standardAt total ≡ fromProducts rank (productsNamed (formOver s (listIn l listAt n)) (listIn l listAt n))
   -- the words from the further list on are as they were
-  pub rest : Outside 0 spareAt l x
+  pub rest : Outside 0 furtherAt l x
 
 -- a list over the places of its support, exponents by value
 unfoldable pub overSupport : List Pauli → List Pauli

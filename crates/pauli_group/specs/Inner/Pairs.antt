@@ -6,11 +6,11 @@ use Rattle.pauli.specs.Pauli.{Pauli, normal}
 use Rattle.pauli.specs.Signed.{listIn}
 use Rattle.pauli_theory.specs.Symplectic.{pairedFrom}
 use Rattle.pauli_group.specs.declared.symplectic.Pairing.{Pairing}
-use Rattle.pauli_group.specs.Inner.Area.{listAt, standardAt, spareAt}
+use Rattle.pauli_group.specs.Inner.Area.{listAt, standardAt, furtherAt}
 
 -- what the pairing comes to from here on: of the Paulis left in the list, with the conjugate and the commuting elements so far
 unfoldable pub pairedIn : List ℕ → Pairing → List Pauli
-pairedIn l p = map normal (pairedFrom (p .left) (listIn l listAt (p .left)) (listIn l standardAt (p .conjugate)) (listIn l spareAt (p .commuting)))
+pairedIn l p = map normal (pairedFrom (p .left) (listIn l listAt (p .left)) (listIn l standardAt (p .conjugate)) (listIn l furtherAt (p .commuting)))
 
 -- the conjugate elements so far are their own values
 unfoldable pub Plain : List ℕ → Pairing → Type 0

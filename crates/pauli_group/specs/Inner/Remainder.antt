@@ -12,7 +12,7 @@ use Rattle.pauli_theory.specs.Group.{Promise}
 use Rattle.pauli_theory.specs.Modulo.{modulo}
 use Rattle.pauli_theory.specs.Inner.ModuloPlaces.{movedPauli, multipliedByAllOver}
 use Rattle.pauli_theory.specs.Standard.{supportOf}
-use Rattle.pauli_group.specs.Inner.Area.{standardAt, spareAt, strideOf}
+use Rattle.pauli_group.specs.Inner.Area.{standardAt, furtherAt, strideOf}
 
 -- the form and the standard generators of a list of n in the area x, over the places of own, whose numbers are all in qs
 pub record Other (own qs x : List ℕ) (n rank total : ℕ) : Type 0 where
@@ -34,4 +34,4 @@ remainderBy own qs x n rank total gs =
 pub record Remainder (promise : Promise) (gs hs : List Pauli) (x : List ℕ) (r : ℕ) : Type 0 where
   pub count : r ≡ length (modulo promise gs hs)
   pub few : r ≤ 128
-  pub list : listIn x spareAt r ≡ map (condensed (supportOf (gs ++ hs))) (modulo promise gs hs)
+  pub list : listIn x furtherAt r ≡ map (condensed (supportOf (gs ++ hs))) (modulo promise gs hs)

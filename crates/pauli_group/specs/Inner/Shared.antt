@@ -13,7 +13,7 @@ use Rattle.pauli_theory.specs.Standard.{supportOf, standard}
 use Rattle.pauli_theory.specs.Common.{withExponent}
 use Rattle.pauli_theory.specs.Inner.CommonPlaces.{formOfPlaces, commonProducts, sharedExponent, solvedExponent}
 use Rattle.pauli_theory.specs.Inner.ModuloPlaces.{movedPauli}
-use Rattle.pauli_group.specs.Inner.Area.{targetAt, listAt, spareAt, rowWords, strideOf}
+use Rattle.pauli_group.specs.Inner.Area.{targetAt, listAt, furtherAt, rowWords, strideOf}
 use Rattle.pauli_group.specs.Inner.Groups.{overSupport}
 
 -- ---- the common basis
@@ -32,8 +32,8 @@ standardOver qs ks = map (movedPauli (supportOf ks) qs) (standard (overSupport k
 pub record Stack (gs hs : List Pauli) (x : List ℕ) (first second : ℕ) : Type 0 where
   pub first-is : first ≡ length (standard gs)
   pub second-is : second ≡ length (standard hs)
-  pub left : listIn x spareAt first ≡ standardOver (supportOf (gs ++ hs)) gs
-  pub right : listIn x (spareAt + 5 * first) second ≡ standardOver (supportOf (gs ++ hs)) hs
+  pub left : listIn x furtherAt first ≡ standardOver (supportOf (gs ++ hs)) gs
+  pub right : listIn x (furtherAt + 5 * first) second ≡ standardOver (supportOf (gs ++ hs)) hs
 
 -- the common basis over the places of the joined support, up to exponents
 unfoldable pub basisOver : List Pauli → List Pauli → List Pauli

@@ -1,5 +1,5 @@
 use Rattle.pauli_group.proofs.list.ListLaws.{outside-join, outside-wider}
-use Rattle.pauli_group.specs.Inner.Area.{spareAt}
+use Rattle.pauli_group.specs.Inner.Area.{furtherAt}
 use Prim.Native.Nat.{ℕ, _+_, _*_, _≤_, _<_}
 use Rattle.pauli.proofs.joined.JoinLaws.{accepted, accepted-length, accepted-few}
 use Rattle.pauli.specs.Roll.{mostPaulis}
@@ -39,7 +39,7 @@ same-length-2 c = c .before .before .build .kept .0 ∙ c .before .before .befor
 
 returns : tie.Need-returns
 unfolding mostPaulis
-returns c = let s = c .before .before .before .before .before .before .before .before .before .before .before .before .before .before .before .before .before in let g = own-gathered (s .args .b .now) (s .args .n) (s .pre .0) _ (c .before .before .before .before .before .before .before .before .before .before .before .before .before .numbers-of .ensures) _ _ _ (c .before .before .before .before .before .before .before .before .before .before .before .gather .ensures) in let few = own-few (s .args .b .now) (s .args .n) (s .pre .0) in (rw (c .before .before .build .ensures .1) (grouped _ _ _ _ g few _ (s .args .n) (c .before .before .before .before .before .before .read-list .ensures .0) _ _ _ (accepted (s .args .b .now) (s .args .n) (s .pre .0) .1) (c .before .before .build .ensures .0)), outside-join (outside-wider 0 spareAt (c .before .before .before .before .before .before .read-list .ensures .1) (omega arith) (omega (arith, accepted-few (s .args .b .now) (s .args .n) (s .pre .0)))) (c .before .before .build .ensures .0 .rest))
+returns c = let s = c .before .before .before .before .before .before .before .before .before .before .before .before .before .before .before .before .before in let g = own-gathered (s .args .b .now) (s .args .n) (s .pre .0) _ (c .before .before .before .before .before .before .before .before .before .before .before .before .before .numbers-of .ensures) _ _ _ (c .before .before .before .before .before .before .before .before .before .before .before .gather .ensures) in let few = own-few (s .args .b .now) (s .args .n) (s .pre .0) in (rw (c .before .before .build .ensures .1) (grouped _ _ _ _ g few _ (s .args .n) (c .before .before .before .before .before .before .read-list .ensures .0) _ _ _ (accepted (s .args .b .now) (s .args .n) (s .pre .0) .1) (c .before .before .build .ensures .0)), outside-join (outside-wider 0 furtherAt (c .before .before .before .before .before .before .read-list .ensures .1) (omega arith) (omega (arith, accepted-few (s .args .b .now) (s .args .n) (s .pre .0)))) (c .before .before .build .ensures .0 .rest))
 
 pub group-of-spec : {M : Type 1} → statement M
 group-of-spec =

@@ -3,7 +3,7 @@ use mathlib.Core.Path.{_≡_, sym, ap, _∙_}
 use lib.ListN.{length}
 use Rattle.pauli.specs.Support.{mostQubits}
 use Rattle.pauli.specs.Condense.{listOf}
-use Rattle.pauli_group.specs.Inner.Area.{spareAt}
+use Rattle.pauli_group.specs.Inner.Area.{furtherAt}
 use Rattle.pauli_group.specs.Calls.{paulis}
 use Rattle.pauli_group.specs.Promises.{promiseOf}
 use Rattle.pauli_group.proofs.group.GroupLaws.{described}
@@ -71,7 +71,7 @@ multiply-all-requires c κs =
       s .pre .2,
       s .pre .3,
       rw (← n) other,
-      rw (list-kept-after (group .ensures .1) spareAt (c .before .before .before .before .before .before .before .before .before .before .before .before .before .before .before .before .before .before .group-of .result .total) (omega arith)) (moved-low _ _ _ (s .pre .4) (c .before .before .before .before .before .before .before .before .before .before .before .before .before .before .before .before .before .before .group-of .ensures .0) _ (c .before .before .before .before .before .before .before .before .before .before .before .before .move-list .ensures .0)),
+      rw (list-kept-after (group .ensures .1) furtherAt (c .before .before .before .before .before .before .before .before .before .before .before .before .before .before .before .before .before .before .group-of .result .total) (omega arith)) (moved-low _ _ _ (s .pre .4) (c .before .before .before .before .before .before .before .before .before .before .before .before .before .before .before .before .before .before .group-of .ensures .0) _ (c .before .before .before .before .before .before .before .before .before .before .before .before .move-list .ensures .0)),
     )
 
 take-mod-requires : tie.Need-take-mod-requires
@@ -98,7 +98,7 @@ returns c =
     let n = list-length _ _ (s .pre .1) in
     let signs = c .before .before .before .before .before .before .before .before .before .signs-of .ensures in
     let step = described g (promiseOf (s .args .promise)) _ _ _ (signs .0) (signs .1 .0) (signs .1 .1) .step-is in
-    let moved = list-kept-after (group .ensures .1) spareAt (left .result .total) (omega arith) ∙ left-list _ _ _ (s .pre .4) (left .ensures .0) _ (c .before .before .before .before .before .before .before .before .before .before .before .before .before .before .before .before .before .before .before .move-list .ensures .0) in
+    let moved = list-kept-after (group .ensures .1) furtherAt (left .result .total) (omega arith) ∙ left-list _ _ _ (s .pre .4) (left .ensures .0) _ (c .before .before .before .before .before .before .before .before .before .before .before .before .before .before .before .before .before .before .before .move-list .ensures .0) in
     remainder-left _ _ _ (s .pre .4) g (list-few _ _ (s .pre .1)) (group-places _ _ (s .pre .1) g) size (group-total _ _ (s .pre .1) g) (group-on _ _ (s .pre .1) g) _ moved
     _ _ step _ _ _ (rw n (c .before .before .before .before .before .before .multiply-all .ensures .0)) (c .before .before .take-mod .ensures .0) few
 

@@ -27,14 +27,14 @@ add-minus-2 c = omega (arith, search-lt order-four (listIn (c .before .before .b
 some-imaginary-requires : tie.Need-some-imaginary-requires
 some-imaginary-requires c κs = search needs
 
-unless-requires : tie.Need-unless-requires
-unless-requires c κs = search needs
+one-if-zero-requires : tie.Need-one-if-zero-requires
+one-if-zero-requires c κs = search needs
 
 returns : tie.Need-returns
-returns c = (c .before .before .before .before .before .clash-of .ensures .0, (step-odd _ _ _ (c .before .before .some-imaginary .ensures) (c .before .if1 .taken), stabilizer-found _ _ _ _ _ _ (c .before .before .before .before .before .clash-of .ensures .0) (c .before .before .before .before .some-order-four .ensures) (c .before .before .before .some-minus .ensures) (c .unless .ensures)))
+returns c = (c .before .before .before .before .before .clash-of .ensures .0, (step-odd _ _ _ (c .before .before .some-imaginary .ensures) (c .before .if1 .taken), stabilizer-found _ _ _ _ _ _ (c .before .before .before .before .before .clash-of .ensures .0) (c .before .before .before .before .some-order-four .ensures) (c .before .before .before .some-minus .ensures) (c .one-if-zero .ensures)))
 
-unless-requires-2 : tie.Need-unless-requires-2
-unless-requires-2 c κs = search needs
+one-if-zero-requires-2 : tie.Need-one-if-zero-requires-2
+one-if-zero-requires-2 c κs = search needs
 
 mul-t7 : tie.Need-mul-t7
 mul-t7 c = omega (arith, ifZero-le (c .before .before .before .before .before .clash-of .result + c .before .before .before .before .some-order-four .result + c .before .before .before .some-minus .result))
@@ -42,11 +42,11 @@ mul-t7 c = omega (arith, ifZero-le (c .before .before .before .before .before .c
 add-t6 : tie.Need-add-t6
 add-t6 c = omega (arith, ifZero-le (c .before .before .before .before .before .clash-of .result + c .before .before .before .before .some-order-four .result + c .before .before .before .some-minus .result))
 
-unless-requires-3 : tie.Need-unless-requires-3
-unless-requires-3 c κs = search needs
+one-if-zero-requires-3 : tie.Need-one-if-zero-requires-3
+one-if-zero-requires-3 c κs = search needs
 
 returns-2 : tie.Need-returns-2
-returns-2 c = (c .before .before .before .before .before .before .clash-of .ensures .0, (step-even _ _ _ _ _ _ (c .before .before .before .before .before .before .clash-of .ensures .0) (c .before .before .before .before .before .some-order-four .ensures) (c .before .before .before .before .some-minus .ensures) (c .before .unless2 .ensures) _ (c .before .before .before .some-imaginary .ensures) (c .before .before .if1 .left), stabilizer-found _ _ _ _ _ _ (c .before .before .before .before .before .before .clash-of .ensures .0) (c .before .before .before .before .before .some-order-four .ensures) (c .before .before .before .before .some-minus .ensures) (c .unless3 .ensures)))
+returns-2 c = (c .before .before .before .before .before .before .clash-of .ensures .0, (step-even _ _ _ _ _ _ (c .before .before .before .before .before .before .clash-of .ensures .0) (c .before .before .before .before .before .some-order-four .ensures) (c .before .before .before .before .some-minus .ensures) (c .before .one-if-zero2 .ensures) _ (c .before .before .before .some-imaginary .ensures) (c .before .before .if1 .left), stabilizer-found _ _ _ _ _ _ (c .before .before .before .before .before .before .clash-of .ensures .0) (c .before .before .before .before .before .some-order-four .ensures) (c .before .before .before .before .some-minus .ensures) (c .one-if-zero3 .ensures)))
 
 pub signs-of-spec : {M : Type 1} → statement M
 signs-of-spec =
@@ -58,10 +58,10 @@ signs-of-spec =
     some-minus-requires
     add-minus-2
     some-imaginary-requires
-    unless-requires
+    one-if-zero-requires
     returns
-    unless-requires-2
+    one-if-zero-requires-2
     mul-t7
     add-t6
-    unless-requires-3
+    one-if-zero-requires-3
     returns-2)
