@@ -9,7 +9,8 @@
  * is how many qubit numbers stand in earlier bodies.
  *
  * Slices. Every slice is a pointer and a length: bytes of a roll or an output, 64-bit words of a work area. A length may be 0. The pointer
- * must not be NULL, also where the length is 0: any other address will do. Slices lent to one call do not overlap where one of them is written (work, out, words).
+ * must not be NULL, also where the length is 0: any other address will do. Slices lent to one call do not overlap where one of them is
+ * written (work, out, words).
  *
  * A work area has HOWHIRUKE_WORK_WORDS words or more and may hold anything. Its first HOWHIRUKE_WORK_WORDS words are zero at the end, but
  * untouched at refusals 1 to 9; its other words are never touched. An output is written from its front, and only the result's own bytes;
