@@ -10,7 +10,7 @@ for program in rt gcc cargo; do
 done
 cd "$root"
 mkdir -p "$made"
-echo "proving capi and what it rests on: about six minutes from nothing, under a minute where all is proved; log: target/include/staticlib.log"
+echo "proving capi and what it rests on: six to eight minutes from nothing, under a minute where all is proved; log: target/include/staticlib.log"
 rt staticlib capi > "$made/staticlib.log" 2>&1 || { tail -20 "$made/staticlib.log"; exit 1; }
 echo "wrote target/staticlib/libcapi.a"
 for name in example test; do
