@@ -2,6 +2,8 @@
 // Rows are stretches of one lent slice of 64-bit words, the lowest word first; the bit of column k is bit k % 64 of word
 // k / 64. A matrix is rows of stride words, row i at i * stride.
 
+#![tactic(auto)]
+
 // One row, or two, in a slice.
 pub mod row;
 // Rows added to rows over GF(2).

@@ -1,5 +1,7 @@
 // Every call for C and Rust: numbers and slices in, five numbers out.
 
+#![tactic(auto)]
+
 // The answer of a call, and what codes each kind of answer.
 pub mod answer;
 // Promises by number.

@@ -1,5 +1,7 @@
 // The closing listing as bytes.
 
+#![tactic(auto)]
+
 // Texts and decimal numbers.
 pub(crate) mod text;
 // The lines of the listing.

@@ -2,6 +2,8 @@
 //
 // For each matrix: a line with its rank and pivots; its rows of R and T; the set of rows that sums to rows 0, 2, 4, ..; and,
 // where the rank is below the number of columns, the answer for a target outside the row space.
+
+#![tactic(auto)]
 ghost use Rattle.std.specs.Prelude.{◌≡◌, ◌+◌, ◌*◌, ◌/◌, ◌^◌, ◌≤◌, ◌<◌, length};
 ghost use Rattle.binar.specs.Layout.{FormLeft};
 ghost use Rattle.matrices.specs.Room.{Room, SameBefore};

@@ -1,5 +1,7 @@
 // Signed Paulis and the rolls that hold them, after the crate paulimer of microsoft/qdk-ec.
 
+#![tactic(auto)]
+
 // Why a call is refused.
 pub mod refusal;
 // Numbers in bytes.

@@ -1,5 +1,7 @@
 // The group that a list of signed Paulis generates, after the module pauli_group of the crate paulimer of microsoft/qdk-ec.
 
+#![tactic(auto)]
+
 // What the caller promises of a list.
 pub mod promise;
 // Where the work area holds what.

@@ -3,6 +3,8 @@
 // A request is 28 bytes, little-endian, and two byte strings. Byte 0 is the operation, bytes 1 and 2 the promises, byte 3 the
 // byte that fills the output and the work area before the call; from byte 4 on six numbers of four bytes: a, b, the bytes of
 // output lent, the words of work area lent, and the lengths of the two strings.
+
+#![tactic(auto)]
 ghost use Rattle.std.specs.Prelude.{◌≤◌, length};
 
 use crate::lines::{text, word_of};

@@ -1,4 +1,6 @@
 // The report program: an input of the closing listing in, its text out.
+
+#![tactic(auto)]
 ghost use Rattle.std.specs.Prelude.{◌≡◌, ◌≤◌, ◌<◌, length, take};
 ghost use Rattle.closing_report.specs.InputRolls.{most_input};
 ghost use Rattle.closing_report.specs.Listing.{text_of};

@@ -1,5 +1,7 @@
 // How large a result will be, told without making it: the joined roll, the roll of standard generators, and a page of the listing.
 
+#![tactic(auto)]
+
 // What the calls answer.
 pub mod answers;
 // The call for the sizes of two lists joined.
