@@ -16,7 +16,7 @@ WORD = r"[^\s(){}\[\];,.\"λ⌜⌝]+"
 
 
 def norm(label):
-    return label.replace("_", "-")
+    return label.replace("_", "-").lower()
 
 
 def split_declarations(text):
@@ -126,6 +126,8 @@ class Turn:
                     return ["c", arm[0], best[0]] + parts[1 + len(best[1]):]
         rest = parts[1:]
         callee = p[3]
+        if callee and re.search(r"::wrapping_(add|sub)_u8$", callee) and rest == ["ensures"]:
+            return ["c", p[2][1], "ensures", "value"]
         new = p[2][1]
         if rest and rest[0] in ("auto", "new") and len(rest) > 1 and rest[1].isdigit():
             lent = self.f.of(self.f.lent, callee)
@@ -140,6 +142,8 @@ class Turn:
 
     def clauses(self, names, rest):
         """Clause by number, each behind the one before, to clause by name."""
+        if names and len(names) == 1 and names[0]:
+            return [names[0]] + rest
         if not names or len(names) < 2:
             return rest
         n = 0
@@ -240,7 +244,8 @@ def tuple_parts(text):
             parts.append(text[at:i])
             at = i + 1
     parts.append(text[at:-1])
-    return [p.strip() for p in parts] if len(parts) > 1 else None
+    parts = [p.strip() for p in parts if p.strip()]
+    return parts if len(parts) > 1 else None
 
 
 def as_record(body, names):
@@ -257,7 +262,10 @@ def as_record(body, names):
             cut = m.end()
     parts = tuple_parts(body[cut:])
     if not parts:
-        return None
+        if "elim" in body[cut:]:
+            return None
+        fields = [".1" * i + (".0" if i < len(names) - 1 else "") for i in range(len(names))]
+        return body[:cut] + " let all = " + body[cut:].strip() + " in record { " + "; ".join(f"{n} = all{f}" for n, f in zip(names, fields)) + " }"
     while len(parts) < len(names):
         more = tuple_parts(parts[-1])
         if not more:
