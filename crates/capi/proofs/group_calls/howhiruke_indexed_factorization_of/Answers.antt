@@ -4,4 +4,3 @@ use Rattle.capi.proofs.group_calls.howhiruke_indexed_factorization_of.Goals as g
 
 pub returns : goal.returns
 returns c = record { told = rw (← c.promise_numbered-promised.ensures) (c.code_member.ensures ∙ ap code_member c.indexed_factorization_of-found.ensures.told); left = rw (← c.promise_numbered-promised.ensures) c.indexed_factorization_of-found.ensures.left; area = c.indexed_factorization_of-found.ensures.area }
-

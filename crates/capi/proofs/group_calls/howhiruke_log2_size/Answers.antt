@@ -4,4 +4,3 @@ use Rattle.capi.proofs.group_calls.howhiruke_log2_size.Goals as goal
 
 pub returns : goal.returns
 returns c = record { told = rw (← c.promise_numbered-promised.ensures) (c.code_size.ensures ∙ ap code_number c.log2_size-found.ensures.told); area = c.log2_size-found.ensures.area }
-

@@ -4,4 +4,3 @@ use Rattle.capi.proofs.pair_calls.howhiruke_partial_cmp.Goals as goal
 
 pub returns : goal.returns
 returns c = record { told = rw (← c.promise_numbered-l.ensures, ← c.promise_numbered-r.ensures) (c.code_order.ensures ∙ ap code_order c.partial_cmp-found.ensures.told); area = c.partial_cmp-found.ensures.area }
-

@@ -4,4 +4,3 @@ use Rattle.capi.proofs.roll_calls.howhiruke_check_roll.Goals as goal
 
 pub returns : goal.returns
 returns c = c.code_count.ensures ∙ ap code_number c.check_roll-checked.ensures
-

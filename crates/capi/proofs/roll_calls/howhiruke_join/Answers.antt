@@ -4,4 +4,3 @@ use Rattle.capi.proofs.roll_calls.howhiruke_join.Goals as goal
 
 pub returns : goal.returns
 returns c = record { told = c.code_wrote.ensures ∙ ap code_number c.join-wrote.ensures.told; left = c.join-wrote.ensures.left }
-

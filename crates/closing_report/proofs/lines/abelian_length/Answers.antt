@@ -8,8 +8,6 @@ pub returns-then-clash-eq0 : goal.returns-then-clash-eq0
 unfolding ascii
 returns-then-clash-eq0 c = rw (abelian_yes _ c.if-clash-eq0.true) (omega arith, omega arith)
 
-
 pub returns : goal.returns
 unfolding ascii
 returns c = rw (abelian_no _ c.if-clash-eq0.false) (omega arith, omega arith)
-

@@ -8,4 +8,3 @@ use Rattle.closing_report.proofs.lines.first_line_length.Goals as goal
 pub returns : goal.returns
 unfolding first_line labelled ascii line_feed
 returns c = (simp length-append (omega arith), omega arith)
-

@@ -9,7 +9,5 @@ use Rattle.closing_report.proofs.lines.indexes_length.Given as goal
 abbrev pub invariant-loop-i : goal.invariant-loop-i
 invariant-loop-i l = (l.i < 128 → bit (set_in l.set) l.i ≡ 1) × Counted (set_in l.set) l.i l.total
 
-
 abbrev pub decreases-loop-i : goal.decreases-loop-i
 decreases-loop-i l = 128 - l.i
-

@@ -8,13 +8,10 @@ pub returns-in-1 : goal.returns-in-1
 unfolding ascii
 returns-in-1 c = rw (phases_all c.args.step (omega arith)) (omega arith, omega arith)
 
-
 pub returns-in-2 : goal.returns-in-2
 unfolding ascii
 returns-in-2 c = rw (phases_two c.args.step (omega arith)) (omega arith, omega arith)
 
-
 pub returns-in_default : goal.returns-in_default
 unfolding ascii
 returns-in_default c = rw (phases_zero c.args.step (λ e. omega arith) (λ e. omega arith)) (omega arith, omega arith)
-

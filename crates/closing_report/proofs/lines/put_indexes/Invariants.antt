@@ -13,7 +13,5 @@ abbrev pub invariant-loop-i : goal.invariant-loop-i
 invariant-loop-i l =
     (l.i < 128 → bit (set_in l.set) l.i ≡ 1) × Left l.initial.out l.at (indexes_text (members (set_in l.set))) l.out l.next (text_from (set_in l.set) l.i)
 
-
 abbrev pub decreases-loop-i : goal.decreases-loop-i
 decreases-loop-i l = 128 - l.i
-

@@ -11,13 +11,11 @@ unfolding member_line member_pieces joined ascii line_feed
 put_number-member-requires c =
     room _ _ (digits c.args.i) (member_pieces (set_in c.args.set) c.args.exponent) c.requires
 
-
 pub put_text-indexes-requires : goal.put_text-indexes-requires
 unfolding member_line member_pieces joined ascii line_feed
 put_text-indexes-requires c =
     let one = begun (member_pieces (set_in c.args.set) c.args.exponent) c.requires c.put_number-member.ensures in
     next_room one
-
 
 pub put_indexes-phase-requires : goal.put_indexes-phase-requires
 unfolding member_line member_pieces joined ascii line_feed
@@ -26,7 +24,6 @@ put_indexes-phase-requires c =
     let two = next_put one c.put_text-indexes.ensures in
     next_room two
 
-
 pub put_labelled-end-requires : goal.put_labelled-end-requires
 unfolding member_line member_pieces joined ascii line_feed
 put_labelled-end-requires c =
@@ -34,7 +31,6 @@ put_labelled-end-requires c =
     let two = next_put one c.put_text-indexes.ensures in
     let three = next_put two c.put_indexes-phase.ensures in
     next_room three
-
 
 pub put_text-requires : goal.put_text-requires
 unfolding member_line member_pieces joined ascii line_feed
@@ -45,7 +41,6 @@ put_text-requires c =
     let four = next_put three c.put_labelled-end.ensures in
     next_room four
 
-
 pub returns : goal.returns
 unfolding member_line member_pieces joined ascii line_feed
 returns c =
@@ -54,4 +49,3 @@ returns c =
     let three = next_put two c.put_indexes-phase.ensures in
     let four = next_put three c.put_labelled-end.ensures in
     (next_put four c.put_text.ensures).put
-

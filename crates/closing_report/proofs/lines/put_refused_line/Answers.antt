@@ -11,13 +11,11 @@ unfolding refused_line refused_pieces joined ascii line_feed
 put_labelled-place-requires c =
     rw c.number_of.ensures (room _ _ (labelled (ascii "refused ") (number_of c.args.refusal.reason)) (refused_pieces c.args.refusal.place c.args.roll) c.requires)
 
-
 pub put_labelled-roll_at-requires : goal.put_labelled-roll_at-requires
 unfolding refused_line refused_pieces joined ascii line_feed
 put_labelled-roll_at-requires c =
     let one = begun (refused_pieces c.args.refusal.place c.args.roll) c.requires (rw c.number_of.ensures at c.put_labelled-place.ensures) in
     next_room one
-
 
 pub put_labelled-end-requires : goal.put_labelled-end-requires
 unfolding refused_line refused_pieces joined ascii line_feed
@@ -25,7 +23,6 @@ put_labelled-end-requires c =
     let one = begun (refused_pieces c.args.refusal.place c.args.roll) c.requires (rw c.number_of.ensures at c.put_labelled-place.ensures) in
     let two = next_put one c.put_labelled-roll_at.ensures in
     next_room two
-
 
 pub put_text-requires : goal.put_text-requires
 unfolding refused_line refused_pieces joined ascii line_feed
@@ -35,7 +32,6 @@ put_text-requires c =
     let three = next_put two c.put_labelled-end.ensures in
     next_room three
 
-
 pub returns : goal.returns
 unfolding refused_line refused_pieces joined ascii line_feed
 returns c =
@@ -43,4 +39,3 @@ returns c =
     let two = next_put one c.put_labelled-roll_at.ensures in
     let three = next_put two c.put_labelled-end.ensures in
     (next_put three c.put_text.ensures).put
-

@@ -8,4 +8,3 @@ use Rattle.closing_report.proofs.lines.refused_line_length.Goals as goal
 pub returns : goal.returns
 unfolding refused_line labelled ascii line_feed
 returns c = simp length-append (rw (← c.number_of.ensures) (omega arith, omega arith))
-

@@ -10,10 +10,8 @@ pub returns-in-NotFound : goal.returns-in-NotFound
 returns-in-NotFound c =
     rw (c.in-NotFound.is, c.store_other.ensures) (other_stored _ _ c.requires.0)
 
-
 pub returns-in-Found : goal.returns-in-Found
 unfolding set_in
 returns-in-Found c =
     let small = subst Storable (ap factoring_told c.in-Found.is) c.requires.1 in
     rw (c.in-Found.is, c.store_member.ensures) (member_stored _ _ c.requires.0 _ _ _ small)
-

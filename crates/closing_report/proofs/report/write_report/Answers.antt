@@ -19,12 +19,10 @@ pub group_of-g-requires : goal.group_of-g-requires
 unfolding most_qubits
 group_of-g-requires c = (c.requires.0, omega arith, c.requires.2)
 
-
 pub signs_of-signs-requires : goal.signs_of-signs-requires
 signs_of-signs-requires c =
     let group = c.group_of-g in
     omega (arith, group_total _ _ c.requires.0 group.ensures.group, group.auto.w, c.requires.2)
-
 
 pub factor_all-requires : goal.factor_all-requires
 factor_all-requires c =
@@ -39,13 +37,11 @@ factor_all-requires c =
       asked_of _ _ c.requires.0 group.ensures.group none signs.clash signs.step signs.stabilizer,
     )
 
-
 pub write_listing-requires : goal.write_listing-requires
 unfolding most_paulis
 write_listing-requires c =
     let few = accepted_few _ _ c.requires.1 in
     (omega (arith, few, c.factor_all.auto.w, c.group_of-g.auto.w, c.requires.2), omega (arith, few))
-
 
 pub returns : goal.returns
 unfolding asked_of

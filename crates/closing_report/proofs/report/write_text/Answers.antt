@@ -17,20 +17,17 @@ slice_bounds-check_roll-count c =
     let parts = parted _ _ told.rolls told.within _ c.in-At.is in
     parts.low
 
-
 pub slice_bounds-check_roll-start : goal.slice_bounds-check_roll-start
 slice_bounds-check_roll-start c =
     let told = c.split_input-split.ensures in
     let parts = parted _ _ told.rolls told.within _ c.in-At.is in
     parts.low
 
-
 pub slice_bounds-check_roll-end : goal.slice_bounds-check_roll-end
 slice_bounds-check_roll-end c =
     let told = c.split_input-split.ensures in
     let parts = parted _ _ told.rolls told.within _ c.in-At.is in
     parts.high
-
 
 pub returns-in-Refused : goal.returns-in-Refused
 returns-in-Refused c =
@@ -45,13 +42,11 @@ slice_bounds-check_roll-count-2 c =
     let parts = parted _ _ told.rolls told.within _ c.in-At.is in
     parts.high
 
-
 pub slice_bounds-check_roll-start-2 : goal.slice_bounds-check_roll-start-2
 slice_bounds-check_roll-start-2 c =
     let told = c.split_input-split.ensures in
     let parts = parted _ _ told.rolls told.within _ c.in-At.is in
     parts.high
-
 
 pub returns-in-Refused-second : goal.returns-in-Refused-second
 returns-in-Refused-second c =
@@ -67,13 +62,11 @@ slice_bounds-write_report-count c =
     let parts = parted _ _ told.rolls told.within _ c.in-At.is in
     parts.low
 
-
 pub slice_bounds-write_report-start : goal.slice_bounds-write_report-start
 slice_bounds-write_report-start c =
     let told = c.split_input-split.ensures in
     let parts = parted _ _ told.rolls told.within _ c.in-At.is in
     parts.low
-
 
 pub slice_bounds-write_report-end : goal.slice_bounds-write_report-end
 slice_bounds-write_report-end c =
@@ -81,13 +74,11 @@ slice_bounds-write_report-end c =
     let parts = parted _ _ told.rolls told.within _ c.in-At.is in
     parts.high
 
-
 pub slice_bounds-write_report-count-2 : goal.slice_bounds-write_report-count-2
 slice_bounds-write_report-count-2 c =
     let told = c.split_input-split.ensures in
     let parts = parted _ _ told.rolls told.within _ c.in-At.is in
     parts.high
-
 
 pub slice_bounds-write_report-start-2 : goal.slice_bounds-write_report-start-2
 slice_bounds-write_report-start-2 c =
@@ -95,13 +86,11 @@ slice_bounds-write_report-start-2 c =
     let parts = parted _ _ told.rolls told.within _ c.in-At.is in
     parts.high
 
-
 pub write_report-requires : goal.write_report-requires
 write_report-requires c =
     let generators = sym c.check_roll-first.ensures ∙ ap told_count c.in-Count.is in
     let elements = sym c.check_roll-second.ensures ∙ ap told_count c.in-Count-second.is in
     (generators, elements, c.requires)
-
 
 pub returns : goal.returns
 returns c =

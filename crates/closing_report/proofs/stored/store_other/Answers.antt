@@ -6,4 +6,3 @@ use Rattle.closing_report.proofs.stored.store_other.Goals as goal
 pub returns : goal.returns
 unfolding put_other
 returns c = refl
-

@@ -10,15 +10,12 @@ unfolding labelled joined
 put_text-next-requires c =
     room _ _ c.args.label.now (digits c.args.n ∷ []) c.requires
 
-
 pub put_number-requires : goal.put_number-requires
 unfolding labelled joined
 put_number-requires c =
     next_room (begun (digits c.args.n ∷ []) c.requires c.put_text-next.ensures)
 
-
 pub returns : goal.returns
 unfolding labelled joined
 returns c =
     (next_put (begun (digits c.args.n ∷ []) c.requires c.put_text-next.ensures) c.put_number.ensures).put
-
