@@ -4,7 +4,6 @@
 -- identity is written beside A, past column c, so that it takes the same swaps and additions.
 use Rattle.std.specs.Prelude.{Bool, true, false, List, [], ◌∷◌, map, ℕ, zero, suc, ◌+◌, ◌-◌, ◌*◌, ◌/◌, ◌%◌, ◌^◌, eqb, length, get_or, set, drop}
 use Rattle.binar.specs.Row.{◌⊕◌, bit, if_bit}
-use Rattle.binar.specs.declared.echelon.Cell.{Cell}
 use Rattle.binar.specs.declared.echelon.Found.{Found}
 use Rattle.binar.specs.declared.echelon.Found.TheVariants.{At, Nothing}
 

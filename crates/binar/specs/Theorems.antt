@@ -1,9 +1,9 @@
 -- What is proved of the echelon form, for every matrix A and every number c of columns. Each statement is a type; its
 -- proof, a term of it, is in proofs/.
 use Rattle.std.specs.Prelude.{◌≡◌, true, false, List, map, ℕ, ◌+◌, ◌*◌, ◌/◌, ◌%◌, ◌^◌, ◌≤◌, ◌<◌, length, get_or, take}
-use Rattle.std.proofs.Math.Option.{Option, some, none}
+use Rattle.std.proofs.Math.Option.{some, none}
 use Rattle.binar.specs.Row.{columns, row_sum, units}
-use Rattle.binar.specs.Echelon.{EchelonForm, echelon, R, T, rank}
+use Rattle.binar.specs.Echelon.{echelon, R, T, rank}
 use Rattle.binar.specs.Solve.{solved, transpose_solve}
 use Rattle.binar.specs.Words.{row_at, matrix}
 use Rattle.binar.specs.Layout.{form_stride, fits, FormIs, form_in, FormLeft, swept, SolutionIs}

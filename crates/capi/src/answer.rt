@@ -19,7 +19,7 @@ use pauli_group::answers::{
 
 // The refusal's number, or 0 for an answer; the refusal's place; and what the call answers, in up to three numbers.
 #[repr(C)]
-#[derive(Drop)]
+#[derive(Clone, Copy)]
 pub struct Answer {
     pub refusal: u64,
     pub place: u64,

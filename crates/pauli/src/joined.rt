@@ -13,7 +13,7 @@ use crate::roll::{Checked, MOST_PAULIS, check_roll};
 use crate::support::{MOST_QUBITS, gather};
 
 // How many Paulis each of two rolls has.
-#[derive(Drop)]
+#[derive(Clone, Copy)]
 pub struct RollCounts {
     pub left: usize,
     pub right: usize,

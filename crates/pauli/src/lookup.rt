@@ -11,7 +11,7 @@ use crate::refusal::{Reason, Refusal};
 use crate::roll::entry_at;
 
 // The exponent value of a generator of a joined list, and the counts of its sets.
-#[derive(Drop)]
+#[derive(Clone, Copy)]
 pub struct JoinedEntry {
     pub exponent: u8,
     pub xcount: usize,

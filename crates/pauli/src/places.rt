@@ -6,7 +6,7 @@ ghost use Rattle.pauli.specs.PlaceSet.{set_in, first_from as first_from_spec};
 use crate::support::Place;
 
 // A set of at most 128 places: place p is bit p % 64 of low, or of high from 64 on.
-#[derive(Drop)]
+#[derive(Clone, Copy)]
 pub struct Places {
     pub low: u64,
     pub high: u64,

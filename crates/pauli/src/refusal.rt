@@ -3,7 +3,7 @@ ghost use Rattle.std.specs.Prelude.{◌≡◌};
 ghost use Rattle.pauli.specs.Refusals.{number_of};
 
 // The reasons; the definition number_of gives document 01's number of each.
-#[derive(Drop)]
+#[derive(Clone, Copy)]
 pub enum Reason {
     // The roll is cut, or its length is not that of its table.
     Length,
@@ -32,7 +32,7 @@ pub enum Reason {
 }
 
 // A refusal's reason and its place: the Pauli's index in its own roll, or 0.
-#[derive(Drop)]
+#[derive(Clone, Copy)]
 pub struct Refusal {
     pub reason: Reason,
     pub place: usize,

@@ -18,7 +18,7 @@ pub const HIGHEST_QUBIT: u32 = 65535;
 pub const MOST_PAULIS: usize = 128;
 
 // What the table says of a Pauli.
-#[derive(Drop)]
+#[derive(Clone, Copy)]
 pub struct Entry {
     pub given: usize,
     pub exponent: u8,

@@ -9,7 +9,7 @@ use crate::places::Places;
 use crate::support::Place;
 
 // The exponent is eight bits and wraps; its value is its remainder by 4.
-#[derive(Drop)]
+#[derive(Clone, Copy)]
 pub struct Pauli {
     pub exponent: u8,
     pub x: Places,
@@ -17,7 +17,7 @@ pub struct Pauli {
 }
 
 // What a multiplication gives.
-#[derive(Drop)]
+#[derive(Clone, Copy)]
 pub struct Product {
     pub pauli: Pauli,
 }

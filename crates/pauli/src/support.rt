@@ -10,15 +10,15 @@ use crate::bytes::u32_at;
 pub const MOST_QUBITS: usize = 128;
 
 // A qubit's number.
-#[derive(Drop)]
+#[derive(Clone, Copy)]
 pub struct Qubit(pub u32);
 
 // A place in a support.
-#[derive(Drop)]
+#[derive(Clone, Copy)]
 pub struct Place(pub usize);
 
 // How many qubits are known, and the place past the one that was met last.
-#[derive(Drop)]
+#[derive(Clone, Copy)]
 pub(crate) struct Known {
     pub count: usize,
     pub next: Place,

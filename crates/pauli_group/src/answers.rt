@@ -2,7 +2,7 @@
 use pauli::refusal::Refusal;
 
 // The phases of a group.
-#[derive(Drop)]
+#[derive(Clone, Copy)]
 pub enum Phases {
     Zero,
     ZeroTwo,
@@ -35,7 +35,7 @@ pub enum SizeFound {
 }
 
 // How many generators the index set has, and the exponent left.
-#[derive(Drop)]
+#[derive(Clone, Copy)]
 pub struct Factors {
     pub count: usize,
     pub exponent: u8,
@@ -49,7 +49,7 @@ pub enum MemberFound {
 }
 
 // How two groups compare: the left one is the same, inside the right one or around it, or none of these.
-#[derive(Drop)]
+#[derive(Clone, Copy)]
 pub enum Order {
     Equal,
     Less,

@@ -15,7 +15,7 @@ use crate::moved::move_list;
 use pauli::support::MOST_QUBITS;
 
 // How many Paulis of each of two lists stand one after the other.
-#[derive(Drop)]
+#[derive(Clone, Copy)]
 pub(crate) struct Stacked {
     pub first: usize,
     pub second: usize,

@@ -24,7 +24,7 @@ use pauli::joined::{join_support, numbers_of};
 use pauli::support::{MOST_QUBITS, gather};
 
 // The places of the support, the rank, and the number of standard generators.
-#[derive(Drop)]
+#[derive(Clone, Copy)]
 pub struct Group {
     pub places: usize,
     pub rank: usize,
@@ -32,7 +32,7 @@ pub struct Group {
 }
 
 // What the calls tell of a group: its rank, the step between its phases, and 1 or 0 for not abelian and for a stabilizer group.
-#[derive(Drop)]
+#[derive(Clone, Copy)]
 pub(crate) struct Description {
     pub rank: usize,
     pub step: u64,

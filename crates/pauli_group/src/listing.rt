@@ -64,7 +64,7 @@ fn binomial(n: usize, k: usize) -> u64
 }
 
 // A subset of which the numbers below some p are chosen: those, how many of the others, and its number among the choices left.
-#[derive(Drop)]
+#[derive(Clone, Copy)]
 struct Choice {
     bits: u64,
     size: usize,

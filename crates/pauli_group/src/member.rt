@@ -40,7 +40,7 @@ pub(crate) enum Solved {
 }
 
 // The index set of an element, and the exponent left.
-#[derive(Drop)]
+#[derive(Clone, Copy)]
 pub struct IndexSet {
     pub set: Places,
     pub exponent: u8,

@@ -22,7 +22,7 @@ use binar::row::clear_bits;
 use pauli::joined::CountsFound;
 
 // How many phases a group has, and its rank.
-#[derive(Drop)]
+#[derive(Clone, Copy)]
 pub(crate) struct GroupRanks {
     pub phases: u64,
     pub rank: usize,

@@ -1,5 +1,5 @@
 // What the caller promises of a list.
-#[derive(Drop)]
+#[derive(Clone, Copy)]
 pub enum Promise {
     None,
     Abelian,

@@ -10,7 +10,7 @@ use binar::row::clear_bits;
 use pauli::signed::{Pauli, load};
 
 // A word times a power of two, in two words.
-#[derive(Drop)]
+#[derive(Clone, Copy)]
 pub(crate) struct TwoWords {
     pub low: u64,
     pub high: u64,

@@ -14,7 +14,7 @@ use crate::scan::{
 };
 
 // What the standard generators tell: the phases, as the step between them, and 1 or 0 for not abelian and for a stabilizer group.
-#[derive(Drop)]
+#[derive(Clone, Copy)]
 pub struct Signs {
     pub step: u64,
     pub clash: u64,

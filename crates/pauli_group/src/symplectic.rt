@@ -26,7 +26,7 @@ use pauli::write::{Wrote, write_roll};
 
 // How many Paulis are left in the list, how many conjugate elements stand at the standard generators' place, and how many
 // commuting ones at the further list's.
-#[derive(Drop)]
+#[derive(Clone, Copy)]
 pub(crate) struct Pairing {
     pub left: usize,
     pub conjugate: usize,

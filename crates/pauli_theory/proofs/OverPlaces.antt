@@ -60,6 +60,7 @@ count_rises k (suc n) = (omega arith, count_rises (suc k) n)
 
 count_lt : (k n : ℕ) {q : ℕ} → Mem q (count_from k n) → q < k + n
 unfolding count_from
+count_lt k zero {q = q} m = elim m [ ]
 count_lt k (suc n) (here e) = omega arith
 count_lt k (suc n) (there m) = let l : _ < suc k + n = count_lt (suc k) n m in omega arith
 

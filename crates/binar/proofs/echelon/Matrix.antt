@@ -1,15 +1,15 @@
 -- Laws of a matrix in a slice: rows read and written by their number.
 use mathlib.Core.Path.{◌≡◌, refl, sym, ap, ap₂, ◌∙◌, subst}
-use mathlib.Core.Logic.{◌⊎◌, inl, inr, ⊎_elim}
+use mathlib.Core.Logic.{◌⊎◌, inl, inr}
 use mathlib.Core.List.{List, [], ◌∷◌, ◌++◌, append_assoc}
-use Prim.Native.Nat.{ℕ, zero, suc, ◌+◌, ◌-◌, ◌*◌, ◌/◌, ◌%◌, ◌^◌, ◌≤◌, ◌<◌}
-use native.Mathlib.Nat.{add-zero, zero-add, add_assoc, add_comm, zero-mul, suc-mul, mul-le-mul_right}
+use Prim.Native.Nat.{ℕ, zero, suc, ◌+◌, ◌-◌, ◌*◌, ◌/◌, ◌^◌, ◌≤◌, ◌<◌}
+use native.Mathlib.Nat.{zero-add, add_assoc, add_comm, zero-mul, suc-mul, mul-le-mul_right}
 use native.Mathlib.Omega.{arith}
 use native.Mathlib.Decide.{dec_lt}
 use lib.Arith.{digits_lt}
 use lib.ListN.{length, get_or, set, take, drop, length-append, length-drop, take-append-drop, get_or-eq_default}
 use lib.Pow.{high, low, split, shr_lt, pow_pos, pow-add}
-use lib.Seq.{take_at, drop_at, drop-append-add, take-append-le, length-take-le, take-append-add, drop-drop, get_or-drop}
+use lib.Seq.{take_at, drop_at, drop-append-add, length-take-le, take-append-add, drop-drop, get_or-drop}
 use Rattle.binar.specs.Row.{bit}
 use Rattle.binar.specs.Words.{value, words, row_at, put_row, matrix, image, TwoRows}
 use Rattle.binar.proofs.row.Slice.{AreWords, length_words}

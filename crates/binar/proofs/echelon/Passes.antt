@@ -1,14 +1,13 @@
 -- Laws of the reduction as the code makes it: what is still to be done to a slice in which the first r pivots are placed.
-use mathlib.Core.Path.{◌≡◌, refl, sym, ap, ap₂, ◌∙◌, subst}
+use mathlib.Core.Path.{◌≡◌, sym, ap, ap₂, ◌∙◌}
 use mathlib.Core.List.{List, [], ◌∷◌, ◌++◌}
-use Prim.Native.Nat.{ℕ, zero, suc, ◌+◌, ◌-◌, ◌*◌, ◌^◌, ◌≤◌, ◌<◌}
+use Prim.Native.Nat.{ℕ, suc, ◌+◌, ◌-◌, ◌*◌, ◌^◌, ◌≤◌, ◌<◌}
 use native.Mathlib.Nat.{add-zero, add_comm, sub-zero, zero-mul, suc-mul, zero-add, add_assoc}
 use native.Mathlib.Numerals.{add-one}
 use native.Mathlib.Omega.{arith}
 use lib.ListN.{length, get_or, set, take, drop, length-set, take-append-drop, length-drop}
 use lib.Seq.{take-suc-set, drop-set-lt, drop-drop, append_snoc, get_or-set_same}
 use Rattle.binar.specs.declared.echelon.Cell.{Cell}
-use Rattle.binar.specs.declared.echelon.Found.{Found}
 use Rattle.binar.specs.declared.echelon.Found.TheVariants.{At, Nothing}
 use Rattle.binar.specs.Words.{row_at, put_row, matrix, image, words}
 use Rattle.binar.specs.Echelon.{pivot_of, swap_rows, add_to_others, place_pivot, Reduction, with_pivot, on_found, echelonize_from, echelonize}

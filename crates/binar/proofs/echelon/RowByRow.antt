@@ -1,7 +1,7 @@
 -- A matrix in a slice that is rewritten row by row: the first i rows are those of D, the others still those of M.
 use mathlib.Core.Path.{◌≡◌, refl, sym, ap, ap₂, ◌∙◌, subst}
-use mathlib.Core.List.{List, [], ◌∷◌, ◌++◌, append-nil}
-use Prim.Native.Nat.{ℕ, zero, suc, ◌+◌, ◌-◌, ◌*◌, ◌^◌, ◌≤◌, ◌<◌}
+use mathlib.Core.List.{List, ◌++◌, append-nil}
+use Prim.Native.Nat.{ℕ, suc, ◌+◌, ◌-◌, ◌*◌, ◌≤◌, ◌<◌}
 use native.Mathlib.Numerals.{add-one}
 use native.Mathlib.Omega.{arith}
 use native.Mathlib.Decide.{dec_lt}
@@ -10,7 +10,7 @@ use lib.Seq.{drop-cons, take-suc, append_snoc, set_at, set-get_or, get_or_at, le
 use Rattle.binar.specs.Row.{bit}
 use Rattle.binar.specs.Words.{value, row_at, put_row, matrix, image}
 use Rattle.binar.proofs.row.Slice.{AreWords}
-use Rattle.binar.proofs.echelon.Matrix.{length_matrix, matrix_row, matrix_lt, image_matrix, row_image, put_image, row_in, bit_row, words_image, words_drop}
+use Rattle.binar.proofs.echelon.Matrix.{length_matrix, matrix_lt, image_matrix, row_image, put_image, row_in, bit_row, words_image, words_drop}
 
 -- ---- lists
 

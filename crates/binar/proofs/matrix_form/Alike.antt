@@ -1,11 +1,10 @@
 -- Rows, matrices and forms of slices that agree on their words.
 use mathlib.Core.Path.{◌≡◌, refl, sym, ap, ap₂, ◌∙◌}
-use mathlib.Core.List.{List, [], ◌∷◌, map}
+use mathlib.Core.List.{List, ◌∷◌, map}
 use Prim.Native.Nat.{ℕ, zero, suc, ◌+◌, ◌-◌, ◌*◌, ◌/◌, ◌%◌, ◌^◌, ◌≤◌, ◌<◌}
 use native.Mathlib.Omega.{arith}
 use lib.ListN.{length, get_or, take, drop, length-drop}
 use lib.Seq.{ext_get_or, length-take-le, get_or-take, get_or-drop}
-use Rattle.binar.specs.Echelon.{Row, EchelonForm}
 use Rattle.binar.specs.Layout.{form_in, FormLeft}
 use Rattle.binar.specs.Words.{value, row_at, matrix}
 

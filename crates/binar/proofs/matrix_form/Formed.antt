@@ -1,5 +1,5 @@
 -- Laws of the echelon form of a matrix of any shape: what the test for its shape tells, and what is left in the slice.
-use mathlib.Core.Path.{◌≡◌, refl, sym, ap, ap₂, ◌∙◌, subst}
+use mathlib.Core.Path.{◌≡◌, refl, sym, ap, ◌∙◌, subst}
 use mathlib.Core.Bool.{Bool, true, false}
 use mathlib.Core.List.{List, [], ◌∷◌, ◌++◌}
 use Prim.Native.Nat.{ℕ, zero, suc, ◌+◌, ◌-◌, ◌*◌, ◌/◌, ◌%◌, ◌^◌, ◌≤◌, ◌<◌}
@@ -8,16 +8,14 @@ use native.Mathlib.Omega.{arith}
 use borrow.Author.Tests.{leb-true}
 use lib.Arith.{digits_lt}
 use lib.Dec.{leb}
-use lib.ListN.{length, get_or, drop}
+use lib.ListN.{length, drop}
 use lib.Pow.{pow_pos, pow-add, pow-lt}
 use lib.Seq.{drop-drop}
-use Rattle.binar.specs.declared.matrix_form.Formation.{Formation}
 use Rattle.binar.specs.declared.matrix_form.Formation.TheVariants.{Rank, Misfit}
 use Rattle.binar.specs.Words.{matrix, image}
-use Rattle.binar.specs.Echelon.{Reduction, echelonize, beside_identity}
+use Rattle.binar.specs.Echelon.{echelonize, beside_identity}
 use Rattle.binar.specs.Layout.{form_stride, both, fits, formed, FormIs}
 use Rattle.binar.specs.Laid.{laid_out}
-use Rattle.binar.proofs.row.Slice.{AreWords}
 use Rattle.binar.proofs.echelon.Matrix.{Below, length_matrix, matrix_image, drop_image}
 use Rattle.binar.proofs.Lists.{all_get_d, all_by}
 use Rattle.binar.proofs.echelon.Kept.{echelonize_length}

@@ -1,13 +1,13 @@
 -- Laws of the identity written beside a matrix.
-use mathlib.Core.Path.{◌≡◌, refl, sym, ap, ap₂, ◌∙◌}
-use mathlib.Core.Logic.{◌⊎◌, inl}
+use mathlib.Core.Path.{◌≡◌, sym, ap, ap₂, ◌∙◌}
+use mathlib.Core.Logic.{inl}
 use mathlib.Core.List.{List, [], ◌∷◌, ◌++◌}
 use Prim.Native.Nat.{ℕ, zero, suc, ◌+◌, ◌-◌, ◌*◌, ◌/◌, ◌%◌, ◌^◌, ◌≤◌, ◌<◌}
 use native.Mathlib.Nat.{add-zero, zero-add, add_assoc, add_comm, mul_comm, mul_assoc, mod-eq_of_lt, div-eq_of_lt}
 use native.Mathlib.Numerals.{add-one}
 use native.Mathlib.Omega.{arith}
 use lib.ListN.{length, get_or, set, take, drop, length-set, length-drop, take-append-drop}
-use lib.Pow.{high, low, pow_pos, pow-add, pow-lt, shr_lt, mod-pow-add}
+use lib.Pow.{high, low, pow-add, pow-lt, shr_lt, mod-pow-add}
 use lib.Seq.{length-take-le, drop-drop, set-set, take-take}
 use Rattle.binar.specs.Words.{value, words, row_at, put_row, matrix}
 use Rattle.binar.specs.Echelon.{beside_identity}

@@ -4,23 +4,21 @@ use mathlib.Core.Path.{◌≡◌, refl, sym, ap, ap₂, ◌∙◌}
 use mathlib.Core.Bool.{Bool, true, false}
 use mathlib.Core.List.{List, [], ◌∷◌, map, map-map}
 use Prim.Native.Nat.{ℕ, zero, suc, ◌+◌, ◌-◌, ◌*◌, ◌/◌, ◌%◌, ◌^◌, ◌≤◌, ◌<◌}
-use native.Mathlib.Nat.{mod-lt, mod-mod, mod-eq_of_lt, div-eq_of_lt, lt_of_lt_of_le, zero-add}
+use native.Mathlib.Nat.{mod-lt}
 use native.Mathlib.Omega.{arith}
 use lib.Dec.{eqb}
 use lib.ListN.{length, get_or, set, drop, length-map, get_or-map}
-use lib.Pow.{pow_pos, pow_mono, mod-mod-pow}
+use lib.Pow.{pow_pos, mod-mod-pow}
 use Rattle.binar.specs.Row.{◌⊕◌, bit, if_bit}
 use Rattle.binar.specs.Echelon.{in_column, by_columns, pivot_of, swap_rows, clear, unless, add_to_others, place_pivot, Reduction, with_pivot, on_found, echelonize_from, echelonize, beside_identity, echelon}
-use Rattle.binar.specs.Solve.{sweep, solved, transpose_solve}
+use Rattle.binar.specs.Solve.{sweep}
 use Rattle.binar.specs.declared.echelon.Found.{Found}
 use Rattle.binar.specs.declared.echelon.Found.TheVariants.{At}
 use Rattle.binar.proofs.row.Bits.{bit_mod, bit_beside, beside_mod, beside_shr, xor_mod, xor_shr, xor_beside}
 use Rattle.binar.proofs.Lists.{All, all_of, map_same, map_drop, map_set}
 use Rattle.binar.proofs.echelon.Span.{if_bit_map, Additive, additive_zero}
 use Rattle.binar.proofs.echelon.Steps.{Search, nowhere, found, pivot_is}
-use Rattle.binar.proofs.echelon.Transform.{parts, whole}
-use Rattle.binar.proofs.echelon.Solve.{left, solve_is}
-use Rattle.binar.proofs.echelon.Bounds.{pivots_lt}
+use Rattle.binar.proofs.echelon.Transform.{parts}
 
 unless_map : (f : ℕ → ℕ) (b : Bool) (v w : ℕ) → unless b (f v) (f w) ≡ f (unless b v w)
 unfolding unless

@@ -1,19 +1,18 @@
 -- The form in a slice, read back: what the functions leave is the echelon form, and a solution by it.
-use mathlib.Core.Path.{◌≡◌, refl, sym, ap, ap₂, ◌∙◌, subst}
-use mathlib.Core.Bool.{true, false}
-use mathlib.Core.List.{List, [], ◌∷◌, ◌++◌, map, map-map}
-use Prim.Native.Nat.{ℕ, zero, suc, ◌+◌, ◌-◌, ◌*◌, ◌/◌, ◌%◌, ◌^◌, ◌≤◌, ◌<◌}
+use mathlib.Core.Path.{◌≡◌, refl, sym, ap, ap₂, ◌∙◌}
+use mathlib.Core.Bool.{true}
+use mathlib.Core.List.{List, ◌++◌, map, map-map}
+use Prim.Native.Nat.{ℕ, ◌+◌, ◌*◌, ◌/◌, ◌%◌, ◌^◌, ◌<◌}
 use native.Mathlib.Nat.{div-eq_of_lt}
 use native.Mathlib.Omega.{arith}
-use lib.ListN.{length, get_or, take, drop, length-drop}
+use lib.ListN.{length, take, drop, length-drop}
 use lib.Seq.{take_at, length-take-le, get_or-take, get_or-drop}
 use Rattle.binar.specs.declared.matrix_form.Formation.{Formation}
-use Rattle.binar.specs.declared.matrix_form.Formation.TheVariants.{Rank, Misfit}
-use Rattle.binar.specs.Row.{bit}
+use Rattle.binar.specs.declared.matrix_form.Formation.TheVariants.{Rank}
 use Rattle.binar.specs.Words.{row_at, matrix, image}
-use Rattle.binar.specs.Echelon.{Reduction, echelonize, beside_identity, Row, EchelonForm, echelon, rank}
+use Rattle.binar.specs.Echelon.{Reduction, EchelonForm, echelon, rank}
 use Rattle.binar.specs.Solve.{sweep, solved, transpose_solve}
-use Rattle.binar.specs.Layout.{form_stride, fits, formed, FormIs, form_in, FormLeft, swept}
+use Rattle.binar.specs.Layout.{form_stride, fits, formed, FormIs, form_in, swept}
 use Rattle.binar.specs.Laid.{laid_out}
 use Rattle.binar.specs.Theorems.{FormLaw, SolutionLaw}
 use Rattle.binar.proofs.Lists.{All, all_by}

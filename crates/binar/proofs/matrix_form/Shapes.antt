@@ -1,13 +1,13 @@
 -- Laws of the test whether a matrix fits a slice.
-use mathlib.Core.Path.{◌≡◌, refl, sym, ap, ap₂, ◌∙◌}
-use mathlib.Core.Bool.{Bool, true, false}
-use Prim.Native.Nat.{ℕ, zero, suc, ◌+◌, ◌*◌, ◌/◌, ◌%◌, ◌≤◌, ◌<◌}
+use mathlib.Core.Path.{◌≡◌, sym, ap, ◌∙◌}
+use mathlib.Core.Bool.{true, false}
+use Prim.Native.Nat.{ℕ, suc, ◌+◌, ◌*◌, ◌/◌, ◌%◌, ◌≤◌, ◌<◌}
 use native.Mathlib.Nat.{le-div_iff_mul-le, zero-mul, suc-mul, mul_comm, mul-le-mul_right, one-mul, lt_of_not-le}
 use native.Mathlib.Decide.{dec_lt}
 use native.Mathlib.Omega.{arith}
 use borrow.Author.Tests.{le-leb, lt-leb, lt-ltb, le-ltb}
 use lib.Dec.{leb, ltb}
-use Rattle.binar.specs.Layout.{form_stride, both, fits}
+use Rattle.binar.specs.Layout.{form_stride, fits}
 
 module _ (width n cols m : ℕ) where
   pub fits_narrow : width < cols / 64 + (cols % 64 + 63) / 64 → fits width n cols m ≡ false

@@ -14,12 +14,12 @@ use Rattle.binar.specs.declared.matrix_form.Formation.TheVariants.{Rank}
 use Rattle.binar.specs.declared.matrix_form.Solution.{Solution}
 use Rattle.binar.specs.declared.matrix_form.Solution.TheVariants.{Set, NoSet}
 use Rattle.binar.specs.Row.{columns, row_sum}
-use Rattle.binar.specs.Words.{row_at, put_row, matrix}
+use Rattle.binar.specs.Words.{row_at, matrix}
 use Rattle.binar.specs.Echelon.{EchelonForm, echelon, rank}
 use Rattle.binar.specs.Solve.{solved, transpose_solve}
 use Rattle.binar.specs.Space.{RowSpace}
-use Rattle.binar.specs.Layout.{form_stride, fits, formed, FormIs, form_in, FormLeft, swept, solution, SolutionIs}
-use Rattle.binar.specs.Theorems.{Targeted, SetLaw, CallsLaw}
+use Rattle.binar.specs.Layout.{form_stride, fits, FormIs, form_in, FormLeft, swept, solution, SolutionIs}
+use Rattle.binar.specs.Theorems.{Targeted, CallsLaw}
 use Rattle.binar.proofs.Lists.{all_by}
 use Rattle.binar.proofs.echelon.Bounds.{rank_rows, sweep_lt}
 use Rattle.binar.proofs.echelon.Matrix.{Below, length_matrix}

@@ -9,7 +9,7 @@ use native.Mathlib.Omega.{arith}
 use native.Mathlib.Decide.{dec_lt}
 use lib.Bits.{bit_xor, xor_block, xor_lt}
 use lib.ListN.{length, get_or, set, take, drop, take-append-drop, length-set}
-use lib.Pow.{high, low, shr-shr}
+use lib.Pow.{high, low}
 use lib.Seq.{drop-cons, take-suc-set, take-set-le, drop-set-lt, drop-set-add, get_or-set_same, get_or-set_other, set_comm}
 use Rattle.binar.specs.Row.{◌⊕◌}
 use Rattle.binar.specs.Words.{value, words, row_at, put_row, TwoRows}

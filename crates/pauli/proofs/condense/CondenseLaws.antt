@@ -49,6 +49,7 @@ condense_zero (q ∷ qs) v least h z = omega (arith, z q h.0, condense_zero qs v
 -- a qubit that is in the list stands at its place
 pub lower_at : (least : ℕ) (qs : List ℕ) → Rising least qs → (q : ℕ) → Mem q qs → (lower q qs < length qs) × (condense qs (2 ^ q) ≡ 2 ^ lower q qs)
 unfolding condense
+lower_at least [] h q m = elim m [ ]
 lower_at least (r ∷ rs) h q (here e) =
     let stop = lower_stop q r rs (omega arith) in
     let rest = condense_zero rs (2 ^ q) (suc r) h.1 (λ k l. bit_unit_other q k (λ d. omega arith)) in

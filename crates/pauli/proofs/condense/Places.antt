@@ -25,10 +25,12 @@ unfolding place_of
 place_cases r rs q P same other = elim (ℕ_discrete r q) [ yes e ↦ rw (eq-eqb r q e) (same e) | no n ↦ rw (ne_eqb r q n) (other n) ]
 
 pub place_in : (qs : List ℕ) (q : ℕ) → Mem q qs → place_of qs q < length qs
+place_in [] q m = elim m [ ]
 place_in (r ∷ rs) q (here e) = place_cases r rs q (λ i. i < suc (length rs)) (λ _. omega arith) (λ n. absurd (n (sym e)))
 place_in (r ∷ rs) q (there m) = place_cases r rs q (λ i. i < suc (length rs)) (λ _. omega arith) (λ _. suc-le-suc (place_in rs q m))
 
 pub qubit_at_place : (qs : List ℕ) (q : ℕ) → Mem q qs → get_or qs (place_of qs q) 0 ≡ q
+qubit_at_place [] q m = elim m [ ]
 qubit_at_place (r ∷ rs) q (here e) = place_cases r rs q (λ i. get_or (r ∷ rs) i 0 ≡ q) (λ k. k) (λ n. absurd (n (sym e)))
 qubit_at_place (r ∷ rs) q (there m) = place_cases r rs q (λ i. get_or (r ∷ rs) i 0 ≡ q) (λ k. k) (λ _. qubit_at_place rs q m)
 

@@ -18,6 +18,7 @@ use Rattle.pauli.proofs.condense.MoreBits.{bit_or_lem, bit_unit, bit_unit_other}
 -- ---- the set of a list
 pub set_has : (qs : List ℕ) (q : ℕ) → Mem q qs → bit (set_of qs) q ≡ 1
 unfolding set_of
+set_has [] q m = elim m [ ]
 set_has (r ∷ qs) q (here e) = omega (arith, bit_or_lem (2 ^ r) (set_of qs) q, ap (bit (2 ^ r)) e ∙ bit_unit r, bit_lt (set_of qs) q)
 set_has (r ∷ qs) q (there m) = omega (arith, bit_or_lem (2 ^ r) (set_of qs) q, set_has qs q m, bit_lt (2 ^ r) q)
 

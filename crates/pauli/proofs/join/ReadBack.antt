@@ -76,6 +76,7 @@ module _ (qs : List ℕ) (limits : Qubits qs) where
 
   numbers_in : (ps : List Pauli) → All (PauliOn qs) ps → (q : ℕ) → Mem q (numbers (map sparse_of ps)) → Mem q qs
   unfolding numbers sparse_of
+  numbers_in [] on q m = elim m [ ]
   numbers_in (p ∷ ps) on q m =
       ⊎_elim (λ i. ⊎_elim (members_in p.x on.0.x q) (members_in p.z on.0.z q) (in-append (members p.x) i))
       (numbers_in ps on.1 q) (in-append (members p.x ++ members p.z) m)

@@ -40,7 +40,7 @@ unfolding numbers entries_of entry_of
 entries_fit n before [] l s h = tt
 entries_fit n before (p ∷ ps) l s h =
     let k : before + (length p.xs + length p.zs + length (numbers ps)) < 2 ^ 32 = rw (length-append, length-append) at h in
-    (omega arith, entries_fit n _ ps l s.1 (omega arith))
+    (omega arith, entries_fit n (before + length p.xs + length p.zs) ps l s.1 (omega arith))
 
 pub within_sized : (ps : List Sparse) → Within ps → All (Sized most_qubits) ps
 within_sized ps w = all_map (λ p s. omega arith) ps (sized ps w.allowed)

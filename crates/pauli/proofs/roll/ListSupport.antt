@@ -18,6 +18,7 @@ numbers_append (p ∷ ps) qs = rw (numbers_append ps qs) (simp append_assoc)
 -- a number is one of the Paulis' exactly when it is in a set of one of them
 pub sets_in_numbers : (p : Sparse) (ps : List Sparse) → Mem p ps → Inside (p.xs ++ p.zs) (numbers ps)
 unfolding numbers
+sets_in_numbers p [] m q i = elim m [ ]
 sets_in_numbers p (r ∷ ps) (here e) q i = Memᴰ.append_left (numbers ps) (rw e at i)
 sets_in_numbers p (r ∷ ps) (there m) q i = Memᴰ.append_right (r.xs ++ r.zs) (sets_in_numbers p ps m q i)
 

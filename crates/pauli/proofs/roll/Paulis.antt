@@ -42,22 +42,22 @@ entry_bytes_lem before p = simp append_assoc
 pub table_entries : (before : ℕ) (ps : List Sparse) → table before ps ≡ items_bytes ten_bytes (entries_of before ps)
 unfolding table entries_of items_bytes
 table_entries before [] = refl
-table_entries before (p ∷ ps) = ap₂ ◌++◌ (entry_bytes_lem before p) (table_entries _ ps)
+table_entries before (p ∷ ps) = ap₂ ◌++◌ (entry_bytes_lem before p) (table_entries (before + length p.xs + length p.zs) ps)
 
 pub length_entries_of : (before : ℕ) (ps : List Sparse) → length (entries_of before ps) ≡ length ps
 unfolding entries_of
 length_entries_of before [] = refl
-length_entries_of before (p ∷ ps) = ap suc (length_entries_of _ ps)
+length_entries_of before (p ∷ ps) = ap suc (length_entries_of (before + length p.xs + length p.zs) ps)
 
 pub entries_of_placed : (before : ℕ) (ps : List Sparse) → Placed before (entries_of before ps)
 unfolding entries_of entry_of
 entries_of_placed before [] = tt
-entries_of_placed before (p ∷ ps) = (refl, refl, entries_of_placed _ ps)
+entries_of_placed before (p ∷ ps) = (refl, refl, entries_of_placed (before + length p.xs + length p.zs) ps)
 
 pub entries_of_counted : (before : ℕ) (ps : List Sparse) → counted (entries_of before ps) ≡ length (numbers ps)
 unfolding entries_of entry_of counted numbers
 entries_of_counted before [] = refl
-entries_of_counted before (p ∷ ps) = rw (length-append, length-append, entries_of_counted _ ps) (omega arith)
+entries_of_counted before (p ∷ ps) = rw (length-append, length-append, entries_of_counted (before + length p.xs + length p.zs) ps) (omega arith)
 
 pub length_bodies : (ps : List Sparse) → length (bodies ps) ≡ 4 * length (numbers ps)
 unfolding bodies
@@ -79,7 +79,7 @@ pub all_bytes_table : (before : ℕ) (ps : List Sparse) → All (λ p. p.e < 256
 unfolding table entry_of
 all_bytes_table before [] h = tt
 all_bytes_table before (p ∷ ps) h =
-    all_bytes_append (entry before p) _ (rw entry_bytes_lem (all_bytes_ten_bytes (entry_of before p) (omega arith) h.0)) (all_bytes_table _ ps h.1)
+    all_bytes_append (entry before p) _ (rw entry_bytes_lem (all_bytes_ten_bytes (entry_of before p) (omega arith) h.0)) (all_bytes_table (before + length p.xs + length p.zs) ps h.1)
 
 -- ---- reading
 
@@ -91,7 +91,7 @@ module _ (b : List ℕ) where
   pub length_paulis : (j : ℕ) (es : List Entry) → length (paulis_at b j es) ≡ length es
   unfolding paulis_at
   length_paulis j [] = refl
-  length_paulis j (a ∷ more) = ap suc (length_paulis _ more)
+  length_paulis j (a ∷ more) = ap suc (length_paulis (j + 4 * (a.xcount + a.zcount)) more)
 
   pub entries_of_paulis : (before j : ℕ) (es : List Entry) → Placed before es → entries_of before (paulis_at b j es) ≡ es
   unfolding entries_of entry_of paulis_at
@@ -99,7 +99,7 @@ module _ (b : List ℕ) where
   entries_of_paulis before j (a ∷ more) h =
       simp length_numbers
       (ap₂ ◌∷◌ (λ k. record { given = sym h.0 k; exponent = a.exponent; start = sym h.1 k; xcount = a.xcount; zcount = a.zcount })
-      (entries_of_paulis _ _ more h.2))
+      (entries_of_paulis (before + a.xcount + a.zcount) (j + 4 * (a.xcount + a.zcount)) more h.2))
 
   pub paulis_read : (before j : ℕ) (ps : List Sparse) (rest : List ℕ) → All Allowed ps → drop j b ≡ bodies ps ++ rest
       → paulis_at b j (entries_of before ps) ≡ ps
@@ -114,7 +114,7 @@ module _ (b : List ℕ) where
       let at_more = rw past at (drop_past b (j + 4 * x) (le32s p.zs) _ at-z (length_le32s _)) in
       ap₂ ◌∷◌
       (λ k. record { e = p.e; xs = set_read p.xs j _ ok.0.x.low at_x k; zs = set_read p.zs (j + 4 * x) _ ok.0.z.low at-z k })
-      (paulis_read _ _ ps rest ok.1 at_more)
+      (paulis_read (before + length p.xs + length p.zs) (j + 4 * (x + z)) ps rest ok.1 at_more)
 
   pub paulis_written : AllBytes b → (j : ℕ) (es : List Entry) → j + 4 * counted es ≤ length b
       → bodies (paulis_at b j es) ++ drop (j + 4 * counted es) b ≡ drop j b
@@ -140,4 +140,4 @@ module _ (b : List ℕ) where
       λ k. record { e = a.exponent; xs = numbers_at b (x k) a.xcount; zs = numbers_at b (z k) a.zcount }
   get_or_paulis j before (a ∷ more) h (suc m) l d f =
       let next : j + 4 * before + 4 * (a.xcount + a.zcount) ≡ j + 4 * (before + a.xcount + a.zcount) = omega arith in
-      rw next (get_or_paulis j _ more h.2 m (omega arith) d f)
+      rw next (get_or_paulis j (before + a.xcount + a.zcount) more h.2 m (omega arith) d f)

@@ -133,7 +133,7 @@ entries_byte b low i (suc n) = (byte_at b (i + 1) low, entries_byte b low (i + 1
 paulis_byte : (b : List ℕ) (j : ℕ) (es : List Entry) → All (λ a. a.exponent < 256) es → All (λ p. p.e < 256) (paulis_at b j es)
 unfolding paulis_at
 paulis_byte b j [] h = tt
-paulis_byte b j (a ∷ more) h = (h.0, paulis_byte b _ more h.1)
+paulis_byte b j (a ∷ more) h = (h.0, paulis_byte b (j + 4 * (a.xcount + a.zcount)) more h.1)
 
 module _ (b : List ℕ) (low : AllBytes b) (n : ℕ) (es : List Entry) (ps : List Sparse) (p : Parts b n es ps) where
   within : Within ps

@@ -12,6 +12,7 @@ module _ {A : Type 0} (P : A → Type 0) where
   all_in (x ∷ l) h = (h x (here refl), all_in l (λ y m. h y (there m)))
 
   pub all_mem : (l : List A) → All P l → (x : A) → Mem x l → P x
+  all_mem [] h x m = elim m [ ]
   all_mem (y ∷ l) h x (here e) = rw e h.0
   all_mem (y ∷ l) h x (there m) = all_mem l h.1 x m
 

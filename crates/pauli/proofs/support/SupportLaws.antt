@@ -18,6 +18,7 @@ by_order q r below same above = elim (dec_lt q r) [ yes h ↦ below h | no h ↦
 -- ---- rising lists
 
 pub rising_least : (least : ℕ) (l : List ℕ) → Rising least l → {q : ℕ} → Mem q l → least ≤ q
+rising_least least [] h {q = q} m = elim m [ ]
 rising_least least (r ∷ rs) h (here e) = omega arith
 rising_least least (r ∷ rs) h (there m) = let k : suc r ≤ _ = rising_least (suc r) rs h.1 m in omega arith
 

@@ -1,0 +1,36 @@
+use Prim.Native.Nat.{◌+◌}
+use Rattle.binar.proofs.row.Scan.{weight_start, weight_step, weight_none}
+use lib.Count.{ones-le}
+use mathlib.Core.Path.{sym, ◌∙◌}
+use native.Mathlib.Omega.{arith}
+use Rattle.binar.proofs.row.weight.Goals as goal
+
+pub loop-k-init : goal.loop-k-init
+loop-k-init c = (omega arith, omega arith, weight_start _ _ _)
+
+pub overflow_add-total : goal.overflow_add-total
+overflow_add-total c = omega arith
+
+pub offset_bounds-w-at : goal.offset_bounds-w-at
+offset_bounds-w-at c = omega arith
+
+pub bounds-w-at : goal.bounds-w-at
+bounds-w-at c = omega arith
+
+pub overflow_cast-total : goal.overflow_cast-total
+overflow_cast-total c = omega (arith, ones-le 64 _ (c.shared_slice_known-1.given (c.args.at + c.loop-k.k)).fits)
+
+pub overflow_add-total-in-loop-k : goal.overflow_add-total-in-loop-k
+overflow_add-total-in-loop-k c = omega (arith, ones-le 64 _ (c.shared_slice_known-1.given (c.args.at + c.loop-k.k)).fits)
+
+pub overflow_add-k : goal.overflow_add-k
+overflow_add-k c = omega arith
+
+pub loop-k-smaller : goal.loop-k-smaller
+loop-k-smaller c = omega arith
+
+pub loop-k-preserved : goal.loop-k-preserved
+loop-k-preserved c = (omega arith, omega (arith, ones-le 64 _ (c.shared_slice_known-1.given (c.args.at + c.loop-k.k)).fits), c.loop-k.invariant.2 ∙ weight_step _ _ _ _ _ c.loop-k-test.true (omega arith) (λ q. (c.shared_slice_known-1.given q).fits))
+
+pub returns : goal.returns
+returns c = sym (c.loop-k.invariant.2 ∙ weight_none _ _ _ _ _ (omega arith))
