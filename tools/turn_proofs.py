@@ -16,7 +16,7 @@ WORD = r"[^\s(){}\[\];,.\"λ⌜⌝]+"
 
 
 def norm(label):
-    return label.replace("_", "-")
+    return label.replace("_", "-").lower()
 
 
 def split_declarations(text):
@@ -102,6 +102,8 @@ class Turn:
         if not parts:
             return None
         step = parts[0]
+        if step == "args" and len(parts) > 1:
+            parts = [step, parts[1].replace("-", "_")] + parts[2:]
         if step in ("args", "requires", "ranges", "pre", "lifetimes", "well_formed", "type_inv"):
             return ["c"] + parts
         at = [j for j, (i, p) in enumerate(chain) if norm(p[2][0]) == norm(step) and p[2][0]]
@@ -124,22 +126,32 @@ class Turn:
                         best = (new, path)
                 if best:
                     return ["c", arm[0], best[0]] + parts[1 + len(best[1]):]
-        rest = parts[1:]
-        callee = p[3]
-        new = p[2][1]
+        return ["c", p[2][1]] + self.tail(p[3], parts[1:])
+
+    def tail(self, callee, rest):
+        """What stands behind a call's step: its parameters by number, and its clauses by number, by name."""
+        if callee and re.search(r"::wrapping_(add|sub)_u8$", callee) and rest == ["ensures"]:
+            return ["ensures", "value"]
         if rest and rest[0] in ("auto", "new") and len(rest) > 1 and rest[1].isdigit():
-            lent = self.f.of(self.f.lent, callee)
-            n = int(rest[1])
-            if lent and n < len(lent):
-                rest = [rest[0], lent[n]] + rest[2:]
-            else:
-                self.say(f"{step}.{rest[0]}.{rest[1]}: no parameter")
+            params = self.info["params"].get(callee) or []
+            k = 1
+            while k < len(rest) and rest[k] == "1":
+                k += 1
+            n = k - 1
+            more = rest[k:]
+            if more and more[0] == "0":
+                more = more[1:]
+            if n < len(params):
+                return [rest[0], params[n]] + more
+            self.say(f"{callee} {'.'.join(rest)}: no parameter")
         if rest and rest[0] == "ensures":
-            rest = ["ensures"] + self.clauses(self.f.of(self.f.ensures, callee), rest[1:])
-        return ["c", new] + rest
+            return ["ensures"] + self.clauses(self.f.of(self.f.ensures, callee), rest[1:])
+        return rest
 
     def clauses(self, names, rest):
         """Clause by number, each behind the one before, to clause by name."""
+        if names and len(names) == 1 and names[0]:
+            return [names[0]] + rest
         if not names or len(names) < 2:
             return rest
         n = 0
@@ -157,12 +169,14 @@ class Turn:
     def body(self, text, var, place):
         """An answer's text with the new paths."""
         alias = {var: (place, 0)}
-        told = {}
+        told, steps = {}, {}
 
         def resolve(m):
             whole = m.group(0)
             parts = whole.split(".")
             v = parts[0]
+            if v in steps:
+                return ".".join([v] + self.tail(steps[v], parts[1:]))
             if v in told:
                 return ".".join([v] + self.clauses(told[v], parts[1:]))
             if v not in alias:
@@ -181,6 +195,18 @@ class Turn:
             at, up = alias[m.group(2)]
             alias[m.group(1)] = (at, up + m.group(3).count(".before"))
             rest = rest[:m.start()] + rest[m.end():]
+        # lets of a call's step
+        for m in re.finditer(r"let (" + WORD + r") = (" + WORD + r"(?:\." + WORD + r")*) in", rest):
+            parts = m.group(2).split(".")
+            if parts[0] in alias:
+                q = [x for x in parts[1:] if x != "before"]
+                if len(q) == 1 and q[0] not in ("args", "requires", "ranges"):
+                    at, up = alias[parts[0]]
+                    k = up + len(parts) - 2
+                    chain = self.chain(at)
+                    hits = [j for j, (i, p) in enumerate(chain) if norm(p[2][0]) == norm(q[0]) and p[2][0]]
+                    if hits:
+                        steps[m.group(1)] = chain[min(hits, key=lambda j: (j != k, abs(j - k), j))][1][3]
         # lets of a call's clauses
         for m in re.finditer(r"let (" + WORD + r") = (" + WORD + r"(?:\." + WORD + r")*\.ensures) in", rest):
             parts = m.group(2).split(".")
@@ -220,7 +246,9 @@ class Turn:
             return m.group(0)
         rest = re.sub(WORD + r"(?:\." + WORD + r")+", resolve, rest)
         # a test of a negation says of what was negated what it is
-        return re.sub(r"\bnot-(true|false) _ (c\.if-" + WORD + r"\.\1)", r"\2", rest)
+        what = r"\bnot-(true|false) (?:_|" + WORD + r"(?:\." + WORD + r")*) "
+        rest = re.sub(what + r"\((c\.if-" + WORD + r"\.\1)\)", r"\2", rest)
+        return re.sub(what + r"(c\.if-" + WORD + r"\.\1)", r"\2", rest)
 
 
 def tuple_parts(text):
@@ -240,14 +268,15 @@ def tuple_parts(text):
             parts.append(text[at:i])
             at = i + 1
     parts.append(text[at:-1])
-    return [p.strip() for p in parts] if len(parts) > 1 else None
+    parts = [p.strip() for p in parts if p.strip()]
+    return parts if len(parts) > 1 else None
 
 
 def as_record(body, names):
     """A body that ends in a tuple, as a record with these fields; None where it does not."""
     # the last `in` at the top
     depth, cut = 0, 0
-    for m in re.finditer(r"[()\[\]{}]|\bin\b", body):
+    for m in re.finditer(r"[()\[\]{}]|(?<!\S)in(?!\S)", body):
         ch = m.group(0)
         if ch in "([{":
             depth += 1
@@ -257,7 +286,10 @@ def as_record(body, names):
             cut = m.end()
     parts = tuple_parts(body[cut:])
     if not parts:
-        return None
+        if "elim" in body[cut:]:
+            return None
+        fields = [".1" * i + (".0" if i < len(names) - 1 else "") for i in range(len(names))]
+        return body[:cut] + " let all = " + body[cut:].strip() + " in record { " + "; ".join(f"{n} = all{f}" for n, f in zip(names, fields)) + " }"
     while len(parts) < len(names):
         more = tuple_parts(parts[-1])
         if not more:

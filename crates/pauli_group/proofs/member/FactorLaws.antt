@@ -75,6 +75,7 @@ module _ (qs : List ℕ) (n : ℕ) (ns : List ℕ) where
   covered_more m = rw (lt-ltb (place_of qs n) (length qs) (place_in qs n m))
 
 covered_true : (qs ns : List ℕ) → covered qs ns ≡ true → (q : ℕ) → Mem q ns → Mem q qs
+covered_true qs [] e q m = elim m [ ]
 covered_true qs (n ∷ ns) e q (here k) = rw k (covered_first qs n ns e).0
 covered_true qs (n ∷ ns) e q (there k) = covered_true qs ns (covered_first qs n ns e).1 q k
 

@@ -35,6 +35,7 @@ rising_at least (r ∷ rs) h (suc i) (suc k) lt u = rising_at (suc r) rs h.1 i k
 
 lower_place : (least : ℕ) (qs : List ℕ) → Rising least qs → (q : ℕ) → Mem q qs → lower q qs ≡ place_of qs q
 unfolding place_of
+lower_place least [] h q m = elim m [ ]
 lower_place least (r ∷ rs) h q (here e) = lower_stop q r rs (omega arith) ∙ sym (rw (eq-eqb r q (sym e)))
 lower_place least (r ∷ rs) h q (there m) =
     let past : suc r ≤ q = rising_least (suc r) rs h.1 m in

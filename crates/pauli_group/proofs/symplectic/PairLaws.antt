@@ -251,13 +251,13 @@ pub list_set : (l : List ℕ) (base n k : ℕ) (p : Held) → k < n → base + 5
 unfolding list_in
 list_set l base zero k p h r = absurd (omega arith)
 list_set l base (suc n) zero p h r =
-    let e : base + 5 * 0 ≡ base = omega arith in
-    rw e
+    let e : base ≡ base + 5 * 0 = omega arith in
+    subst (λ (i : ℕ). list_in (sets l i (pauli_words p)) base (suc n) ≡ set (list_in l base (suc n)) 0 (normal (held p))) e
     (ap₂ (λ (q : Pauli) (qs : List Pauli). q ∷ qs) (store_pauli l base p (omega arith))
     (list_kept_after (store_outside l base p) (base + 5) n (omega arith)))
 list_set l base (suc n) (suc k) p h r =
-    let e : base + 5 * suc k ≡ base + 5 + 5 * k = omega arith in
-    rw e
+    let e : base + 5 + 5 * k ≡ base + 5 * suc k = omega arith in
+    subst (λ (i : ℕ). list_in (sets l i (pauli_words p)) base (suc n) ≡ set (list_in l base (suc n)) (suc k) (normal (held p))) e
     (ap₂ (λ (q : Pauli) (qs : List Pauli). q ∷ qs) (pauli_kept (store_outside l (base + 5 + 5 * k) p) base (omega arith))
     (list_set l (base + 5) n k p (omega arith) (omega arith)))
 

@@ -1,0 +1,15 @@
+-- Invariant: the numbers from number k on are left to place.
+use Rattle.std.proofs.Common.{◌+◌, ◌-◌, ◌*◌, ◌≤◌, take}
+use Rattle.pauli.proofs.condense.CondenseLaws.{Placing}
+use Rattle.pauli.specs.Bytes.{numbers_at}
+use Rattle.pauli.specs.Sets.{set_of, condense}
+use Rattle.pauli.specs.PlaceSet.{set_in}
+use Rattle.pauli.proofs.condense.places_of.Given as goal
+
+abbrev pub invariant-loop-k : goal.invariant-loop-k
+invariant-loop-k l = (l.k ≤ l.total) × Placing (numbers_at l.b (l.at + 4 * l.k) (l.total - l.k)) (take l.count l.support) (condense (take l.count l.support) (set_of (numbers_at l.b l.at l.total))) (set_in l.set) l.from.0
+
+
+abbrev pub decreases-loop-k : goal.decreases-loop-k
+decreases-loop-k l = l.total - l.k
+

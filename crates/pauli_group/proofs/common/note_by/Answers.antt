@@ -1,0 +1,41 @@
+use Rattle.std.proofs.Common.{◌∙◌, arith}
+use Rattle.pauli.specs.Support.{most_qubits}
+use Rattle.pauli_group.proofs.member.FactorLaws.{places_known}
+use Rattle.pauli_group.proofs.group.GroupLaws.{described}
+use Rattle.pauli_group.proofs.group.GroupedLaws.{group_total}
+use Rattle.pauli_group.proofs.common.SharedLaws.{group_solving, group_further, group_movable, group_noted}
+use Rattle.pauli_group.proofs.common.note_by.Goals as goal
+
+pub group_of-group-requires : goal.group_of-group-requires
+unfolding most_qubits
+group_of-group-requires c = (c.requires.0, omega arith, c.requires.1)
+
+
+pub signs_of-signs-requires : goal.signs_of-signs-requires
+signs_of-signs-requires c = omega (arith, group_total _ _ c.requires.0 c.group_of-group.ensures.group, c.group_of-group.ensures.rest.size, c.requires.1)
+
+
+pub note_exponents-requires : goal.note_exponents-requires
+note_exponents-requires c =
+    let g = c.group_of-group.ensures in
+    let size = g.rest.size ∙ c.requires.1 in (
+      size,
+      c.requires.2,
+      group_solving _ _ c.requires.0 g.group size,
+      places_known g.group,
+      c.requires.3,
+      c.requires.4,
+      group_further _ _ c.requires.0 g.group size g.rest c.args.joint.now _ _ c.requires.5,
+      group_movable _ _ c.requires.0 g.group size g.rest _ _ c.requires.6,
+    )
+
+
+pub shape_of-w : goal.shape_of-w
+shape_of-w c = c.note_exponents.auto.w ∙ c.group_of-group.ensures.rest.size
+
+
+pub returns : goal.returns
+returns c =
+    let g = c.group_of-group.ensures in
+    let size = g.rest.size ∙ c.requires.1 in
+    let signs = c.signs_of-signs.ensures in record { step = (described g.group _ _ _ _ signs.clash signs.step signs.stabilizer).step_is; list = group_noted _ _ c.requires.0 g.group size g.rest _ _ _ c.note_exponents.ensures }

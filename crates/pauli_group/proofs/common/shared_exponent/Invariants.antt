@@ -1,0 +1,12 @@
+-- Invariant: the answer is that from exponent e on.
+use Rattle.std.proofs.Common.{◌-◌, ◌≤◌}
+use Rattle.pauli_group.proofs.common.SharedLaws.{SharedFrom}
+use Rattle.pauli_group.proofs.common.shared_exponent.Given as goal
+
+abbrev pub invariant-loop-e : goal.invariant-loop-e
+invariant-loop-e l = (l.e ≤ 4) × SharedFrom l.a l.b l.u l.v l.e
+
+
+abbrev pub decreases-loop-e : goal.decreases-loop-e
+decreases-loop-e l = 4 - l.e
+

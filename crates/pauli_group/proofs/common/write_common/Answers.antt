@@ -1,0 +1,19 @@
+use Rattle.std.proofs.Common.{ℕ, List, ap, ◌∙◌}
+use Rattle.pauli.specs.Writing.{told_bytes, left_in}
+use Rattle.pauli.specs.Told.{answer}
+use Rattle.pauli_group.proofs.group.GroupedLaws.{cleared_whole}
+use Rattle.pauli_group.proofs.common.PartLaws.{lesser_bytes}
+use Rattle.pauli_group.proofs.common.write_common.Goals as goal
+
+pub order_of-order-requires : goal.order_of-order-requires
+order_of-order-requires c = (c.requires.0, c.requires.1)
+
+
+pub write_lesser-wrote-requires : goal.write_lesser-wrote-requires
+write_lesser-wrote-requires c = (c.requires.0, c.order_of-order.auto.w ∙ c.requires.1)
+
+
+pub returns : goal.returns
+returns c =
+    let wrote = c.write_lesser-wrote.ensures in
+    let roll = lesser_bytes _ _ _ _ _ c.order_of-order.ensures in record { told = wrote.told ∙ ap (λ (bs : List ℕ). told_bytes (answer bs) c.args.out.now) roll; left = wrote.left ∙ ap (λ (bs : List ℕ). left_in (answer bs) c.args.out.now) roll; area = c.clear_bits.ensures ∙ cleared_whole _ _ (c.write_lesser-wrote.auto.w ∙ c.order_of-order.auto.w ∙ c.requires.1) c.requires.1 }

@@ -1,0 +1,54 @@
+-- The refusal of the checks is told on; else the page is written.
+use Rattle.std.proofs.Common.{ℕ, List, sym, ap, ◌∙◌, length-take-le}
+use Rattle.pauli.specs.Told.{Told}
+use Rattle.pauli.specs.Writing.{told_bytes, left_in}
+use Rattle.pauli_group.specs.Promises.{promise_of}
+use Rattle.pauli_group.proofs.checks.OneList.{list_given, list_none, area_cleared, area_kept}
+use Rattle.pauli_group.proofs.listing.PageLaws.{call_refused, call_answered}
+use Rattle.pauli_group.proofs.listing.elements.Goals as goal
+
+pub returns-in-Refused : goal.returns-in-Refused
+unfolding told_bytes left_in
+returns-in-Refused c =
+    let b = c.args.b.now in
+    let work = c.args.work.now in
+    let out = c.args.out.now in
+    let none = list_none _ _ c.check_list-checked.ensures _ c.in-Refused.is in
+    let same = sym (call_refused (promise_of c.args.promise) c.args.start c.args.count b _ _ _ none) in
+    record {
+      told = ap (λ (t : Told (List ℕ)). told_bytes t out) same;
+      left = ap (λ (t : Told (List ℕ)). left_in t out) same;
+      area = area_kept b work none;
+    }
+
+
+pub slice_bounds-write_page-end : goal.slice_bounds-write_page-end
+slice_bounds-write_page-end c = (list_given _ _ c.check_list-checked.ensures _ c.in-Count.is).room
+
+
+pub slice_bounds-write_page-end-2 : goal.slice_bounds-write_page-end-2
+slice_bounds-write_page-end-2 c =
+    let given = list_given _ _ c.check_list-checked.ensures _ c.in-Count.is in
+    sym (length-take-le 4096 c.args.work.now given.room)
+
+
+pub write_page-requires : goal.write_page-requires
+write_page-requires c =
+    let given = list_given _ _ c.check_list-checked.ensures _ c.in-Count.is in
+    (given.count, length-take-le 4096 c.args.work.now given.room)
+
+
+pub returns : goal.returns
+returns c =
+    let b = c.args.b.now in
+    let work = c.args.work.now in
+    let out = c.args.out.now in
+    let given = list_given _ _ c.check_list-checked.ensures _ c.in-Count.is in
+    let same = sym (call_answered (promise_of c.args.promise) c.args.start c.args.count b _ _ given.told) in
+    let written = c.write_page.ensures in
+    record {
+      told = written.told ∙ ap (λ (t : Told (List ℕ)). told_bytes t out) same;
+      left = written.left ∙ ap (λ (t : Told (List ℕ)). left_in t out) same;
+      area = area_cleared b work given _ written.area;
+    }
+

@@ -1,0 +1,12 @@
+-- Invariant: the first i elements are written.
+use Rattle.std.proofs.Common.{◌-◌, ◌≤◌}
+use Rattle.pauli_group.proofs.listing.PageLaws.{Listed}
+use Rattle.pauli_group.proofs.listing.put_elements.Given as goal
+
+abbrev pub invariant-loop-i : goal.invariant-loop-i
+invariant-loop-i l = (l.i ≤ l.n) × Listed l.initial.w l.rank l.step l.start l.n l.i l.w
+
+
+abbrev pub decreases-loop-i : goal.decreases-loop-i
+decreases-loop-i l = l.n - l.i
+

@@ -1,0 +1,62 @@
+use Rattle.std.proofs.Common.{sym, ap, ◌∙◌, arith}
+use Rattle.pauli.specs.Pauli.{I, normal}
+use Rattle.pauli.proofs.write.Writers.{length_list}
+use Rattle.pauli_group.proofs.list.ListLaws.{stored_none, stored_step, stored_all, list_at_lem, pauli_kept_after, outside_refl, store_further}
+use Rattle.pauli_group.proofs.modulo.RemainderLaws.{multiplied_value}
+use Rattle.pauli_group.proofs.modulo.multiply_at.Goals as goal
+
+pub loop-i-init : goal.loop-i-init
+loop-i-init c = (omega arith, stored_none _ _ _ _ _, outside_refl _ _ _)
+
+
+pub overflow_mul-i : goal.overflow_mul-i
+overflow_mul-i c = omega arith
+
+
+pub overflow_add-base : goal.overflow_add-base
+overflow_add-base c = omega arith
+
+
+pub load-p-requires : goal.load-p-requires
+load-p-requires c = omega (arith, c.loop-i.invariant.2.size, c.requires.0)
+
+
+pub overflow_mul-i-in-loop-i : goal.overflow_mul-i-in-loop-i
+overflow_mul-i-in-loop-i c = omega arith
+
+
+pub overflow_add-base-in-loop-i : goal.overflow_add-base-in-loop-i
+overflow_add-base-in-loop-i c = omega arith
+
+
+pub store-requires : goal.store-requires
+store-requires c = omega (arith, c.loop-i.invariant.2.size, c.requires.0)
+
+
+pub overflow_add-i : goal.overflow_add-i
+overflow_add-i c = omega arith
+
+
+pub loop-i-smaller : goal.loop-i-smaller
+loop-i-smaller c = omega arith
+
+
+pub loop-i-preserved : goal.loop-i-preserved
+loop-i-preserved c =
+    let l = c.loop-i in
+    let first = c.args.w.now in
+    let same = c.load-p.ensures ∙ ap normal (pauli_kept_after l.invariant.2 _ (omega arith) ∙ sym (list_at_lem first c.args.base c.args.n l.i I c.loop-i-test.true)) in (
+      omega arith,
+      stored_step _ _ _ _ _ _ _ l.invariant.1 (length_list first c.args.base c.args.n) I _ c.loop-i-test.true c.requires.0
+          (c.multiplied.ensures ∙ multiplied_value _ _ _ _ _ same) _ c.store.ensures,
+      store_further first l.w c.args.base l.i _ l.invariant.2 _ c.store.ensures,
+    )
+
+
+pub shape_of-w : goal.shape_of-w
+shape_of-w c = c.loop-i.invariant.2.size
+
+
+pub returns : goal.returns
+returns c =
+    let l = c.loop-i in record { list = stored_all _ _ _ _ _ _ _ l.invariant.1 (length_list c.args.w.now c.args.base c.args.n) l.invariant.0 c.loop-i-test.false; rest = l.invariant.1.rest }

@@ -1,0 +1,71 @@
+-- Fewer than 64 places take one word of x and two of z; the others, two of x and three of z.
+use Rattle.pauli_group.proofs.rows.RowLaws.{short_fits, short_row, long_fits, long_fits_2, long_row}
+use Rattle.std.proofs.Common.{arith, length-set}
+use Rattle.pauli_group.proofs.rows.put_row.Goals as goal
+
+pub overflow_add-w : goal.overflow_add-w
+overflow_add-w c =
+    record {
+      fits = short_fits c.args.w.now c.args.at c.args.p c.args.s c.requires.0 c.requires.2 c.requires.3
+          c.if-s-lt64.true c.shifted-a.result c.struct_known-then-s-lt64-1.given.0.fits
+          c.struct_known-then-s-lt64-1.given.1.0.fits c.shifted-a.ensures;
+    }
+
+
+pub bounds-w-at-then-s-lt64 : goal.bounds-w-at-then-s-lt64
+bounds-w-at-then-s-lt64 c = simp length-set (omega arith)
+
+
+pub bounds-w-at-then-s-lt64-2 : goal.bounds-w-at-then-s-lt64-2
+bounds-w-at-then-s-lt64-2 c = simp length-set (omega arith)
+
+
+pub bounds-w-at-then-s-lt64-3 : goal.bounds-w-at-then-s-lt64-3
+bounds-w-at-then-s-lt64-3 c = simp length-set (omega arith)
+
+
+pub returns-then-s-lt64 : goal.returns-then-s-lt64
+returns-then-s-lt64 c =
+    short_row c.args.w.now c.args.at c.args.p c.args.s c.requires.0 c.requires.2 c.requires.3
+    c.if-s-lt64.true c.shifted-a.result c.struct_known-then-s-lt64-1.given.0.fits
+    c.struct_known-then-s-lt64-1.given.1.0.fits c.shifted-a.ensures
+
+
+pub overflow_add-w-2 : goal.overflow_add-w-2
+overflow_add-w-2 c =
+    record {
+      fits = long_fits c.args.w.now c.args.at c.args.p c.args.s c.requires.0 c.requires.2 c.requires.3
+          c.if-s-lt64.false c.requires.1 c.shifted-a-2.result c.struct_known-3-1.given.0.fits
+          c.shifted-a-2.ensures;
+    }
+
+
+pub bounds-w-at-3 : goal.bounds-w-at-3
+bounds-w-at-3 c = simp length-set (omega arith)
+
+
+pub overflow_add-w-4 : goal.overflow_add-w-4
+overflow_add-w-4 c =
+    record {
+      fits = long_fits_2 c.args.w.now c.args.at c.args.p c.args.s c.requires.0 c.requires.2 c.requires.3
+          c.if-s-lt64.false c.requires.1 c.shifted-a-2.result
+          c.struct_known-4-1.given.0.fits c.shifted-a-2.ensures c.shifted-b.result c.struct_known-5-1.given.0.fits
+          c.shifted-b.ensures;
+    }
+
+
+pub bounds-w-at-4 : goal.bounds-w-at-4
+bounds-w-at-4 c = simp length-set (omega arith)
+
+
+pub bounds-w-at-5 : goal.bounds-w-at-5
+bounds-w-at-5 c = simp length-set (omega arith)
+
+
+pub returns : goal.returns
+returns c =
+    long_row c.args.w.now c.args.at c.args.p c.args.s c.requires.0 c.requires.2 c.requires.3
+    c.if-s-lt64.false c.requires.1 c.shifted-a-2.result
+    c.struct_known-4-1.given.0.fits c.shifted-a-2.ensures c.shifted-b.result c.struct_known-5-1.given.0.fits
+    c.shifted-b.ensures c.struct_known-2-1.given.0.fits c.struct_known-5-1.given.1.0.fits
+

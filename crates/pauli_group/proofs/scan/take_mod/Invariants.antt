@@ -1,0 +1,12 @@
+-- Invariant: the first i Paulis have their phases mod m, and the rest is as it was.
+use Rattle.std.proofs.Common.{◌-◌}
+use Rattle.pauli_group.proofs.scan.PhaseLaws.{Taken}
+use Rattle.pauli_group.proofs.scan.take_mod.Given as goal
+
+abbrev pub invariant-loop-i : goal.invariant-loop-i
+invariant-loop-i l = Taken l.initial.w l.base l.n l.m l.w l.i
+
+
+abbrev pub decreases-loop-i : goal.decreases-loop-i
+decreases-loop-i l = l.n - l.i
+

@@ -1,0 +1,60 @@
+use Rattle.std.proofs.Common.{sym, ap, ◌∙◌, arith}
+use Rattle.pauli.specs.Pauli.{normal, I}
+use Rattle.pauli.specs.Signed.{list_in}
+use Rattle.pauli_group.proofs.list.ListLaws.{stored_none, stored_step, stored_all, list_at_lem, pauli_kept_after}
+use Rattle.pauli.proofs.write.Writers.{length_list}
+use Rattle.pauli_group.proofs.symplectic.copy_list.Goals as goal
+
+pub loop-i-init : goal.loop-i-init
+loop-i-init c = (omega arith, stored_none normal _ _ _ _)
+
+
+pub overflow_mul-i : goal.overflow_mul-i
+overflow_mul-i c = omega arith
+
+
+pub overflow_add-to : goal.overflow_add-to
+overflow_add-to c = omega arith
+
+
+pub overflow_mul-i-in-loop-i : goal.overflow_mul-i-in-loop-i
+overflow_mul-i-in-loop-i c = omega arith
+
+
+pub overflow_add-from : goal.overflow_add-from
+overflow_add-from c = omega arith
+
+
+pub load-requires : goal.load-requires
+load-requires c = omega (arith, c.loop-i.invariant.1.rest.size)
+
+
+pub store-requires : goal.store-requires
+store-requires c = omega (arith, c.loop-i.invariant.1.rest.size)
+
+
+pub overflow_add-i : goal.overflow_add-i
+overflow_add-i c = omega arith
+
+
+pub loop-i-smaller : goal.loop-i-smaller
+loop-i-smaller c = omega arith
+
+
+pub loop-i-preserved : goal.loop-i-preserved
+loop-i-preserved c = let loop = c.loop-i in
+    let w = c.args.w.now in let from = c.args.from in let n = c.args.n in (
+      omega arith,
+      stored_step normal (list_in w from n) _ n w loop.i loop.w loop.invariant.1 (length_list w from n) I c.load.result c.loop-i-test.true (omega arith)
+          (c.load.ensures ∙ ap normal (pauli_kept_after loop.invariant.1.rest _ (omega arith) ∙ sym (list_at_lem w from n loop.i I c.loop-i-test.true)))
+          _ c.store.ensures,
+    )
+
+
+pub shape_of-w : goal.shape_of-w
+shape_of-w c = c.loop-i.invariant.1.rest.size
+
+
+pub returns : goal.returns
+returns c = let loop = c.loop-i in
+    let w = c.args.w.now in let from = c.args.from in let n = c.args.n in record { list = stored_all normal (list_in w from n) _ n w loop.i loop.w loop.invariant.1 (length_list w from n) loop.invariant.0 c.loop-i-test.false; rest = loop.invariant.1.rest }

@@ -1,0 +1,55 @@
+-- The refusal of the checks is told on; else the roll is written.
+use Rattle.std.proofs.Common.{ℕ, List, sym, refl, ap, ◌∙◌, length-take-le}
+use Rattle.pauli.specs.Told.{Told}
+use Rattle.pauli.specs.Writing.{told_bytes, left_in}
+use Rattle.pauli_group.specs.Calls.{symplectic_bytes, symplectic_call}
+use Rattle.pauli_group.proofs.checks.OneList.{list_given, list_none, answers, area_cleared, refuses, area_kept}
+use Rattle.pauli_group.proofs.symplectic.symplectic_form_of.Goals as goal
+
+pub returns-in-Refused : goal.returns-in-Refused
+unfolding symplectic_call told_bytes left_in
+returns-in-Refused c =
+    let b = c.args.b.now in
+    let work = c.args.work.now in
+    let out = c.args.out.now in
+    let none = list_none _ _ c.check_list-checked.ensures _ c.in-Refused.is in
+    let same = refuses b work none symplectic_bytes in
+    record {
+      told = ap (λ (t : Told (List ℕ)). told_bytes t out) same;
+      left = ap (λ (t : Told (List ℕ)). left_in t out) same;
+      area = area_kept b work none;
+    }
+
+
+pub slice_bounds-write_symplectic-end : goal.slice_bounds-write_symplectic-end
+slice_bounds-write_symplectic-end c = (list_given _ _ c.check_list-checked.ensures _ c.in-Count.is).room
+
+
+pub slice_bounds-write_symplectic-end-2 : goal.slice_bounds-write_symplectic-end-2
+slice_bounds-write_symplectic-end-2 c =
+    let given = list_given _ _ c.check_list-checked.ensures _ c.in-Count.is in
+    sym (length-take-le 4096 c.args.work.now given.room)
+
+
+pub write_symplectic-requires : goal.write_symplectic-requires
+write_symplectic-requires c =
+    let given = list_given _ _ c.check_list-checked.ensures _ c.in-Count.is in
+    (given.count, length-take-le 4096 c.args.work.now given.room)
+
+
+pub returns : goal.returns
+unfolding symplectic_call
+returns c =
+    let b = c.args.b.now in
+    let work = c.args.work.now in
+    let out = c.args.out.now in
+    let given = list_given _ _ c.check_list-checked.ensures _
+    c.in-Count.is in
+    let same = answers b work given symplectic_bytes _ refl in
+    let written = c.write_symplectic.ensures in
+    record {
+      told = written.told ∙ ap (λ (t : Told (List ℕ)). told_bytes t out) same;
+      left = written.left ∙ ap (λ (t : Told (List ℕ)). left_in t out) same;
+      area = area_cleared b work given _ written.area;
+    }
+
