@@ -246,7 +246,9 @@ class Turn:
             return m.group(0)
         rest = re.sub(WORD + r"(?:\." + WORD + r")+", resolve, rest)
         # a test of a negation says of what was negated what it is
-        return re.sub(r"\bnot-(true|false) (?:_|" + WORD + r"(?:\." + WORD + r")*) \(?(c\.if-" + WORD + r"\.\1)(?![^ ]*\w\))\)?", r"\2", rest)
+        what = r"\bnot-(true|false) (?:_|" + WORD + r"(?:\." + WORD + r")*) "
+        rest = re.sub(what + r"\((c\.if-" + WORD + r"\.\1)\)", r"\2", rest)
+        return re.sub(what + r"(c\.if-" + WORD + r"\.\1)", r"\2", rest)
 
 
 def tuple_parts(text):

@@ -1,6 +1,7 @@
 use Rattle.std.proofs.Common.{⊎_elim, arith}
 use Rattle.pauli_group.proofs.common.SharedLaws.{mod_le, phases_none, phases_skip, phases_put, phases_all}
 use Rattle.pauli_group.proofs.common.append_phases.Goals as goal
+use Rattle.pauli_group.proofs.common.append_phases.Goals.{then-k-a-eq0, else-k-a-eq0}
 
 pub loop-k-init : goal.loop-k-init
 loop-k-init c = phases_none _ _ _ _
@@ -47,13 +48,11 @@ loop-k-smaller c = omega arith
 
 
 pub loop-k-preserved : goal.loop-k-preserved
-loop-k-preserved c =
-    let l = c.loop-k in
-    ⊎_elim
-    (λ h. rw (h.5, h.6) (phases_put _ _ _ _ _ _ _ l.invariant c.loop-k-test.true h.0.taken _ h.2.ensures.0 h.2.ensures.1))
-    (λ h. rw (h.1, h.2) (phases_skip _ _ _ _ _ _ _ l.invariant c.loop-k-test.true h.0.left))
-    c.if-k-a-eq0.branch
-
+loop-k-preserved c = let l = c.loop-k in
+    elim c.if-k-a-eq0.branch [
+      then-k-a-eq0 w ↦ rw (w.w-is, w.total-is) (phases_put _ _ _ _ _ _ _ l.invariant c.loop-k-test.true w.if-k-a-eq0.true _ w.put_phase.ensures.list w.put_phase.ensures.rest)
+      | else-k-a-eq0 w ↦ rw (w.w-is, w.total-is) (phases_skip _ _ _ _ _ _ _ l.invariant c.loop-k-test.true w.if-k-a-eq0.false)
+    ]
 
 pub shape_of-w : goal.shape_of-w
 shape_of-w c = c.loop-k.invariant.size

@@ -1,6 +1,7 @@
 use Rattle.std.proofs.Common.{◌+◌, ◌*◌, ⊎_elim, arith}
 use Rattle.pauli_group.proofs.common.SharedLaws.{kept_none, found_noted, kept_dropped, kept_more, kept_all}
 use Rattle.pauli_group.proofs.common.keep_shared.Goals as goal
+use Rattle.pauli_group.proofs.common.keep_shared.Goals.{then-e-lt4, else-e-lt4}
 
 pub loop-i-init : goal.loop-i-init
 loop-i-init c = kept_none _ _ _ _
@@ -63,14 +64,12 @@ loop-i-smaller c = omega arith
 
 
 pub loop-i-preserved : goal.loop-i-preserved
-loop-i-preserved c =
-    let l = c.loop-i in
+loop-i-preserved c = let l = c.loop-i in
     let found = found_noted c.args.a c.args.b c.args.m c.args.w.now l.w (2368 + 5 * l.i) _ c.shared_exponent-e.ensures in
-    ⊎_elim
-    (λ h. rw (h.8, h.9) (kept_more _ _ _ _ _ _ _ l.invariant c.loop-i-test.true _ found h.0.taken (omega (arith, c.requires.0, c.requires.1)) _ _ h.2.ensures h.4.ensures _ h.5.ensures))
-    (λ h. rw (h.1, h.2) (kept_dropped _ _ _ _ _ _ _ l.invariant c.loop-i-test.true _ found h.0.left))
-    c.if-e-lt4.branch
-
+    elim c.if-e-lt4.branch [
+      then-e-lt4 w ↦ rw (w.w-is, w.kept-is) (kept_more _ _ _ _ _ _ _ l.invariant c.loop-i-test.true _ found w.if-e-lt4.true (omega (arith, c.requires.0, c.requires.1)) _ _ w.load-p.ensures w.with_exponent.ensures _ w.store.ensures)
+      | else-e-lt4 w ↦ rw (w.w-is, w.kept-is) (kept_dropped _ _ _ _ _ _ _ l.invariant c.loop-i-test.true _ found w.if-e-lt4.false)
+    ]
 
 pub shape_of-w : goal.shape_of-w
 shape_of-w c = c.loop-i.invariant.rest.size

@@ -19,16 +19,16 @@ write_part-requires c = (c.requires.0, c.requires.1)
 
 pub returns-in-Equal : goal.returns-in-Equal
 unfolding lesser
-returns-in-Equal c = let all = rw c.in-Equal.is (c.write_list.ensures.told, c.write_list.ensures.left) in record { told = all.0; left = all.1 }
+returns-in-Equal c = record { told = rw c.in-Equal.is c.write_list.ensures.told; left = rw c.in-Equal.is c.write_list.ensures.left }
 
 pub returns-in-Less : goal.returns-in-Less
 unfolding lesser
-returns-in-Less c = let all = rw c.in-Less.is (c.write_list-in-Less.ensures.told, c.write_list-in-Less.ensures.left) in record { told = all.0; left = all.1 }
+returns-in-Less c = record { told = rw c.in-Less.is c.write_list-in-Less.ensures.told; left = rw c.in-Less.is c.write_list-in-Less.ensures.left }
 
 pub returns-in-Greater : goal.returns-in-Greater
 unfolding lesser
-returns-in-Greater c = let all = rw c.in-Greater.is (c.write_list-in-Greater.ensures.told, c.write_list-in-Greater.ensures.left) in record { told = all.0; left = all.1 }
+returns-in-Greater c = record { told = rw c.in-Greater.is c.write_list-in-Greater.ensures.told; left = rw c.in-Greater.is c.write_list-in-Greater.ensures.left }
 
 pub returns-in-NoOrder : goal.returns-in-NoOrder
 unfolding lesser
-returns-in-NoOrder c = let all = rw c.in-NoOrder.is (c.write_part.ensures.told, c.write_part.ensures.left) in record { told = all.0; left = all.1 }
+returns-in-NoOrder c = record { told = rw c.in-NoOrder.is c.write_part.ensures.told; left = rw c.in-NoOrder.is c.write_part.ensures.left }

@@ -20,4 +20,4 @@ shape_of-w-in-Misfit c = c.echelon_form-formation.auto.w ∙ c.put_rows.auto.w
 
 
 pub returns-in-Misfit : goal.returns-in-Misfit
-returns-in-Misfit c = let all = absurd (made_fits c.args.w.now c.args.base c.args.n c.args.s c.requires.1 c.requires.4 c.requires.0 c.requires.5 _ c.stride_of.ensures _ c.put_rows.ensures _ _ c.echelon_form-formation.ensures c.in-Misfit.is) in record { rank = all.0; form = all.1.0; rest = all.1.1 }
+returns-in-Misfit c = absurd (made_fits c.args.w.now c.args.base c.args.n c.args.s c.requires.1 c.requires.4 c.requires.0 c.requires.5 _ c.stride_of.ensures _ c.put_rows.ensures _ _ c.echelon_form-formation.ensures c.in-Misfit.is)

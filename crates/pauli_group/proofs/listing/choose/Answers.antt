@@ -11,7 +11,12 @@ overflow_add-result c = omega (arith, pow_small c.args.p (omega arith))
 
 
 pub returns-then-number-with : goal.returns-then-number-with
-returns-then-number-with c = let p = c.args.p in let s = one_shifted p (omega arith) in let all = rw s ((omega (arith, c.requires.1), omega (arith, pow_next p, c.requires.2)), choose_with _ _ _ _ _ c.if-size-eq0.false (rw (← c.binomial-with.ensures) c.if-number-with.true)) in record { small = all.0; same = all.1 }
+returns-then-number-with c = let p = c.args.p in
+    let s = one_shifted p (omega arith) in
+    record {
+      small = rw s (omega (arith, c.requires.1), omega (arith, pow_next p, c.requires.2));
+      same = rw s (choose_with _ _ _ _ _ c.if-size-eq0.false (rw (← c.binomial-with.ensures) c.if-number-with.true));
+    }
 
 pub returns : goal.returns
 returns c = record { small = (c.requires.1, omega (arith, pow_next c.args.p, c.requires.2)); same = rw c.binomial-with.ensures (choose_without _ _ _ _ _ c.if-size-eq0.false (rw (← c.binomial-with.ensures) c.if-number-with.false)) }

@@ -15,7 +15,7 @@ is_supported-requires c =
 
 
 pub returns-then-not-is_supported : goal.returns-then-not-is_supported
-returns-then-not-is_supported c = let all = (λ g. factored_off g _ (sym c.is_supported.ensures ∙ c.if-not-is_supported.true, outside_refl _ _ _) in record { told = all.0; rest = all.1 }
+returns-then-not-is_supported c = record { told = λ g. factored_off g _ (sym c.is_supported.ensures ∙ c.if-not-is_supported.true); rest = outside_refl _ _ _ }
 
 pub condense_from-p-requires : goal.condense_from-p-requires
 condense_from-p-requires c =

@@ -6,18 +6,6 @@ use Rattle.pauli_theory.specs.Standard.{anticommutes_with_some, some_anticommute
 use Rattle.pauli_group.proofs.scan.ScanLaws.{from_start, from_hit, from_miss, from_end, search_lt, with_some_lem, two_anticommute, list_behind}
 use Rattle.pauli_group.proofs.scan.some_anticommute.Goals as goal
 
--- what the call tells, by the Paulis behind number i
-behind : (c : tie.After-anticommutes-with-some invariant-loop decreases-loop)
-    → let turn = c.before.before.before in
-    let a = turn.before.before.args in
-    c.anticommutes-with-some.result ≡ anticommutes_with_some (held c.before.load.result) (list_from a.w.now a.base a.n (turn.loop.i + 1))
-behind c =
-    let turn = c.before.before.before in
-    let a = turn.before.before.args in
-    c.anticommutes-with-some.ensures
-    ∙ ap (anticommutes_with_some (held c.before.load.result)) (list_behind a.w.now a.base a.n turn.loop.i)
-
-
 pub loop-i-init : goal.loop-i-init
 loop-i-init c = from_start some_anticommute _ _ _
 
@@ -51,11 +39,10 @@ anticommutes_with_some-requires c = omega arith
 
 
 pub returns-then-anticommutes_with_some-eq1 : goal.returns-then-anticommutes_with_some-eq1
-returns-then-anticommutes_with_some-eq1 c =
-    let load = c.load in
+returns-then-anticommutes_with_some-eq1 c = let load = c.load in
+    let behind : c.anticommutes_with_some.result ≡ anticommutes_with_some (held load.result) (list_from c.args.w.now c.args.base c.args.n (c.loop-i.i + 1)) = c.anticommutes_with_some.ensures ∙ ap (anticommutes_with_some (held c.load.result)) (list_behind c.args.w.now c.args.base c.args.n c.loop-i.i) in
     from_hit two_anticommute c.loop-i.invariant c.loop-i-test.true load.result load.ensures
-    (omega (arith, behind c.before, c.if-anticommutes_with_some-eq1.true))
-
+    (omega (arith, behind, c.if-anticommutes_with_some-eq1.true))
 
 pub overflow_add-i : goal.overflow_add-i
 overflow_add-i c = omega arith
@@ -66,11 +53,10 @@ loop-i-smaller c = omega arith
 
 
 pub loop-i-preserved : goal.loop-i-preserved
-loop-i-preserved c =
-    let load = c.load in
+loop-i-preserved c = let load = c.load in
+    let behind : c.anticommutes_with_some.result ≡ anticommutes_with_some (held load.result) (list_from c.args.w.now c.args.base c.args.n (c.loop-i.i + 1)) = c.anticommutes_with_some.ensures ∙ ap (anticommutes_with_some (held c.load.result)) (list_behind c.args.w.now c.args.base c.args.n c.loop-i.i) in
     from_miss two_anticommute c.loop-i.invariant c.loop-i-test.true load.result load.ensures
-    (zero_bit _ (search_lt (with_some_lem (held load.result)) _) (λ e. c.if-anticommutes_with_some-eq1.false (behind c.before ∙ e)))
-
+    (zero_bit _ (search_lt (with_some_lem (held load.result)) _) (λ e. c.if-anticommutes_with_some-eq1.false (behind ∙ e)))
 
 pub returns : goal.returns
 returns c = from_end two_anticommute c.loop-i.invariant c.loop-i-test.false

@@ -3,6 +3,7 @@ use Rattle.pauli.specs.Signed.{held}
 use Rattle.pauli_theory.specs.Standard.{some_minus}
 use Rattle.pauli_group.proofs.scan.ScanLaws.{from_start, from_hit, from_miss, from_end, search_minus, bare_some, minus_hit, minus_miss}
 use Rattle.pauli_group.proofs.scan.some_minus.Goals as goal
+use Rattle.pauli_group.proofs.scan.some_minus.Goals.{then-weight-eq0+else-p-eq2, else-weight-eq0}
 
 pub loop-i-init : goal.loop-i-init
 loop-i-init c = from_start some_minus _ _ _
@@ -36,12 +37,12 @@ loop-i-smaller c = omega arith
 
 
 pub loop-i-preserved : goal.loop-i-preserved
-loop-i-preserved c =
-    let load = c.load-p in
+loop-i-preserved c = let load = c.load-p in
     from_miss search_minus c.loop-i.invariant c.loop-i-test.true load.result load.ensures
-    (⊎_elim (λ h. minus_miss load.result (sym c.weight.ensures ∙ h.0.taken) h.2.left)
-    (λ h. bare_some (held load.result) _ (λ z. h.left (c.weight.ensures ∙ z))) c.if-weight-eq0.branch)
-
+    (elim c.if-weight-eq0.branch [
+      then-weight-eq0+else-p-eq2 w ↦ minus_miss load.result (sym c.weight.ensures ∙ w.if-weight-eq0.true) w.if-p-eq2.false
+      | else-weight-eq0 w ↦ bare_some (held load.result) _ (λ z. w.if-weight-eq0.false (c.weight.ensures ∙ z))
+    ])
 
 pub returns : goal.returns
 returns c = from_end search_minus c.loop-i.invariant c.loop-i-test.false

@@ -24,7 +24,7 @@ pub returns-then-not-is_order_two : goal.returns-then-not-is_order_two
 returns-then-not-is_order_two c =
     let load = c.load in
     from_hit order_four_lem c.loop-i.invariant c.loop-i-test.true load.result load.ensures
-    (more_than _ (eqb-false _ 0 (sym c.is_order_two.ensures ∙ c.if-not-is_order_two.true))
+    (more_than _ (eqb-false _ 0 (sym c.is_order_two.ensures ∙ c.if-not-is_order_two.true)))
 
 
 pub overflow_add-i : goal.overflow_add-i
@@ -39,7 +39,7 @@ pub loop-i-preserved : goal.loop-i-preserved
 loop-i-preserved c =
     let load = c.load in
     from_miss order_four_lem c.loop-i.invariant c.loop-i-test.true load.result load.ensures
-    (eqb-true _ 0 (sym c.is_order_two.ensures ∙ c.if-not-is_order_two.false)
+    (eqb-true _ 0 (sym c.is_order_two.ensures ∙ c.if-not-is_order_two.false))
 
 
 pub returns : goal.returns

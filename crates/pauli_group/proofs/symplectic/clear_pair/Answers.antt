@@ -7,6 +7,7 @@ use Rattle.pauli_theory.proofs.Symplectic.{cleared_length}
 use Rattle.pauli_group.proofs.list.ListLaws.{stored_none, stored_step, stored_all, list_at_lem, pauli_kept_after, outside_refl, store_further}
 use Rattle.pauli_group.proofs.symplectic.PairLaws.{clear_after, clear_before}
 use Rattle.pauli_group.proofs.symplectic.clear_pair.Goals as goal
+use Rattle.pauli_group.proofs.symplectic.clear_pair.Goals.{then-i-k, else-i-k}
 
 pub loop-i-init : goal.loop-i-init
 loop-i-init c = (omega arith, stored_none normal _ _ _ _, outside_refl _ _ _)
@@ -53,25 +54,28 @@ loop-i-smaller c = omega arith
 
 
 pub loop-i-preserved : goal.loop-i-preserved
-loop-i-preserved c = let loop = c.loop-i in let load = c.load-g in
-    let w = c.args.w.now in let base = c.args.base in let n = c.args.n in let k = c.args.k in
-    let x = held c.args.x in let z = held c.args.z in
+loop-i-preserved c = let loop = c.loop-i in
+    let load = c.load-g in
+    let w = c.args.w.now in
+    let base = c.args.base in
+    let n = c.args.n in
+    let k = c.args.k in
+    let x = held c.args.x in
+    let z = held c.args.z in
     let gs = list_in w base n in
-    let i = loop.i in let less = c.loop-i-test.true in
+    let i = loop.i in
+    let less = c.loop-i-test.true in
     let count = length_list w base n in
     let same = load.ensures ∙ ap normal (pauli_kept_after loop.invariant.2 _ (omega arith) ∙ sym (list_at_lem w base n i I less)) in (
       omega arith,
       stored_step normal (cleared k x z gs) base n w i loop.w loop.invariant.1 (cleared_length k x z gs ∙ count) I c.times_if.result less (omega arith)
-          (⊎_elim
-          (λ h. clear_after k n i x z gs count less (held load.result) (held c.if-i-k.g) (held c.times_if.result) same c.times_if.ensures
-          h.0.taken (ap (λ q. normal (held q)) h.2 ∙ h.1.ensures))
-          (λ h. clear_before k n i x z gs count less (held load.result) (held c.if-i-k.g) (held c.times_if.result) same c.times_if.ensures
-          (omega (arith, h.0.left)) (ap held h.1))
-          c.if-i-k.branch)
+          (elim c.if-i-k.branch [
+            then-i-k h ↦ clear_after k n i x z gs count less (held load.result) (held c.if-i-k.g) (held c.times_if.result) same c.times_if.ensures h.if-i-k.true (ap (λ q. normal (held q)) h.g-is ∙ h.times_if-g.ensures)
+            | else-i-k h ↦ clear_before k n i x z gs count less (held load.result) (held c.if-i-k.g) (held c.times_if.result) same c.times_if.ensures (omega (arith, h.if-i-k.false)) (ap held h.g-is)
+          ])
           _ c.store.ensures,
       store_further w loop.w base i c.times_if.result loop.invariant.2 _ c.store.ensures,
     )
-
 
 pub shape_of-w : goal.shape_of-w
 shape_of-w c = c.loop-i.invariant.2.size
