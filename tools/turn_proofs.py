@@ -16,7 +16,7 @@ WORD = r"[^\s(){}\[\];,.\"λ⌜⌝]+"
 
 
 def norm(label):
-    return label.replace("_", "-").lower()
+    return re.sub(r"-lem$", "", label.replace("_", "-").lower())
 
 
 def split_declarations(text):
@@ -315,7 +315,7 @@ def used_lines(uses, text):
             it = it.strip()
             local = it.split(" as ")[-1].strip()
             bare = local.replace("◌", " ").strip()
-            if (local in words or ("◌" in local and any(w == bare for w in re.split(r"[\s()]+", symbols)))) and local not in seen:
+            if (local in words or (local == "[]" and "[]" in text) or ("◌" in local and any(w.strip("◌") == bare for w in re.split(r"[\s()]+", symbols)))) and local not in seen:
                 keep.append(it)
                 seen.add(local)
         if keep:
@@ -371,8 +371,21 @@ def main(argv):
             if re.search(r" : tie\.(invariant|decreases)-", sig):
                 continue
             proven.append(name)
+        at_need = {n: i for i, n in enumerate(proven)}
         if len(proven) != len(info["needs"]):
             turn.say(f"{len(proven)} answers for {len(info['needs'])} goals")
+            wanted = [norm(old) for old, _ in info["needs"]]
+            at_need, i = {}, 0
+            for n in proven:
+                ls = bodies.get(n)
+                label = re.search(r" : tie\.Need-(\S+)", "\n".join(ls or []))
+                a = norm(label.group(1)) if label else ""
+                names = (a, re.sub(r"^(overflow|nonzero|bounds|offset-bounds|slice-bounds)-", "", a), "part-" + a[len("slice-bounds-"):])
+                hits = [j for j in range(len(wanted)) if wanted[j] in names and j not in at_need.values()]
+                if hits:
+                    at_need[n] = hits[0]
+                else:
+                    turn.say(f"{n}: {a} is no goal today")
         for name, ls in decls:
             comments = [l for l in ls if l.startswith("--")]
             code = [l for l in ls if not l.startswith("--")]
@@ -411,9 +424,9 @@ def main(argv):
                 invs.append("\n".join(comments + [f"abbrev pub {kind}-{new} : goal.{kind}-{new}"] + ([mm.group(1).rstrip()] if mm.group(1) else []) + [f"{kind}-{new} l ={expr}"]))
                 continue
             if name in proven:
-                i = proven.index(name)
-                if i >= len(info["needs"]):
+                if name not in at_need or at_need[name] >= len(info["needs"]):
                     continue
+                i = at_need[name]
                 old, new = info["needs"][i]
                 label = re.search(r" : tie\.Need-(\S+)", sig)
                 if label:

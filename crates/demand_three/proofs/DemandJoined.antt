@@ -6,21 +6,20 @@ use mathlib.Core.List.Memᴰ.{append_cases as in-append}
 use mathlib.Core.List.{◌++◌, map, Memᴰ as Mem}
 use Prim.Native.Nat.{ℕ, ◌+◌, ◌≤◌, ◌<◌}
 use native.Mathlib.Omega.{arith}
-use borrow.Author.Tests.{ltb-false, le-ltb}
+use borrow.Author.Tests.{le-ltb}
 use lib.Dec.{ltb}
 use lib.ListN.{length, take, length-map, length-append, get_or-map}
-use Rattle.binar.proofs.Lists.{all_join, all_get, all_by}
+use Rattle.binar.proofs.Lists.{all_get, all_by}
 use Rattle.pauli.specs.WriteAnswers.{told_wrote}
-use Rattle.pauli.specs.JoinCalls.{read_both, few_qubits, joined_of, join_of}
+use Rattle.pauli.specs.JoinCalls.{read_both, few_qubits, join_of}
 use Rattle.pauli.specs.Condense.{nothing}
 use Rattle.pauli.specs.Roll.{most_paulis, numbers, support, read, by_value, write}
-use Rattle.pauli.specs.Support.{most_qubits, All}
+use Rattle.pauli.specs.Support.{most_qubits}
 use Rattle.pauli.specs.Sets.{pauli_of}
 use Rattle.pauli.specs.Told.{answer, refuse_if, and_then, map_told}
 use Rattle.pauli.specs.Writing.{told_bytes}
 use Rattle.pauli.proofs.join.ReadBack.{told_bytes_lem}
 use Rattle.pauli.proofs.join.JoinedLists.{join_is, joined_law as join_law}
-use Rattle.pauli.proofs.roll.RollLaws.{answer_parts}
 use Rattle.pauli.proofs.roll.ListSupport.{numbers_append, numbers_by_value, support_length}
 use Rattle.pauli.proofs.roll.Told.{test_pass, test_passed, map_test}
 use Rattle.pauli_theory.specs.Group.{Generated, Inside, SameGroup}

@@ -13,7 +13,7 @@ use Rattle.binar.proofs.Lists.{all_map}
 use Rattle.pauli.specs.JoinCalls.{read_both, within}
 use Rattle.pauli.specs.Pauli.{indexed_product}
 use Rattle.pauli.specs.Roll.{most_paulis}
-use Rattle.pauli.specs.Sets.{members, pauli_of}
+use Rattle.pauli.specs.Sets.{members}
 use Rattle.pauli.specs.Told.{answer, refuse_if, and_then, map_told}
 use Rattle.pauli.specs.Writing.{put_bytes}
 use Rattle.pauli.proofs.condense.Sets.{members_rise, members_count}
@@ -28,7 +28,7 @@ use Rattle.pauli_group.specs.declared.answers.MemberFound.{MemberFound}
 use Rattle.pauli_group.specs.declared.answers.MemberFound.TheVariants.{Member as MemberTold, NotMember}
 use Rattle.pauli_group.specs.Answers.{told_factored}
 use Rattle.pauli_group.specs.WorkArea.{enough, area_after}
-use Rattle.pauli_group.specs.Calls.{paulis, question, factorization_call, index_bytes, Factored, factored, told_member, member_left}
+use Rattle.pauli_group.specs.Calls.{question, factorization_call, index_bytes, Factored, factored, told_member, member_left}
 use Rattle.demand_three.specs.DemandThree.{Generators, list, Element, pauli, Asked, Member, indexes_at, Gives, if_area, if_room, bytes_of}
 use Rattle.demand_three.proofs.ReadBack.{read_few}
 use Rattle.demand_three.proofs.DemandLists.{length_le16s, indexes_read, named_select}

@@ -9,7 +9,7 @@ use Rattle.binar.proofs.Lists.{all_map, map_same}
 use Rattle.pauli.specs.WriteAnswers.{told_wrote}
 use Rattle.pauli.specs.Sets.{pauli_of, sparse_of}
 use Rattle.pauli.specs.Pauli.{Pauli, normal}
-use Rattle.pauli.specs.Roll.{Sparse, read, write}
+use Rattle.pauli.specs.Roll.{Sparse, write}
 use Rattle.pauli.specs.Told.{answer, refuse_if, and_then, map_told}
 use Rattle.pauli.specs.Writing.{told_bytes}
 use Rattle.pauli.proofs.signed.Algebra.{normal_lt}

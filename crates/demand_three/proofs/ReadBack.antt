@@ -1,17 +1,16 @@
 -- What each call writes is within the limits of a roll, so that it is read back.
 use mathlib.Core.Path.{◌≡◌, refl, sym, ap, ◌∙◌, subst}
-use mathlib.Core.List.{List, [], ◌∷◌, ◌++◌, map}
+use mathlib.Core.List.{List, ◌++◌, map}
 use mathlib.Core.Option.{Option, some, none}
 use Prim.Native.Nat.{ℕ, ◌+◌, ◌≤◌}
 use native.Mathlib.Omega.{arith}
 use borrow.Author.Tests.{ltb-false}
-use lib.Dec.{ltb}
 use lib.ListN.{length, take, drop, length-map}
 use Rattle.binar.proofs.Lists.{all_left, all_right}
 use Rattle.pauli.specs.declared.write.Wrote.{Wrote}
 use Rattle.pauli.specs.WriteAnswers.{told_wrote}
 use Rattle.pauli.specs.JoinCalls.{read_both, few_qubits}
-use Rattle.pauli.specs.Told.{Told, answer, refused, refuse_if, and_then, map_told}
+use Rattle.pauli.specs.Told.{answer, and_then, map_told}
 use Rattle.pauli.specs.Roll.{most_paulis, Sparse, support, read, write}
 use Rattle.pauli.specs.Support.{most_qubits, All}
 use Rattle.pauli.specs.Pauli.{Pauli}
@@ -22,7 +21,7 @@ use Rattle.pauli.proofs.join.ReadBack.{Qubits, read_qubits, joined_qubits, writt
 use Rattle.pauli.proofs.roll.RollLaws.{answer_parts, parts_count}
 use Rattle.pauli.proofs.roll.Told.{refused_none, test_passed, answered, map_answer}
 use Rattle.pauli_theory.specs.Group.{Promise}
-use Rattle.pauli_theory.specs.Standard.{support_of, standard, rank}
+use Rattle.pauli_theory.specs.Standard.{support_of, standard}
 use Rattle.pauli_theory.specs.Listing.{largest_page, page_size, elements_of, page}
 use Rattle.pauli_theory.specs.Symplectic.{symplectic_form}
 use Rattle.pauli_theory.specs.Order.{Order, equal, less, greater, no_order, partial_cmp}
@@ -33,10 +32,10 @@ use Rattle.pauli_theory.proofs.ModuloPlaces.{modulo_on, modulo_count}
 use Rattle.pauli_theory.proofs.Theorems.{group_laws}
 use Rattle.pauli_theory.proofs.Written.{support_of_lem}
 use Rattle.pauli_group.specs.WorkArea.{enough}
-use Rattle.pauli_group.specs.Calls.{paulis, one_list, standard_bytes, standard_generators, symplectic_bytes, symplectic_call, most_listed, page_bytes, elements_call, Pair, two_lists, modulo_bytes, modulo_call, quotient_bytes, quotient_call, list_bytes, common_bytes, common_call}
-use Rattle.pauli_group.specs.CallContracts.{StandardCall, SymplecticCall, ElementsCall, ModuloCall, QuotientCall, CommonCall}
+use Rattle.pauli_group.specs.Calls.{paulis, one_list, standard_bytes, standard_generators, symplectic_bytes, symplectic_call, page_bytes, elements_call, Pair, two_lists, modulo_bytes, modulo_call, quotient_bytes, quotient_call, common_bytes, common_call}
+use Rattle.pauli_group.specs.CallContracts.{QuotientCall}
 use Rattle.pauli_group.proofs.group.GroupLaws.{paulis_append}
-use Rattle.demand_three.specs.ReadBack.{WroteHolds, ReadBack}
+use Rattle.demand_three.specs.ReadBack.{ReadBack}
 
 -- ---- calls on one list
 

@@ -4,6 +4,7 @@
 // where the rank is below the number of columns, the answer for a target outside the row space.
 
 #![tactic(auto)]
+
 ghost use Rattle.std.specs.Prelude.{◌≡◌, ◌+◌, ◌*◌, ◌/◌, ◌^◌, ◌≤◌, ◌<◌, length};
 ghost use Rattle.binar.specs.Layout.{FormLeft};
 ghost use Rattle.matrices.specs.Room.{Room, SameBefore};
@@ -11,7 +12,8 @@ ghost use Rattle.matrices.specs.Room.{Room, SameBefore};
 use binar::matrix_form::{Formation, Solution, echelon_form, transpose_solve};
 use binar::row::{clear_bits, index};
 use binar::sum::bitxor_assign;
-use libc::STDOUT_FILENO;
+use std::io;
+use std::io::{BufWriter, Write};
 
 // ---- lines. A line that is longer than its buffer is cut.
 
@@ -32,10 +34,8 @@ fn put_text(line: &mut [u8], n: usize, text: &[u8]) -> usize
     ensures { result ≤ length line.new }
 {
     let mut m = n;
-    let mut k = 0;
-    while k < text.len() {
-        m = put(line, m, text[k]);
-        k += 1;
+    for b in text {
+        m = put(line, m, *b);
     }
     m
 }
@@ -44,9 +44,8 @@ fn put_number(line: &mut [u8], n: usize, x: u64) -> usize
     requires { n ≤ length line.old }
     ensures { result ≤ length line.new }
 {
-    let mut digits = [0u8; 20];
-    let k = io::decimal(x, &mut digits);
-    put_text(line, n, &digits[..k])
+    let mut digits = itoa::Buffer::new();
+    put_text(line, n, digits.format(x).as_bytes())
 }
 
 fn glyph(bit: u64) -> u8 {
@@ -62,10 +61,8 @@ fn put_bits(line: &mut [u8], n: usize, w: &[u64], at: usize, cols: usize) -> usi
         return put(line, n, b'-');
     }
     let mut m = n;
-    let mut k = 0;
-    while k < cols {
+    for k in 0..cols {
         m = put(line, m, glyph(index(w, at, k)));
-        k += 1;
     }
     m
 }
@@ -79,26 +76,31 @@ fn put_pivots(line: &mut [u8], n: usize, w: &[u64], from: usize, rank: usize) ->
         return put_text(line, n, b" -");
     }
     let mut m = n;
-    let mut k = 0;
-    while k < rank {
+    for k in 0..rank {
         m = put(line, m, b' ');
         m = put_number(line, m, w[from + k]);
-        k += 1;
     }
     m
 }
 
 // Ends the line at index n and writes it.
-fn print_line(line: &mut [u8], n: usize)
+fn print_line<W: Write>(out: &mut W, line: &mut [u8], n: usize) -> io::Result<()>
     requires { n ≤ length line.old }
 {
     let end = put(line, n, b'\n');
-    io::write_all(STDOUT_FILENO, &line[..end]);
+    out.write_all(&line[..end])
 }
 
 // ---- the form
 
-fn print_head(w: &[u64], from: usize, rows: usize, cols: usize, rank: usize)
+fn print_head<W: Write>(
+    out: &mut W,
+    w: &[u64],
+    from: usize,
+    rows: usize,
+    cols: usize,
+    rank: usize,
+) -> io::Result<()>
     requires { from + rank ≤ length w.now }
 {
     let mut line = [0u8; 1024];
@@ -109,28 +111,41 @@ fn print_head(w: &[u64], from: usize, rows: usize, cols: usize, rank: usize)
     let e = put_number(&mut line, d, rank as u64);
     let f = put_text(&mut line, e, b" pivots");
     let n = put_pivots(&mut line, f, w, from, rank);
-    print_line(&mut line, n);
+    print_line(out, &mut line, n)
 }
 
 // The row at word at: cols bits of R, and rows bits of T behind R's width words.
-fn print_row(w: &[u64], at: usize, width: usize, rows: usize, cols: usize)
+fn print_row<W: Write>(
+    out: &mut W,
+    w: &[u64],
+    at: usize,
+    width: usize,
+    rows: usize,
+    cols: usize,
+) -> io::Result<()>
     requires { (at + width + (rows + 63) / 64 ≤ length w.now) × (cols ≤ 64 * width) }
 {
     let mut line = [0u8; 1024];
     let a = put_bits(&mut line, 0, w, at, cols);
     let b = put(&mut line, a, b' ');
     let n = put_bits(&mut line, b, w, at + width, rows);
-    print_line(&mut line, n);
+    print_line(out, &mut line, n)
 }
 
-fn print_rows(w: &[u64], width: usize, stride: usize, rows: usize, cols: usize)
+fn print_rows<W: Write>(
+    out: &mut W,
+    w: &[u64],
+    width: usize,
+    stride: usize,
+    rows: usize,
+    cols: usize,
+) -> io::Result<()>
     requires { (rows * stride ≤ length w.now) × (stride ≡ width + (rows + 63) / 64) × (cols ≤ 64 * width) }
 {
-    let mut i = 0;
-    while i < rows {
-        print_row(w, i * stride, width, rows, cols);
-        i += 1;
+    for i in 0..rows {
+        print_row(out, w, i * stride, width, rows, cols)?;
     }
+    Ok(())
 }
 
 // ---- targets, in the row at word at behind the pivots
@@ -151,14 +166,12 @@ fn free_column(w: &[u64], from: usize, rank: usize) -> usize
     requires { from + rank ≤ length w.now }
     ensures { result ≤ rank }
 {
-    let mut k = 0;
-    while k < rank {
+    for k in 0..rank {
         if w[from + k] != k as u64 {
             return k;
         }
-        k += 1;
     }
-    k
+    rank
 }
 
 // Flips the bit of column k of the row at word at.
@@ -179,7 +192,8 @@ fn set_unit(w: &mut [u64], at: usize, stride: usize, k: usize)
 }
 
 // Prints the set of rows that sums to the target, or that there is none.
-fn print_solution(
+fn print_solution<W: Write>(
+    out: &mut W,
     w: &mut [u64],
     width: usize,
     stride: usize,
@@ -187,43 +201,46 @@ fn print_solution(
     cols: usize,
     rank: usize,
     at: usize,
-)
+) -> io::Result<()>
     requires { FormLeft w.old stride rows cols rank at × (stride ≡ width + (rows + 63) / 64) }
     ensures { FormLeft w.new stride rows cols rank at }
 {
     match transpose_solve(w, stride, rows, cols, rank, at) {
-        Solution::NoSet => {
-            io::write_all(STDOUT_FILENO, b"solve none\n");
-        }
+        Solution::NoSet => out.write_all(b"solve none\n"),
         Solution::Set => {
             let mut line = [0u8; 1024];
             let a = put_text(&mut line, 0, b"solve ");
             let n = put_bits(&mut line, a, w, at + width, rows);
-            print_line(&mut line, n);
+            print_line(out, &mut line, n)
         }
     }
 }
 
 // Prints all that is said of the matrix at the front of w. Its T words and the target's row are zero at entry.
-fn print_form(w: &mut [u64], width: usize, rows: usize, cols: usize)
+fn print_form<W: Write>(
+    out: &mut W,
+    w: &mut [u64],
+    width: usize,
+    rows: usize,
+    cols: usize,
+) -> io::Result<()>
     requires { Room width rows cols (length w.old) }
 {
     let stride = width + (rows + 63) / 64;
     let at = rows * stride + rows;
     add_even_rows(w, stride, rows, at);
     match echelon_form(w, width, rows, cols) {
-        Formation::Misfit => {
-            io::write_all(STDOUT_FILENO, b"misfit\n");
-        }
+        Formation::Misfit => out.write_all(b"misfit\n"),
         Formation::Rank(rank) => {
-            print_head(w, rows * stride, rows, cols, rank);
-            print_rows(w, width, stride, rows, cols);
-            print_solution(w, width, stride, rows, cols, rank, at);
+            print_head(out, w, rows * stride, rows, cols, rank)?;
+            print_rows(out, w, width, stride, rows, cols)?;
+            print_solution(out, w, width, stride, rows, cols, rank, at)?;
             if rank < cols {
                 let free = free_column(w, rows * stride, rank);
                 set_unit(w, at, stride, free);
-                print_solution(w, width, stride, rows, cols, rank, at);
+                print_solution(out, w, width, stride, rows, cols, rank, at)?;
             }
+            Ok(())
         }
     }
 }
@@ -234,32 +251,34 @@ fn print_form(w: &mut [u64], width: usize, rows: usize, cols: usize)
 fn read_row(w: &mut [u64], at: usize, cols: usize, text: &[u8], from: usize)
     requires { (at + (cols + 63) / 64 ≤ length w.old) × (from + cols ≤ length text.now) }
 {
-    let mut k = 0;
-    while k < cols {
+    for k in 0..cols {
         if text[from + k] == b'1' {
             flip(w, at, k);
         }
-        k += 1;
     }
 }
 
 fn read_rows(w: &mut [u64], stride: usize, rows: usize, cols: usize, text: &[u8])
     requires { (rows * stride ≤ length w.old) × (rows * cols ≤ length text.now) × (cols ≤ 64 * stride) }
 {
-    let mut i = 0;
-    while i < rows {
+    for i in 0..rows {
         read_row(w, i * stride, cols, text, i * cols);
-        i += 1;
     }
 }
 
 // A matrix by its digits, row after row.
-fn given(width: usize, rows: usize, cols: usize, text: &[u8])
+fn given<W: Write>(
+    out: &mut W,
+    width: usize,
+    rows: usize,
+    cols: usize,
+    text: &[u8],
+) -> io::Result<()>
     requires { Room width rows cols 2048 × (rows * cols ≤ length text.now) }
 {
     let mut w = [0u64; 2048];
     read_rows(&mut w, width + (rows + 63) / 64, rows, cols, text);
-    print_form(&mut w, width, rows, cols);
+    print_form(out, &mut w, width, rows, cols)
 }
 
 // A linear congruential generator; its highest bit is used.
@@ -276,13 +295,11 @@ fn random_row(w: &mut [u64], at: usize, cols: usize, seed: u64) -> u64
     ensures { result < 2 ^ 32 }
 {
     let mut x = seed;
-    let mut k = 0;
-    while k < cols {
+    for k in 0..cols {
         x = next(x);
         if x >= 2147483648 {
             flip(w, at, k);
         }
-        k += 1;
     }
     x
 }
@@ -291,61 +308,66 @@ fn random_rows(w: &mut [u64], stride: usize, rows: usize, cols: usize, seed: u64
     requires { (rows * stride ≤ length w.old) × (cols ≤ 64 * stride) × (seed < 2 ^ 32) }
 {
     let mut x = seed;
-    let mut i = 0;
-    while i < rows {
+    for i in 0..rows {
         x = random_row(w, i * stride, cols, x);
-        i += 1;
     }
 }
 
-fn random(width: usize, rows: usize, cols: usize, seed: u64)
+fn random<W: Write>(
+    out: &mut W,
+    width: usize,
+    rows: usize,
+    cols: usize,
+    seed: u64,
+) -> io::Result<()>
     requires { Room width rows cols 2048 × (seed < 2 ^ 32) }
 {
     let mut w = [0u64; 2048];
     random_rows(&mut w, width + (rows + 63) / 64, rows, cols, seed);
-    print_form(&mut w, width, rows, cols);
+    print_form(out, &mut w, width, rows, cols)
 }
 
 // Adds to row half + i the rows i and half - 1 - i, for each i below half.
 fn add_sums(w: &mut [u64], stride: usize, half: usize)
     requires { ((half + half) * stride ≤ length w.old) × (half < 2 ^ 32) }
 {
-    let mut i = 0;
-    while i < half {
+    for i in 0..half {
         bitxor_assign(w, (half + i) * stride, i * stride, stride);
         bitxor_assign(w, (half + i) * stride, (half - 1 - i) * stride, stride);
-        i += 1;
     }
 }
 
 // 128 rows of 256 columns, the second half sums of rows of the first.
-fn repeated(seed: u64)
+fn repeated<W: Write>(out: &mut W, seed: u64) -> io::Result<()>
     requires { seed < 2 ^ 32 }
 {
     let mut w = [0u64; 2048];
     random_rows(&mut w, 6, 64, 256, seed);
     add_sums(&mut w, 6, 64);
-    print_form(&mut w, 4, 128, 256);
+    print_form(out, &mut w, 4, 128, 256)
 }
 
-fn main() {
-    given(0, 0, 0, b"");
-    given(1, 0, 5, b"");
-    given(0, 3, 0, b"");
-    given(1, 1, 1, b"0");
-    given(1, 1, 7, b"0010110");
-    given(1, 4, 4, b"0110101111010111");
-    given(1, 5, 5, b"0110110010111010101100111");
-    given(1, 6, 4, b"001101101100010110101001");
+fn main(rt: HostRuntime) -> io::Result<()> {
+    let mut out = BufWriter::new(rt.alloc(), io::writer(&rt))?;
+    given(&mut out, 0, 0, 0, b"")?;
+    given(&mut out, 1, 0, 5, b"")?;
+    given(&mut out, 0, 3, 0, b"")?;
+    given(&mut out, 1, 1, 1, b"0")?;
+    given(&mut out, 1, 1, 7, b"0010110")?;
+    given(&mut out, 1, 4, 4, b"0110101111010111")?;
+    given(&mut out, 1, 5, 5, b"0110110010111010101100111")?;
+    given(&mut out, 1, 6, 4, b"001101101100010110101001")?;
     // Ones in columns 62 63 64 65, 63 64 67 68 and 62 64 66 67.
     given(
+        &mut out,
         2,
         3,
         70,
         b"000000000000000000000000000000000000000000000000000000000000001111000000000000000000000000000000000000000000000000000000000000000000011001100000000000000000000000000000000000000000000000000000000000000010101100",
-    );
-    random(2, 65, 65, 1);
-    random(4, 40, 256, 2);
-    random(4, 128, 256, 3);
-    repeated(4);
+    )?;
+    random(&mut out, 2, 65, 65, 1)?;
+    random(&mut out, 4, 40, 256, 2)?;
+    random(&mut out, 4, 128, 256, 3)?;
+    repeated(&mut out, 4)?;
+    out.flush()
 }

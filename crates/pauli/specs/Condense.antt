@@ -1,5 +1,5 @@
 -- Paulis of a roll over the places of a support.
-use Rattle.std.specs.Prelude.{◌≡◌, ℕ, ◌+◌, ◌*◌, ◌<◌, List, [], ◌∷◌, length, slice_index_or}
+use Rattle.std.specs.Prelude.{◌≡◌, ℕ, ◌+◌, ◌*◌, ◌<◌, List, [], length, slice_index_or}
 use mathlib.Core.List.{Memᴰ as Mem}
 use Rattle.pauli.specs.Told.{answer}
 use Rattle.pauli.specs.Bytes.{u16_at}

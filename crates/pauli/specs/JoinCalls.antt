@@ -1,10 +1,10 @@
 -- The calls on two rolls: product, joining and the two lookups of a joined generator, in document 01's order of refusals.
-use Rattle.std.specs.Prelude.{ℕ, zero, suc, ◌+◌, ◌-◌, ◌*◌, ◌%◌, Bool, cond, List, [], ◌∷◌, ◌++◌, map, length, take, drop, nat_le, nat_lt, slice_index_or}
+use Rattle.std.specs.Prelude.{ℕ, zero, suc, ◌+◌, ◌-◌, ◌*◌, ◌%◌, cond, List, [], ◌∷◌, ◌++◌, length, take, drop, nat_le, nat_lt, slice_index_or}
 use Rattle.pauli.specs.Told.{Told, answer, refused, refuse_if, and_then, map_told}
 use Rattle.pauli.specs.Bytes.{u16_at}
-use Rattle.pauli.specs.Roll.{most_paulis, Sparse, Entry, entry_at, support, read, write}
+use Rattle.pauli.specs.Roll.{most_paulis, Sparse, entry_at, support, read, write}
 use Rattle.pauli.specs.Support.{most_qubits}
-use Rattle.pauli.specs.Pauli.{Pauli, times}
+use Rattle.pauli.specs.Pauli.{times}
 use Rattle.pauli.specs.Sets.{pauli_of, sparse_of}
 use Rattle.pauli.specs.Condense.{nothing}
 

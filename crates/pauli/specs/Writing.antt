@@ -1,5 +1,5 @@
 -- Written rolls and lent outputs: document 01, "Roll" and "Turned back", 12.
-use Rattle.std.specs.Prelude.{ℕ, ◌+◌, ◌*◌, ◌%◌, ◌^◌, ◌<◌, Bool, cond, List, [], ◌∷◌, ◌++◌, map, length, take, drop, nat_lt}
+use Rattle.std.specs.Prelude.{ℕ, ◌+◌, ◌%◌, ◌^◌, ◌<◌, cond, List, [], ◌∷◌, ◌++◌, map, length, take, drop, nat_lt}
 use Rattle.binar.specs.Row.{weight}
 use Rattle.pauli.specs.Told.{Told, answer, refused, refuse_if}
 use Rattle.pauli.specs.Bytes.{le16, le32}

@@ -1,7 +1,7 @@
 -- The listed elements: how many, which has a given number, and that they are the group's, each once.
 use mathlib.Core.Path.{◌≡◌, refl, sym, ap, ap₂, ◌∙◌}
 use mathlib.Core.List.{List, [], ◌∷◌, ◌++◌, map, flat_map, append-nil}
-use Prim.Native.Nat.{ℕ, zero, suc, ◌+◌, ◌-◌, ◌*◌, ◌/◌, ◌%◌, ◌^◌, ◌<◌, max}
+use Prim.Native.Nat.{ℕ, zero, suc, ◌+◌, ◌-◌, ◌*◌, ◌/◌, ◌%◌, ◌^◌, ◌<◌}
 use native.Mathlib.Nat.{mod-lt, div-add-mod', div-lt_iff_lt-mul, pow-suc}
 use native.Mathlib.Decide.{dec_lt}
 use native.Mathlib.Omega.{arith}
@@ -17,7 +17,7 @@ use Rattle.pauli.specs.Support.{All}
 use Rattle.pauli.specs.Pauli.{Pauli, I, turned, pauli_weight, product, cons_if, select, indexed_product, phase}
 use Rattle.pauli.specs.PauliTheorems.{PauliOn}
 use Rattle.pauli_theory.specs.Group.{Generated, Promise, Honest}
-use Rattle.pauli_theory.specs.Standard.{support_of, if_zero, rank, appended, standard, nonabelian, bare, some_order_four, some_imaginary, some_minus, phases_of, step_of, phase_step, log2_size}
+use Rattle.pauli_theory.specs.Standard.{support_of, if_zero, rank, appended, standard, bare, phases_of, phase_step, log2_size}
 use Rattle.pauli_theory.specs.Listing.{count_from, up_to, subsets, subset_at, nontrivial, phase_count, with_phases, elements_of}
 use Rattle.pauli_theory.specs.ListingTheorems.{ElementsLaw, ListedLaw}
 use Rattle.pauli_theory.proofs.Agree.{Divisor, one, two, four}

@@ -1,5 +1,5 @@
 -- The support of a roll's Paulis is that of their list; and Paulis over the places of a support are written as the Paulis.
-use mathlib.Core.Path.{◌≡◌, refl, sym, ap, ◌∙◌}
+use mathlib.Core.Path.{◌≡◌, sym, ap, ◌∙◌}
 use mathlib.Core.Logic.{⊎_elim}
 use mathlib.Core.List.Memᴰ
 use mathlib.Core.List.Memᴰ.{append_cases as in-append}
@@ -8,16 +8,15 @@ use Prim.Native.Nat.{ℕ}
 use Rattle.binar.proofs.Lists.{all_map, all_over, map_same}
 use Rattle.pauli.specs.Roll.{Sparse, support, encode, write, by_value}
 use Rattle.pauli.specs.Support.{All, Rising}
-use Rattle.pauli.specs.Pauli.{Pauli, normal, select}
-use Rattle.pauli.specs.Sets.{set_of, members, pauli_of, condense, expand, sparse_of}
-use Rattle.pauli.specs.PauliTheorems.{On, PauliOn}
+use Rattle.pauli.specs.Pauli.{Pauli, normal}
+use Rattle.pauli.specs.Sets.{set_of, pauli_of, sparse_of}
+use Rattle.pauli.specs.PauliTheorems.{PauliOn}
 use Rattle.pauli.specs.Condense.{condensed}
 use Rattle.pauli.specs.Writing.{sparse_over, roll_over}
 use Rattle.pauli.proofs.support.Lists.{all_in, all_mem}
 use Rattle.pauli.proofs.support.SupportLaws.{rising_ext}
 use Rattle.pauli.proofs.roll.ListSupport.{in_support}
 use Rattle.pauli.proofs.condense.Sets.{set_has, set_only, members_set, members_only}
-use Rattle.pauli.proofs.condense.Places.{select_rises, expand_condense}
 use Rattle.pauli.proofs.condense.PauliTheorems.{support_law}
 use Rattle.pauli.proofs.write.Condensed.{sparse_over_lem}
 use Rattle.pauli_theory.specs.Standard.{used_by, support_of, standard}

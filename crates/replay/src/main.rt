@@ -5,12 +5,14 @@
 // output lent, the words of work area lent, and the lengths of the two strings.
 
 #![tactic(auto)]
-ghost use Rattle.std.specs.Prelude.{◌≤◌, length};
+
+ghost use Rattle.std.specs.Prelude.{◌≤◌, IfOk, length};
 
 use crate::lines::{text, word_of};
 use crate::runs::{promise_of, run_group, run_rolls};
-use libc::STDIN_FILENO;
 use pauli::bytes::u32_at;
+use std::io;
+use std::io::{BufReader, BufWriter, Read, Write};
 
 // The line of a request.
 mod lines;
@@ -26,19 +28,11 @@ const MOST_WORDS: usize = 40960;
 const MOST_REQUESTS: u64 = 4294967295;
 
 fn fill(out: &mut [u8], f: u8) {
-    let mut k = 0;
-    while k < out.len() {
-        out[k] = f;
-        k += 1;
-    }
+    out.fill(f);
 }
 
 fn fill_words(work: &mut [u64], value: u64) {
-    let mut k = 0;
-    while k < work.len() {
-        work[k] = value;
-        k += 1;
-    }
+    work.fill(value);
 }
 
 // Whether the promises and the fill are in range.
@@ -52,15 +46,31 @@ fn is_allowed(request: &[u8; 28]) -> bool {
     request[3] > 0
 }
 
+// Reads until the slice is full or the input ends, and tells how many bytes were read.
+fn read_full<R: Read>(from: &mut R, bytes: &mut [u8]) -> io::Result<usize>
+    ensures { IfOk result (λ n. n ≤ length bytes.new) }
+{
+    let mut done = 0;
+    while done < bytes.len() {
+        let more = from.read(&mut bytes[done..])?;
+        if more == 0 {
+            break;
+        }
+        done += more;
+    }
+    Ok(done)
+}
+
 // Reads n bytes to the front of b, and tells whether they were there.
-fn read_string(b: &mut [u8], n: usize) -> bool
+fn read_string<R: Read>(from: &mut R, b: &mut [u8], n: usize) -> io::Result<bool>
     requires { n ≤ length b.old }
 {
-    io::read_full(STDIN_FILENO, &mut b[..n]) == n
+    Ok(read_full(from, &mut b[..n])? == n)
 }
 
 // Makes the call of a request, and tells whether there is one of that number.
-fn run<'a>(
+fn run<'a, W: Write>(
+    to: &mut W,
     request: &[u8; 28],
     a: usize,
     b: usize,
@@ -68,14 +78,15 @@ fn run<'a>(
     second: &'a [u8],
     out: &mut [u8],
     work: &mut [u64],
-) -> bool {
+) -> io::Result<bool> {
     let f = request[3];
     fill(out, f);
     fill_words(work, word_of(f));
-    if run_rolls(request[0], a, b, first, second, out, f) {
-        return true;
+    if run_rolls(to, request[0], a, b, first, second, out, f)? {
+        return Ok(true);
     }
     run_group(
+        to,
         request[0],
         a,
         u32_at(request, 4),
@@ -91,15 +102,17 @@ fn run<'a>(
 }
 
 // Answers one request, and tells whether it was one.
-fn answer(
+fn answer<R: Read, W: Write>(
+    from: &mut R,
+    to: &mut W,
     request: &[u8; 28],
     first: &mut [u8],
     second: &mut [u8],
     out: &mut [u8],
     work: &mut [u64],
-) -> bool {
+) -> io::Result<bool> {
     if !is_allowed(request) {
-        return false;
+        return Ok(false);
     }
     let a = u32_at(request, 4) as usize;
     let b = u32_at(request, 8) as usize;
@@ -108,24 +121,25 @@ fn answer(
     let n = u32_at(request, 20) as usize;
     let m = u32_at(request, 24) as usize;
     if words > work.len() {
-        return false;
+        return Ok(false);
     }
     if lent > out.len() {
-        return false;
+        return Ok(false);
     }
     if n > first.len() {
-        return false;
+        return Ok(false);
     }
     if m > second.len() {
-        return false;
+        return Ok(false);
     }
-    if !read_string(first, n) {
-        return false;
+    if !read_string(from, first, n)? {
+        return Ok(false);
     }
-    if !read_string(second, m) {
-        return false;
+    if !read_string(from, second, m)? {
+        return Ok(false);
     }
     run(
+        to,
         request,
         a,
         b,
@@ -136,26 +150,33 @@ fn answer(
     )
 }
 
-fn main() {
+fn main(rt: HostRuntime) -> io::Result<()> {
+    let mut from = BufReader::new(rt.alloc(), rt.reader())?;
+    let mut to = BufWriter::new(rt.alloc(), io::writer(&rt))?;
     let mut request = [0u8; 28];
     let mut first = [0u8; MOST_BYTES];
     let mut second = [0u8; MOST_BYTES];
     let mut out = [0u8; MOST_BYTES];
     let mut work = [0u64; MOST_WORDS];
-    let mut k = 0u64;
-    while k < MOST_REQUESTS {
-        let got = io::read_full(STDIN_FILENO, &mut request);
+    for _ in 0..MOST_REQUESTS {
+        let got = read_full(&mut from, &mut request)?;
         if got == 0 {
-            return;
+            break;
         }
-        if got < 28 {
-            text(b"bad request\n");
-            return;
+        if got < 28
+            || !answer(
+                &mut from,
+                &mut to,
+                &request,
+                &mut first,
+                &mut second,
+                &mut out,
+                &mut work,
+            )?
+        {
+            text(&mut to, b"bad request\n")?;
+            break;
         }
-        if !answer(&request, &mut first, &mut second, &mut out, &mut work) {
-            text(b"bad request\n");
-            return;
-        }
-        k += 1;
     }
+    to.flush()
 }

@@ -22,43 +22,53 @@ use pauli_group::order::partial_cmp;
 use pauli_group::promise::Promise;
 use pauli_group::quotient::try_quotient;
 use pauli_group::symplectic::symplectic_form_of;
+use std::io;
+use std::io::Write;
 
-fn run_check(first: &[u8], out: &[u8], f: u8) {
-    let c = check_roll(first);
-    match c {
-        Checked::Refused(r) => {
-            print_refusal(r);
-        }
+fn run_check<W: Write>(to: &mut W, first: &[u8], out: &[u8], f: u8) -> io::Result<()> {
+    match check_roll(first) {
+        Checked::Refused(r) => print_refusal(to, r)?,
         Checked::Count(n) => {
-            text(b"count ");
-            number(n as u64);
+            text(to, b"count ")?;
+            number(to, n as u64)?;
         }
     }
-    end_line(out, 0, f);
+    end_line(to, out, 0, f)
 }
 
-fn run_body<'a>(first: &'a [u8], second: &'a [u8], n: usize, out: &[u8], f: u8) {
-    text(b"body ");
-    print_bytes(joined_body(first, second, n));
-    end_line(out, 0, f);
+fn run_body<'a, W: Write>(
+    to: &mut W,
+    first: &'a [u8],
+    second: &'a [u8],
+    n: usize,
+    out: &[u8],
+    f: u8,
+) -> io::Result<()> {
+    text(to, b"body ")?;
+    print_bytes(to, joined_body(first, second, n))?;
+    end_line(to, out, 0, f)
 }
 
-fn run_entry(first: &[u8], second: &[u8], n: usize, out: &[u8], f: u8) {
-    let found = joined_entry(first, second, n);
-    match found {
-        EntryFound::Refused(r) => {
-            print_refusal(r);
-        }
+fn run_entry<W: Write>(
+    to: &mut W,
+    first: &[u8],
+    second: &[u8],
+    n: usize,
+    out: &[u8],
+    f: u8,
+) -> io::Result<()> {
+    match joined_entry(first, second, n) {
+        EntryFound::Refused(r) => print_refusal(to, r)?,
         EntryFound::Entry(e) => {
-            text(b"entry ");
-            number(e.exponent as u64);
-            text(b" ");
-            number(e.xcount as u64);
-            text(b" ");
-            number(e.zcount as u64);
+            text(to, b"entry ")?;
+            number(to, e.exponent as u64)?;
+            text(to, b" ")?;
+            number(to, e.xcount as u64)?;
+            text(to, b" ")?;
+            number(to, e.zcount as u64)?;
         }
     }
-    end_line(out, 0, f);
+    end_line(to, out, 0, f)
 }
 
 pub(crate) fn promise_of(n: u8) -> Promise {
@@ -72,32 +82,24 @@ pub(crate) fn promise_of(n: u8) -> Promise {
 }
 
 // A call on one list that writes nothing.
-fn run_list(op: u8, first: &[u8], promise: Promise, work: &mut [u64]) {
-    if op == 2 {
-        let found = rank(first, work);
-        print_rank(found);
-        return;
+fn run_list<W: Write>(
+    to: &mut W,
+    op: u8,
+    first: &[u8],
+    promise: Promise,
+    work: &mut [u64],
+) -> io::Result<()> {
+    match op {
+        2 => print_rank(to, rank(first, work)),
+        3 => print_phases(to, phases(first, promise, work)),
+        4 => print_decided(to, b"abelian", is_abelian(first, promise, work)),
+        5 => print_decided(to, b"stabilizer", is_stabilizer_group(first, promise, work)),
+        _ => print_size(to, log2_size(first, promise, work)),
     }
-    if op == 3 {
-        let found = phases(first, promise, work);
-        print_phases(found);
-        return;
-    }
-    if op == 4 {
-        let found = is_abelian(first, promise, work);
-        print_decided(b"abelian", found);
-        return;
-    }
-    if op == 5 {
-        let found = is_stabilizer_group(first, promise, work);
-        print_decided(b"stabilizer", found);
-        return;
-    }
-    let found = log2_size(first, promise, work);
-    print_size(found);
 }
 
-fn run_member(
+fn run_member<W: Write>(
+    to: &mut W,
     first: &[u8],
     second: &[u8],
     a: usize,
@@ -105,17 +107,18 @@ fn run_member(
     work: &mut [u64],
     out: &mut [u8],
     f: u8,
-) {
+) -> io::Result<()> {
     let found = indexed_factorization_of(first, second, a, promise, work, out);
-    let count = print_member(found);
+    let count = print_member(to, found)?;
     if count > MOST_BYTES {
-        return;
+        return Ok(());
     }
-    end_work_line(out, 2 * count, work, f);
+    end_work_line(to, out, 2 * count, work, f)
 }
 
 // A call on one list that writes a roll.
-fn run_written(
+fn run_written<W: Write>(
+    to: &mut W,
     op: u8,
     start: u32,
     count: u32,
@@ -123,21 +126,18 @@ fn run_written(
     first: &[u8],
     work: &mut [u64],
     out: &mut [u8],
-) -> usize {
-    if op == 1 {
-        let w = standard_generators(first, work, out);
-        return print_wrote(w);
-    }
-    if op == 8 {
-        let w = elements(first, promise, start, count, work, out);
-        return print_wrote(w);
-    }
-    let w = symplectic_form_of(first, work, out);
-    print_wrote(w)
+) -> io::Result<usize> {
+    let wrote = match op {
+        1 => standard_generators(first, work, out),
+        8 => elements(first, promise, start, count, work, out),
+        _ => symplectic_form_of(first, work, out),
+    };
+    print_wrote(to, wrote)
 }
 
 // A call on two lists that writes a roll.
-fn run_two(
+fn run_two<W: Write>(
+    to: &mut W,
     op: u8,
     p: Promise,
     q: Promise,
@@ -145,32 +145,23 @@ fn run_two(
     second: &[u8],
     work: &mut [u64],
     out: &mut [u8],
-) -> usize {
-    if op == 15 {
-        let w = modulo(first, second, p, q, work, out);
-        return print_wrote(w);
-    }
-    if op == 16 {
-        let w = try_quotient(first, second, p, q, work, out);
-        return print_wrote(w);
-    }
-    let w = bitand(first, second, p, q, work, out);
-    print_wrote(w)
+) -> io::Result<usize> {
+    let wrote = match op {
+        15 => modulo(first, second, p, q, work, out),
+        16 => try_quotient(first, second, p, q, work, out),
+        _ => bitand(first, second, p, q, work, out),
+    };
+    print_wrote(to, wrote)
 }
 
 // Whether the operation is a call on one list that writes a roll.
 fn writes_one(op: u8) -> bool {
-    if op == 1 {
-        return true;
-    }
-    if op == 8 {
-        return true;
-    }
-    op == 9
+    matches!(op, 1 | 8 | 9)
 }
 
 // A call on groups, and whether there is one of that number.
-pub(crate) fn run_group(
+pub(crate) fn run_group<W: Write>(
+    to: &mut W,
     op: u8,
     a: usize,
     start: u32,
@@ -182,43 +173,38 @@ pub(crate) fn run_group(
     work: &mut [u64],
     out: &mut [u8],
     f: u8,
-) -> bool {
+) -> io::Result<bool> {
     if writes_one(op) {
-        let n = run_written(op, start, count, p, first, work, out);
-        end_work_line(out, n, work, f);
-        return true;
+        let n = run_written(to, op, start, count, p, first, work, out)?;
+        end_work_line(to, out, n, work, f)?;
+        return Ok(true);
     }
-    if op < 7 {
-        run_list(op, first, p, work);
-        end_work_line(out, 0, work, f);
-        return true;
+    match op {
+        0..=6 => {
+            run_list(to, op, first, p, work)?;
+            end_work_line(to, out, 0, work, f)?;
+        }
+        7 => run_member(to, first, second, a, p, work, out, f)?,
+        14 => {
+            print_compared(to, partial_cmp(first, second, p, q, work))?;
+            end_work_line(to, out, 0, work, f)?;
+        }
+        18 => {
+            let n = print_wrote(to, closing_report(first, work, out))?;
+            end_line(to, out, n, f)?;
+        }
+        8..=17 => {
+            let n = run_two(to, op, p, q, first, second, work, out)?;
+            end_work_line(to, out, n, work, f)?;
+        }
+        _ => return Ok(false),
     }
-    if op == 7 {
-        run_member(first, second, a, p, work, out, f);
-        return true;
-    }
-    if op == 14 {
-        let found = partial_cmp(first, second, p, q, work);
-        print_compared(found);
-        end_work_line(out, 0, work, f);
-        return true;
-    }
-    if op == 18 {
-        let w = closing_report(first, work, out);
-        let n = print_wrote(w);
-        end_line(out, n, f);
-        return true;
-    }
-    if op > 17 {
-        return false;
-    }
-    let n = run_two(op, p, q, first, second, work, out);
-    end_work_line(out, n, work, f);
-    true
+    Ok(true)
 }
 
 // A call on rolls alone, and whether there is one of that number.
-pub(crate) fn run_rolls<'a>(
+pub(crate) fn run_rolls<'a, W: Write>(
+    to: &mut W,
     op: u8,
     a: usize,
     b: usize,
@@ -226,30 +212,20 @@ pub(crate) fn run_rolls<'a>(
     second: &'a [u8],
     out: &mut [u8],
     f: u8,
-) -> bool {
-    if op == 0 {
-        run_check(first, out, f);
-        return true;
+) -> io::Result<bool> {
+    match op {
+        0 => run_check(to, first, out, f)?,
+        10 => {
+            let n = print_wrote(to, product(first, a, second, b, out))?;
+            end_line(to, out, n, f)?;
+        }
+        11 => {
+            let n = print_wrote(to, join(first, second, out))?;
+            end_line(to, out, n, f)?;
+        }
+        12 => run_body(to, first, second, a, out, f)?,
+        13 => run_entry(to, first, second, a, out, f)?,
+        _ => return Ok(false),
     }
-    if op == 10 {
-        let w = product(first, a, second, b, out);
-        let n = print_wrote(w);
-        end_line(out, n, f);
-        return true;
-    }
-    if op == 11 {
-        let w = join(first, second, out);
-        let n = print_wrote(w);
-        end_line(out, n, f);
-        return true;
-    }
-    if op == 12 {
-        run_body(first, second, a, out, f);
-        return true;
-    }
-    if op == 13 {
-        run_entry(first, second, a, out, f);
-        return true;
-    }
-    false
+    Ok(true)
 }

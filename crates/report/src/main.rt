@@ -1,6 +1,7 @@
 // The report program: an input of the closing listing in, its text out.
 
 #![tactic(auto)]
+
 ghost use Rattle.std.specs.Prelude.{◌≡◌, ◌≤◌, ◌<◌, length, take};
 ghost use Rattle.closing_report.specs.InputRolls.{most_input};
 ghost use Rattle.closing_report.specs.Listing.{text_of};
@@ -8,39 +9,36 @@ ghost use Rattle.report.specs.Reading.{Within};
 
 use closing_report::input::MOST_INPUT;
 use closing_report::report::{MOST_TEXT, closing_report};
-use libc::{STDERR_FILENO, STDIN_FILENO, STDOUT_FILENO};
 use pauli::write::Wrote;
 use pauli_group::area::WORK_WORDS;
+use std::io;
+use std::io::Read;
 
 // How many bytes were read, or that a read failed.
-#[derive(Drop)]
+#[derive(Clone, Copy)]
 enum Reading {
     Bytes(usize),
     Failed,
 }
 
-// One read from standard input into the slice: no bytes where the input ends.
-fn read_some(bytes: &mut [u8]) -> Reading
+// One read into the slice: no bytes where the input ends.
+fn read_some<R: Read>(from: &mut R, bytes: &mut [u8]) -> Reading
     ensures { Within result (length bytes.new) }
 {
-    let got = libc::read(STDIN_FILENO, bytes);
-    if got < 0 {
-        return Reading::Failed;
+    match from.read(bytes) {
+        Ok(got) => Reading::Bytes(got),
+        Err(_) => Reading::Failed,
     }
-    Reading::Bytes(io::count(got, bytes))
 }
 
 // Reads until the slice is full or the input ends.
-fn read_to_end(bytes: &mut [u8]) -> Reading
+fn read_to_end<R: Read>(from: &mut R, bytes: &mut [u8]) -> Reading
     ensures { Within result (length bytes.new) }
 {
     let mut done = 0;
     while done < bytes.len() {
-        let reading = read_some(&mut bytes[done..]);
-        let more = match reading {
-            Reading::Failed => {
-                return Reading::Failed;
-            }
+        let more = match read_some(from, &mut bytes[done..]) {
+            Reading::Failed => return Reading::Failed,
             Reading::Bytes(more) => more,
         };
         if more == 0 {
@@ -53,11 +51,11 @@ fn read_to_end(bytes: &mut [u8]) -> Reading
 
 // Reads the input into a buffer that has room for one byte more than an input may have, so that a longer input is told from the
 // longest one.
-fn read_input(input: &mut [u8; MOST_INPUT + 1]) -> Reading
+fn read_input<R: Read>(from: &mut R, input: &mut [u8; MOST_INPUT + 1]) -> Reading
     ensures within { Within result (length input.new) }
     ensures longer { most_input < length input.new }
 {
-    read_to_end(input)
+    read_to_end(from, input)
 }
 
 // Puts the text of the first n bytes at the front of the output, and tells its length. With so much room no call is refused.
@@ -79,21 +77,19 @@ fn text_of(
     }
 }
 
-fn main() {
+fn main(rt: HostRuntime) -> io::Result<()> {
     let mut input = [0u8; MOST_INPUT + 1];
     let mut work = [0u64; WORK_WORDS];
     let mut out = [0u8; MOST_TEXT];
-    let reading = read_input(&mut input);
-    let n = match reading {
+    let n = match read_input(&mut rt.reader(), &mut input) {
         Reading::Failed => {
-            io::write_all(STDERR_FILENO, b"report: the input could not be read\n");
-            return;
+            return eprintln!(rt; "report: the input could not be read");
         }
         Reading::Bytes(n) => n,
     };
     let size = text_of(&input, n, &mut work, &mut out);
-    let written = io::write_all(STDOUT_FILENO, &out[..size]);
-    if !written {
-        io::write_all(STDERR_FILENO, b"report: the output could not be written\n");
+    if rt.write_all(&out[..size]).is_err() {
+        return eprintln!(rt; "report: the output could not be written");
     }
+    Ok(())
 }

@@ -1,8 +1,7 @@
 -- The answers of the lookup of a joined body.
-use mathlib.Core.Path.{◌≡◌, refl, sym, ap, ◌∙◌}
+use mathlib.Core.Path.{◌≡◌, sym}
 use mathlib.Core.List.{List}
 use Prim.Native.Nat.{ℕ, ◌+◌, ◌-◌, ◌*◌, ◌≤◌, ◌<◌}
-use native.Mathlib.Omega.{arith}
 use Rattle.pauli.specs.declared.roll.Entry.{Entry as CodeEntry}
 use Rattle.pauli.specs.RollAnswers.{told_entry}
 use Rattle.pauli.specs.Roll.{entry_at, count_of}

@@ -1,5 +1,5 @@
 -- Laws of the rolls of an input, test by test.
-use mathlib.Core.Path.{◌≡◌, sym, ap, ◌∙◌, subst}
+use mathlib.Core.Path.{◌≡◌, sym, ap, ◌∙◌}
 use mathlib.Core.List.{List}
 use Prim.Native.Nat.{ℕ, ◌+◌, ◌-◌, ◌≤◌, ◌<◌}
 use native.Mathlib.Omega.{arith}
@@ -11,7 +11,7 @@ use Rattle.pauli.specs.Told.{answer, refused}
 use Rattle.pauli.proofs.roll.Told.{test_pass, test_refuses}
 use Rattle.closing_report.specs.declared.input.Split.{Split}
 use Rattle.closing_report.specs.declared.input.Split.TheVariants.{At}
-use Rattle.closing_report.specs.InputRolls.{most_input, Rolls, rolls_in}
+use Rattle.closing_report.specs.InputRolls.{most_input, rolls_in}
 use Rattle.closing_report.specs.Split.{rolls_told, SplitWithin}
 
 module _ (input : List ℕ) where

@@ -1,11 +1,10 @@
 -- Laws of one Pauli of an accepted roll: where its body stands, and what it is.
-use Rattle.std.proofs.Common.{◌≡◌, ℕ, zero, suc, ◌+◌, ◌*◌, ◌<◌, ◌≤◌, List, [], ◌∷◌, length, get_or, sym, refl, ap, ◌∙◌, subst, ap₂, arith}
+use Rattle.std.proofs.Common.{◌≡◌, ℕ, zero, suc, ◌+◌, ◌*◌, ◌<◌, ◌≤◌, List, [], ◌∷◌, length, get_or, sym, ap, ◌∙◌, ap₂, arith}
 use Rattle.pauli.specs.declared.roll.Entry.{Entry as CodeEntry}
 use Rattle.pauli.specs.RollAnswers.{told_entry}
 use Rattle.pauli.specs.Told.{answer}
 use Rattle.pauli.specs.Bytes.{u16_at, numbers_at}
 use Rattle.pauli.specs.Roll.{Sparse, Entry, entry_at, entries_at, read}
-use Rattle.pauli.specs.Condense.{list_of, nothing}
 use Rattle.pauli.proofs.roll.Entries.{length_entries, get_or_entries}
 use Rattle.pauli.proofs.roll.Paulis.{counted, Placed, body_at}
 use Rattle.pauli.proofs.roll.RollLaws.{Parts, answer_parts, parts_count, read_pauli}

@@ -1,23 +1,21 @@
 -- Laws of the product of two Paulis of rolls: the refusals in turn, and the product over the joined support.
-use Rattle.std.proofs.Common.{◌≡◌, ℕ, zero, suc, ◌+◌, ◌-◌, ◌*◌, ◌/◌, ◌%◌, ◌^◌, ◌<◌, ◌≤◌, min, ltb, leb, List, [], ◌∷◌, ◌++◌, map, length, get_or, take, drop, sym, refl, ap, ◌∙◌, subst, ap₂, arith, le-ltb, lt-ltb, le-leb}
+use Rattle.std.proofs.Common.{◌≡◌, ℕ, ◌<◌, ◌≤◌, List, [], ◌∷◌, ◌++◌, length, get_or, take, sym, refl, ap, ◌∙◌, subst, ap₂, arith, le-ltb, lt-ltb, le-leb}
 use mathlib.Core.List.Memᴰ
 use mathlib.Core.List.{Memᴰ as Mem}
-use native.Mathlib.Nat.{sub-zero}
 use borrow.Author.Tests.{lt-leb}
 use lib.Seq.{sets}
-use Rattle.binar.specs.Row.{◌⊕◌, dot}
+use Rattle.binar.specs.Row.{◌⊕◌}
 use Rattle.binar.proofs.Lists.{all_get}
-use Rattle.pauli.specs.Told.{Told, answer, refused, refuse_if, and_then, map_told}
-use Rattle.pauli.specs.Bytes.{u16_at, numbers_at}
-use Rattle.pauli.specs.Roll.{Sparse, support, numbers, read, count_of, by_value, encode, write}
-use Rattle.pauli.specs.Support.{most_qubits, insert_all, All, Rising}
+use Rattle.pauli.specs.Told.{Told, answer, refused, refuse_if, and_then}
+use Rattle.pauli.specs.Roll.{Sparse, support, read, count_of, encode, write}
+use Rattle.pauli.specs.Support.{most_qubits}
 use Rattle.pauli.specs.RollTheorems.{AllowedSet}
 use Rattle.pauli.specs.declared.signed.Pauli.{Pauli as Held}
-use Rattle.pauli.specs.Pauli.{Pauli, times, normal, select}
+use Rattle.pauli.specs.Pauli.{Pauli, times, normal}
 use Rattle.pauli.specs.Signed.{held, pauli_in, pauli_words, list_in}
 use Rattle.pauli.specs.PlaceSet.{set_in}
-use Rattle.pauli.specs.Sets.{members, condense, expand, pauli_of, set_of, sparse_of}
-use Rattle.pauli.specs.PauliTheorems.{On, PauliOn}
+use Rattle.pauli.specs.Sets.{pauli_of, sparse_of}
+use Rattle.pauli.specs.PauliTheorems.{PauliOn}
 use Rattle.pauli.specs.Known.{Gathered}
 use Rattle.pauli.specs.Writing.{sparse_over, roll_over, told_bytes, left_in, OnPlaces}
 use Rattle.pauli.specs.Condense.{list_of, nothing, condensed, Covered, Readable}
@@ -25,14 +23,13 @@ use Rattle.pauli.specs.declared.write.Wrote.{Wrote}
 use Rattle.pauli.specs.WriteAnswers.{told_wrote}
 use Rattle.pauli.specs.Product.{product_over, product_bytes}
 use Rattle.pauli.specs.ProductContract.{ProductCall}
-use Rattle.pauli.specs.JoinCalls.{Lists, read_both, few_qubits, within, product_of}
-use Rattle.pauli.proofs.signed.Algebra.{pauli_path}
+use Rattle.pauli.specs.JoinCalls.{read_both, few_qubits, within, product_of}
 use Rattle.pauli.proofs.roll.Checks.{AllowedSets}
 use Rattle.pauli.proofs.support.Lists.{in_get_or, all_in}
 use Rattle.pauli.proofs.roll.ListSupport.{support_rises, sets_in_support}
 use Rattle.pauli.proofs.joined.JoinLaws.{accepted, count_refused}
 use Rattle.pauli.proofs.write.Condensed.{condensed_times, sparse_over_lem}
-use Rattle.pauli.proofs.condense.Places.{select_rises, condense_lt, condense_sum, condense_dot, expand_condense}
+use Rattle.pauli.proofs.condense.Places.{condense_lt, condense_sum}
 use Rattle.pauli.proofs.condense.Rows.{on_times}
 use Rattle.pauli.proofs.condense.PauliTheorems.{support_law}
 use Rattle.pauli.proofs.roll.RollLaws.{answer_parts}

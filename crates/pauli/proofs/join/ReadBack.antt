@@ -1,5 +1,5 @@
 -- Lists of Paulis within the limits, written and read back; and what the first bytes of an output are, by what its call told and left.
-use Rattle.std.proofs.Common.{◌≡◌, ℕ, ◌+◌, ◌<◌, ◌≤◌, ltb, leb, List, [], ◌∷◌, ◌++◌, map, length, get_or, take, drop, sym, refl, ap, ◌∙◌, subst, ap₂, ⊎_elim, arith, take_at, ltb-false, leb-false}
+use Rattle.std.proofs.Common.{◌≡◌, ℕ, ◌+◌, ◌≤◌, List, [], ◌∷◌, ◌++◌, map, length, get_or, take, drop, sym, refl, ap, ◌∙◌, subst, ap₂, ⊎_elim, arith, take_at, ltb-false, leb-false}
 use mathlib.Core.List.Memᴰ
 use mathlib.Core.List.Memᴰ.{append_cases as in-append}
 use mathlib.Core.List.{map-map, Memᴰ as Mem}
@@ -7,13 +7,13 @@ use lib.ListN.{length-map}
 use Rattle.binar.proofs.Lists.{all_join, all_map, all_over}
 use Rattle.pauli.specs.declared.write.Wrote.{Wrote}
 use Rattle.pauli.specs.WriteAnswers.{told_wrote}
-use Rattle.pauli.specs.Told.{Told, answer, refused, refuse_if, and_then}
-use Rattle.pauli.specs.Roll.{most_paulis, highest_qubit, Sparse, numbers, support, read, encode, write, by_value}
+use Rattle.pauli.specs.Told.{Told, answer, refused, and_then}
+use Rattle.pauli.specs.Roll.{most_paulis, highest_qubit, Sparse, numbers, support, read, write, by_value}
 use Rattle.pauli.specs.Support.{most_qubits, All, Rising}
 use Rattle.pauli.specs.RollTheorems.{AllowedSet}
 use Rattle.pauli.specs.Pauli.{Pauli, normal, times}
 use Rattle.pauli.specs.PauliTheorems.{On, PauliOn}
-use Rattle.pauli.specs.Sets.{set_of, members, pauli_of, sparse_of}
+use Rattle.pauli.specs.Sets.{members, pauli_of, sparse_of}
 use Rattle.pauli.specs.Condense.{nothing}
 use Rattle.pauli.specs.Writing.{put_bytes, told_bytes, left_in}
 use Rattle.pauli.specs.JoinCalls.{read_both, few_qubits, within, product_of, join_of}

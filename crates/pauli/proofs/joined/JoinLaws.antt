@@ -1,5 +1,5 @@
 -- Laws of two rolls joined: what is told of them, where a joined generator stands, and the roll that is written.
-use Rattle.std.proofs.Common.{◌≡◌, ℕ, zero, suc, ◌+◌, ◌-◌, ◌*◌, ◌%◌, ◌<◌, ◌≤◌, min, Bool, true, false, ltb, List, [], ◌∷◌, ◌++◌, map, length, get_or, take, drop, set, sym, refl, ap, ◌∙◌, subst, ap₂, append_assoc, append-nil, add-zero, zero-add, add-one, arith, length-append, length-set, drop_of_length-le, drop-cons, get_or-append-add, ltb-false, le-ltb, lt-ltb, le-leb}
+use Rattle.std.proofs.Common.{◌≡◌, ℕ, suc, ◌+◌, ◌-◌, ◌*◌, ◌%◌, ◌<◌, ◌≤◌, min, Bool, true, false, ltb, List, [], ◌∷◌, ◌++◌, map, length, get_or, take, drop, set, sym, refl, ap, ◌∙◌, subst, ap₂, append_assoc, append-nil, add-zero, zero-add, add-one, arith, length-append, length-set, drop_of_length-le, drop-cons, get_or-append-add, ltb-false, le-ltb, lt-ltb, le-leb}
 use mathlib.Core.List.{map-append}
 use borrow.Author.Tests.{lt-leb}
 use lib.ListN.{length-map, get_or-append}
@@ -9,16 +9,16 @@ use Rattle.pauli.specs.declared.roll.Entry.{Entry as CodeEntry}
 use Rattle.pauli.specs.Told.{Told, answer, refused, refuse_if, and_then, map_told}
 use Rattle.pauli.specs.RollAnswers.{told_entry}
 use Rattle.pauli.specs.Bytes.{u16_at, numbers_at, le16, le32s}
-use Rattle.pauli.specs.Roll.{most_paulis, Sparse, Entry, entry_at, entries_at, numbers, support, read, count_of, entry, table, bodies, encode, by_value, write}
+use Rattle.pauli.specs.Roll.{most_paulis, Sparse, entry_at, numbers, support, read, count_of, entry, table, bodies, encode, by_value, write}
 use Rattle.pauli.specs.Support.{most_qubits, insert_all}
 use Rattle.pauli.specs.Known.{Gathered}
 use Rattle.pauli.specs.Condense.{list_of, nothing}
 use Rattle.pauli.specs.declared.write.Wrote.{Wrote}
 use Rattle.pauli.specs.WriteAnswers.{told_wrote}
 use Rattle.pauli.specs.JoinContract.{JoinCall}
-use Rattle.pauli.specs.JoinCalls.{Lists, read_both, few_qubits, within, joined_of, Counts, counts_of, join_of, Looked, looked_up, entry_of, stretch_in, stretch_of, bytes_of, body_in, or_empty, body_of}
+use Rattle.pauli.specs.JoinCalls.{Lists, read_both, few_qubits, within, joined_of, Counts, counts_of, join_of, looked_up, entry_of, stretch_in, stretch_of, bytes_of, body_in, or_empty, body_of}
 use Rattle.pauli.specs.Writing.{put_bytes, entry_bytes, told_bytes, left_in}
-use Rattle.pauli.proofs.roll.Told.{refused_none, test_pass, test_refuses, test_passed, answered}
+use Rattle.pauli.proofs.roll.Told.{refused_none, test_pass, test_refuses, test_passed}
 use Rattle.pauli.proofs.support.Lists.{AllBytes, drop_one}
 use Rattle.pauli.proofs.roll.BytesLaws.{length_numbers, length_le16, le32s_append, numbers_written}
 use Rattle.pauli.proofs.roll.ListSupport.{numbers_append, numbers_by_value}
@@ -28,7 +28,7 @@ use Rattle.pauli.proofs.roll.Entries.{length_entries_bytes}
 use Rattle.pauli.proofs.roll.RollLaws.{answer_parts, length_encode}
 use Rattle.pauli.proofs.roll.ReaderLaws.{count_read, counted_bound, read_numbers, read_length, read_joined, gathered_all}
 use Rattle.pauli.proofs.condense.BodyLaws.{read_count, entry_room, body_room, exponent_is, xs_is, zs_is}
-use Rattle.pauli.proofs.write.Puts.{put_byte, put_nothing, Left, left_start, left_same, left_step, left_room, left_done}
+use Rattle.pauli.proofs.write.Puts.{put_byte, put_nothing, Left, left_start, left_step, left_room, left_done}
 use Rattle.pauli.proofs.write.Writers.{length_entry_bytes}
 
 -- ---- an accepted roll

@@ -1,5 +1,5 @@
 -- Laws of a set of places held in two words.
-use Rattle.std.proofs.Common.{◌≡◌, ℕ, zero, suc, ◌+◌, ◌-◌, ◌*◌, ◌/◌, ◌%◌, ◌^◌, ◌<◌, ◌≤◌, eqb, sym, refl, ap, ◌∙◌, ap₂, add_comm, arith, eq-eqb, ne_eqb}
+use Rattle.std.proofs.Common.{◌≡◌, ℕ, ◌+◌, ◌-◌, ◌*◌, ◌%◌, ◌^◌, ◌<◌, ◌≤◌, eqb, sym, ap, ◌∙◌, add_comm, arith, eq-eqb, ne_eqb}
 use native.Mathlib.Decide.{dec_lt}
 use lib.Bits.{bit_and, bit_or, bit_xor, and_block, or_block, xor_block, and_lt, and_le_l, and_le_r, or_add_and}
 use lib.Count.{ones, ones_cat}

@@ -1,10 +1,10 @@
 -- Laws of signed Paulis as the code holds them: exponents that wrap, and lists of Paulis in words.
-use Rattle.std.proofs.Common.{◌≡◌, ℕ, zero, suc, ◌+◌, ◌-◌, ◌*◌, ◌/◌, ◌%◌, ◌^◌, ◌<◌, ◌≤◌, Bool, true, false, eqb, List, [], ◌∷◌, length, get_or, set, sym, refl, ap, ◌∙◌, subst, ap₂, add-zero, add_assoc, add-one, arith, shr-shr, eq-eqb, ne_eqb}
+use Rattle.std.proofs.Common.{◌≡◌, ℕ, zero, suc, ◌+◌, ◌-◌, ◌*◌, ◌/◌, ◌%◌, ◌^◌, ◌<◌, ◌≤◌, false, eqb, List, [], ◌∷◌, set, sym, refl, ap, ◌∙◌, ap₂, add-one, arith, shr-shr, ne_eqb}
 use native.Mathlib.Nat.{add-mod}
 use native.Mathlib.Decide.{dec_lt}
 use lib.Pow.{mod-mod-pow}
 use lib.Seq.{sets}
-use Rattle.binar.specs.Row.{bit, if_bit}
+use Rattle.binar.specs.Row.{bit}
 use Rattle.pauli.specs.Pauli.{Pauli, I, normal, times, product_from, product, cons_if, select, indexed_product}
 use Rattle.pauli.specs.Signed.{pauli_in, list_in}
 use Rattle.pauli.proofs.signed.Algebra.{times_normal_l}

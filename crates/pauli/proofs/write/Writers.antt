@@ -1,16 +1,16 @@
 -- Laws of the writer of rolls: Paulis in words, taken one by one.
-use Rattle.std.proofs.Common.{◌≡◌, ℕ, zero, suc, ◌+◌, ◌-◌, ◌*◌, ◌/◌, ◌%◌, ◌^◌, ◌<◌, ◌≤◌, List, [], ◌∷◌, ◌++◌, map, length, take, drop, sym, refl, ap, ◌∙◌, subst, ap₂, append_assoc, zero-add, arith, length-append, le-ltb, lt-ltb}
+use Rattle.std.proofs.Common.{◌≡◌, ℕ, zero, suc, ◌+◌, ◌-◌, ◌*◌, ◌/◌, ◌%◌, ◌^◌, ◌<◌, ◌≤◌, List, [], ◌∷◌, ◌++◌, map, length, sym, refl, ap, ◌∙◌, subst, ap₂, append_assoc, zero-add, arith, length-append, le-ltb, lt-ltb}
 use lib.Count.{ones, ones_step}
 use lib.ListN.{length-map}
 use Rattle.binar.specs.Row.{weight}
 use Rattle.binar.proofs.row.Bits.{ones_zero}
 use Rattle.pauli.specs.declared.signed.Pauli.{Pauli as Held}
 use Rattle.pauli.specs.Bytes.{le16, le32, le32s}
-use Rattle.pauli.specs.Roll.{Sparse, numbers, entry, table, bodies, encode}
+use Rattle.pauli.specs.Roll.{numbers, entry, table, bodies, encode}
 use Rattle.pauli.specs.Pauli.{Pauli, normal, cons_if, select}
 use Rattle.pauli.specs.Signed.{held, pauli_in, list_in}
 use Rattle.pauli.specs.PlaceSet.{set_in}
-use Rattle.pauli.specs.Told.{Told, answer, refused, refuse_if}
+use Rattle.pauli.specs.Told.{answer, refused, refuse_if}
 use Rattle.pauli.specs.Writing.{put_bytes, entry_bytes, numbers_of, table_of, sparse_over, OnPlaces, roll_over, told_bytes, left_in}
 use Rattle.pauli.proofs.roll.BytesLaws.{length_le32s, le32s_append}
 use Rattle.pauli.proofs.write.Puts.{put_append, Left, left_step, left_room}

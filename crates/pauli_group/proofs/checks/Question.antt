@@ -1,6 +1,5 @@
 -- An element put to a list: what the checks tell.
-use Rattle.std.proofs.Common.{◌≡◌, ℕ, ◌<◌, ◌≤◌, Bool, true, false, ltb, leb, List, map, length, get_or, sym, refl, ap, ◌∙◌, arith, ltb-false, le-ltb, lt-ltb, le-leb, leb-false}
-use mathlib.Core.Option.{none}
+use Rattle.std.proofs.Common.{◌≡◌, ℕ, ◌<◌, ◌≤◌, Bool, true, false, ltb, leb, List, length, get_or, sym, refl, ap, ◌∙◌, arith, ltb-false, le-ltb, lt-ltb, le-leb, leb-false}
 use borrow.Author.Tests.{lt-leb}
 use Rattle.pauli.specs.declared.joined.CountsFound.{CountsFound}
 use Rattle.pauli.specs.declared.joined.CountsFound.TheVariants.{Counts as CountsTold, Refused as CountsRefused}
@@ -10,13 +9,11 @@ use Rattle.pauli.specs.Refusals.{told_refusal}
 use Rattle.pauli.specs.JoinAnswers.{told_counts}
 use Rattle.pauli.specs.JoinCalls.{Lists, read_both, within, Counts}
 use Rattle.pauli.specs.Condense.{list_of, nothing}
-use Rattle.pauli.specs.Pauli.{Pauli}
 use Rattle.pauli.specs.Roll.{most_paulis, read, count_of}
 use Rattle.pauli.specs.Sets.{pauli_of}
 use Rattle.pauli.specs.Told.{Told, answer, refused, refuse_if, and_then, map_told}
 use Rattle.pauli.proofs.joined.JoinLaws.{accepted, accepted_few}
 use Rattle.pauli.proofs.roll.Told.{refused_none, test_pass, test_refuses, test_passed, map_refused}
-use Rattle.pauli_group.specs.declared.answers.MemberFound.TheVariants.{Refused}
 use Rattle.pauli_group.specs.WorkArea.{work_words, enough}
 use Rattle.pauli_group.specs.Calls.{paulis, question, question_counts}
 

@@ -1,5 +1,5 @@
 -- Laws of the call for membership: what is told, and the output and the work area that are left.
-use Rattle.std.proofs.Common.{◌≡◌, ℕ, ◌+◌, ◌*◌, ◌%◌, ◌^◌, ◌<◌, ◌≤◌, true, false, ltb, List, ◌++◌, map, length, get_or, take, drop, sym, ap, ◌∙◌, arith, le-ltb, lt-ltb}
+use Rattle.std.proofs.Common.{◌≡◌, ℕ, ◌*◌, ◌%◌, ◌^◌, ◌<◌, ◌≤◌, true, false, ltb, List, ◌++◌, map, length, get_or, take, drop, sym, ap, ◌∙◌, arith, le-ltb, lt-ltb}
 use mathlib.Core.Option.{Option, some, none, some-injective}
 use lib.ListN.{length-map}
 use Rattle.binar.specs.Row.{weight}
@@ -10,7 +10,7 @@ use Rattle.pauli.specs.Refusals.{told_refusal}
 use Rattle.pauli.specs.Condense.{list_of, nothing}
 use Rattle.pauli.specs.Pauli.{Pauli, indexed_product}
 use Rattle.pauli.specs.Sets.{members, row_of, pauli_of}
-use Rattle.pauli.specs.Told.{Told, answer, refused, refuse_if, map_told}
+use Rattle.pauli.specs.Told.{answer, refuse_if, map_told}
 use Rattle.pauli.specs.Writing.{put_bytes}
 use Rattle.pauli_theory.specs.Group.{Promise}
 use Rattle.pauli_theory.specs.Membership.{Factorization, outside, exponent_left, with_phase, factorization_of}

@@ -1,10 +1,10 @@
 -- The echelon form that is made of the rows of a list.
-use Rattle.std.proofs.Common.{◌≡◌, ℕ, zero, suc, ◌+◌, ◌-◌, ◌*◌, ◌/◌, ◌%◌, ◌^◌, ◌<◌, ◌≤◌, Bool, true, false, List, [], ◌∷◌, ◌++◌, map, length, get_or, take, drop, sym, refl, ap, ◌∙◌, subst, ap₂, lt_of_lt_of_le, arith, length-append, length-drop, get_or-drop, get_or-append-add, pow_pos, pow_mono, le-leb}
+use Rattle.std.proofs.Common.{◌≡◌, ℕ, zero, suc, ◌+◌, ◌-◌, ◌*◌, ◌^◌, ◌<◌, ◌≤◌, true, List, ◌++◌, map, length, get_or, drop, sym, refl, ap, ◌∙◌, subst, ap₂, lt_of_lt_of_le, arith, length-append, length-drop, get_or-drop, get_or-append-add, pow_pos, pow_mono, le-leb}
 use native.Mathlib.Decide.{dec_lt}
 use lib.ListN.{length-map, get_or-eq_default}
 use Rattle.binar.specs.declared.matrix_form.Formation.{Formation}
 use Rattle.binar.specs.declared.matrix_form.Formation.TheVariants.{Rank, Misfit}
-use Rattle.binar.specs.Echelon.{Reduction, EchelonForm, echelon, echelonize, beside_identity, rank as echelon_rank}
+use Rattle.binar.specs.Echelon.{echelon, rank as echelon_rank}
 use Rattle.binar.specs.Layout.{form_stride, fits, formed, FormIs, form_in, pick}
 use Rattle.binar.specs.Laid.{laid_out}
 use Rattle.binar.specs.Words.{matrix, image}
@@ -19,7 +19,7 @@ use Rattle.pauli.specs.Writing.{OnPlaces}
 use Rattle.pauli_group.specs.Inner.Area.{row_words, stride_of, Outside}
 use Rattle.pauli_group.specs.Inner.Lists.{row_over, form_over}
 use Rattle.pauli_group.proofs.area.AreaLaws.{form_room_more}
-use Rattle.pauli_group.proofs.list.ListLaws.{list_map_at, on_places_at, outside_join, outside_wider}
+use Rattle.pauli_group.proofs.list.ListLaws.{list_map_at, on_places_at, outside_join}
 use Rattle.pauli_group.proofs.rows.RowLaws.{row_lt}
 
 -- ---- what stands behind a matrix

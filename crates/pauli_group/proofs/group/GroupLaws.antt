@@ -1,10 +1,10 @@
 -- The group of a list in the work area: from the roll's Paulis over the places of their support.
-use Rattle.std.proofs.Common.{◌≡◌, ℕ, zero, suc, ◌+◌, ◌-◌, ◌*◌, ◌<◌, ◌≤◌, min, List, [], ◌∷◌, ◌++◌, map, length, take, sym, refl, ap, ◌∙◌, subst, ap₂, arith, length-append}
+use Rattle.std.proofs.Common.{◌≡◌, ℕ, ◌+◌, ◌*◌, ◌≤◌, List, [], ◌++◌, map, length, take, sym, refl, ap, ◌∙◌, subst, ap₂, arith, length-append}
 use mathlib.Core.List.{map-append, Memᴰ as Mem}
 use lib.ListN.{length-map}
-use Rattle.binar.specs.Echelon.{EchelonForm, rank as echelon_rank}
+use Rattle.binar.specs.Echelon.{rank as echelon_rank}
 use Rattle.pauli.specs.Bytes.{numbers_at}
-use Rattle.pauli.specs.Condense.{list_of, condensed, Readable}
+use Rattle.pauli.specs.Condense.{list_of, condensed}
 use Rattle.pauli.specs.Known.{Gathered}
 use Rattle.pauli.specs.Pauli.{Pauli, normal}
 use Rattle.pauli.specs.Roll.{Sparse, numbers, support, count_of}
@@ -14,13 +14,13 @@ use Rattle.pauli.specs.Signed.{list_in}
 use Rattle.pauli.specs.Told.{answer}
 use Rattle.pauli.specs.Writing.{OnPlaces}
 use Rattle.pauli.proofs.joined.JoinLaws.{accepted, accepted_joined}
-use Rattle.pauli.proofs.join.ProductLaws.{Accepted, count_accepted, readable}
+use Rattle.pauli.proofs.join.ProductLaws.{count_accepted, readable}
 use Rattle.pauli.proofs.roll.RollLaws.{answer_parts}
 use Rattle.pauli_theory.specs.Group.{Promise, none, abelian, notAbelian}
 use Rattle.pauli_theory.specs.Standard.{support_of, form_of, standard, rank, nonabelian, phase_step, stabilizer, step_of}
 use Rattle.pauli_theory.proofs.Theorems.{group_laws}
 use Rattle.pauli_theory.proofs.ByProducts.{standard_by_products}
-use Rattle.pauli_theory.proofs.OverPlaces.{placed, places_on, places_echelon, places_rank, places_standard, places_nonabelian, places_phase_step, places_stabilizer}
+use Rattle.pauli_theory.proofs.OverPlaces.{places_on, places_echelon, places_rank, places_standard, places_nonabelian, places_phase_step, places_stabilizer}
 use Rattle.pauli_theory.proofs.Written.{support_of_lem, placed_roll}
 use Rattle.pauli_group.specs.Inner.Area.{list_at, standard_at, Outside}
 use Rattle.pauli_group.specs.Inner.Groups.{products_named, Built, over_support, Grouped, Facts, facts_in, facts_of}

@@ -1,5 +1,5 @@
 -- Laws of a group in the area, and of the numbers that are told of it.
-use Rattle.std.proofs.Common.{◌≡◌, ℕ, zero, suc, ◌+◌, ◌-◌, ◌<◌, ◌≤◌, max, List, [], ◌++◌, length, take, drop, sym, ap, ◌∙◌, append-nil, arith, drop_of_length-le, length-take-le}
+use Rattle.std.proofs.Common.{◌≡◌, ℕ, ◌+◌, ◌<◌, ◌≤◌, max, List, [], ◌++◌, length, take, drop, sym, ap, ◌∙◌, append-nil, arith, drop_of_length-le, length-take-le}
 use lib.ListN.{length-map}
 use Rattle.binar.specs.Words.{words, put_row}
 use Rattle.pauli.specs.Condense.{list_of}

@@ -1,5 +1,5 @@
 -- A group in the area stays there when only other words change.
-use Rattle.std.proofs.Common.{◌≡◌, ℕ, ◌+◌, ◌*◌, ◌<◌, ◌≤◌, List, length, ◌∙◌, arith}
+use Rattle.std.proofs.Common.{◌≡◌, ℕ, ◌*◌, ◌≤◌, List, length, ◌∙◌, arith}
 use Rattle.pauli.specs.Pauli.{Pauli}
 use Rattle.pauli_theory.proofs.ByProducts.{rank_le}
 use Rattle.pauli_group.specs.Inner.Area.{target_at, list_at, standard_at, further_at, row_words, stride_of, Outside}

@@ -1,5 +1,5 @@
 -- Laws of a target written behind a form, and of the set that solving for it leaves in the target's row.
-use Rattle.std.proofs.Common.{◌≡◌, ℕ, zero, suc, ◌+◌, ◌-◌, ◌*◌, ◌/◌, ◌%◌, ◌^◌, ◌<◌, ◌≤◌, eqb, List, length, take, drop, sym, refl, ap, ◌∙◌, subst, ap₂, lt_of_lt_of_le, arith, pow_mono}
+use Rattle.std.proofs.Common.{◌≡◌, ℕ, ◌+◌, ◌-◌, ◌*◌, ◌/◌, ◌%◌, ◌^◌, ◌<◌, ◌≤◌, eqb, List, length, take, drop, sym, refl, ap, ◌∙◌, subst, ap₂, lt_of_lt_of_le, arith, pow_mono}
 use mathlib.Core.Option.{some, none}
 use Rattle.binar.specs.declared.matrix_form.Solution.TheVariants.{Set, NoSet}
 use Rattle.binar.specs.Layout.{form_stride, form_in, FormLeft, swept, solution}

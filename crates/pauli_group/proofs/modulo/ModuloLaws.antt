@@ -1,5 +1,5 @@
 -- Laws of the call for the remainder: the two groups in the area, and what is left of the first.
-use Rattle.std.proofs.Common.{◌≡◌, ℕ, ◌+◌, ◌*◌, ◌%◌, ◌^◌, ◌<◌, ◌≤◌, List, ◌++◌, map, length, get_or, take, drop, sym, refl, ap, ◌∙◌, subst, ap₂, arith, length-take-le}
+use Rattle.std.proofs.Common.{◌≡◌, ℕ, ◌*◌, ◌<◌, ◌≤◌, List, ◌++◌, map, length, get_or, take, drop, sym, refl, ap, ◌∙◌, subst, ap₂, arith}
 use mathlib.Core.List.{map-append, Memᴰ as Mem}
 use lib.ListN.{length-map}
 use Rattle.binar.specs.Echelon.{EchelonForm, rank as echelon_rank}
@@ -18,7 +18,7 @@ use Rattle.pauli.proofs.signed.Algebra.{normal_lt}
 use Rattle.pauli.proofs.write.Writers.{length_list}
 use Rattle.pauli_theory.specs.Group.{Promise}
 use Rattle.pauli_theory.specs.Modulo.{modulo}
-use Rattle.pauli_theory.specs.Inner.ModuloPlaces.{moved_pauli, multiplied_by_all_over}
+use Rattle.pauli_theory.specs.Inner.ModuloPlaces.{moved_pauli}
 use Rattle.pauli_theory.specs.Standard.{support_of, form_of, standard, rank, phase_step, exponent_mod}
 use Rattle.pauli_theory.proofs.ModuloPlaces.{left_in_joined, right_in_joined, pivots_fit, multiplied_places, places_modulo, modulo_on}
 use Rattle.pauli_theory.proofs.OverPlaces.{placed}
@@ -26,12 +26,11 @@ use Rattle.pauli_theory.proofs.Placed.{condensed_on}
 use Rattle.pauli_theory.proofs.Rows.{support_rises}
 use Rattle.pauli_theory.proofs.Theorems.{group_laws}
 use Rattle.pauli_theory.proofs.Written.{support_of_lem, written_over}
-use Rattle.pauli_group.specs.Inner.Area.{standard_at, further_at, row_words, stride_of, target_at, Outside}
+use Rattle.pauli_group.specs.Inner.Area.{standard_at, further_at, stride_of}
 use Rattle.pauli_group.specs.Inner.Groups.{over_support, Grouped}
 use Rattle.pauli_group.specs.Calls.{paulis, list_bytes}
 use Rattle.pauli_group.proofs.member.FactorLaws.{grouped_solvable}
 use Rattle.pauli_group.proofs.group.GroupLaws.{known_is, places_are, places_few}
-use Rattle.pauli_group.proofs.list.ListLaws.{list_kept_after}
 use Rattle.pauli_group.specs.Inner.Moved.{Movable, MovablePauli}
 use Rattle.pauli_group.specs.Inner.Remainder.{Other, remainder_by, Remainder}
 use Rattle.pauli_group.proofs.modulo.RemainderLaws.{normal_low}

@@ -1,20 +1,19 @@
 -- Laws of the remainder in the work area: Paulis multiplied at a pivot, and by all standard generators in turn.
-use Rattle.std.proofs.Common.{◌≡◌, ℕ, zero, suc, ◌+◌, ◌*◌, ◌%◌, ◌^◌, ◌<◌, ◌≤◌, Bool, true, false, cond, ltb, List, [], ◌∷◌, map, length, get_or, take, drop, sym, refl, ap, ◌∙◌, subst, mod-lt, add-one, arith, length-drop, length-take-le, get_or-drop, get_or-take}
-use mathlib.Core.List.{Memᴰ as Mem}
+use Rattle.std.proofs.Common.{◌≡◌, ℕ, zero, suc, ◌+◌, ◌*◌, ◌%◌, ◌^◌, ◌<◌, ◌≤◌, Bool, true, false, cond, ltb, List, map, length, get_or, take, drop, sym, refl, ap, ◌∙◌, subst, mod-lt, add-one, arith, length-drop, length-take-le, get_or-drop, get_or-take}
 use lib.ListN.{length-map}
 use Rattle.binar.specs.Row.{bit, if_bit}
 use Rattle.binar.proofs.row.Bits.{bit_lt}
-use Rattle.binar.proofs.Lists.{all_map, all_over, all_get, map_same}
+use Rattle.binar.proofs.Lists.{all_map, all_over, map_same}
 use Rattle.pauli.specs.Known.{place_of}
 use Rattle.pauli.specs.Support.{All}
 use Rattle.pauli.proofs.support.Lists.{in_get_or}
 use Rattle.pauli.specs.declared.signed.Pauli.{Pauli as Held}
 use Rattle.pauli.specs.Pauli.{Pauli, I, normal, times}
 use Rattle.pauli.specs.Signed.{held, pauli_in, list_in}
-use Rattle.pauli.proofs.signed.Algebra.{pauli_path, normal_lt, normal_times, times_normal_l, times_normal_r}
+use Rattle.pauli.proofs.signed.Algebra.{normal_lt, normal_times, times_normal_l, times_normal_r}
 use Rattle.pauli.proofs.signed.SignedLaws.{zero_bit}
 use Rattle.pauli.proofs.write.Writers.{length_list}
-use Rattle.pauli_theory.specs.Inner.ModuloPlaces.{moved_set, moved_pauli, pivot_place, multiplied_at, multiplied_over, multiplied_by_all_over}
+use Rattle.pauli_theory.specs.Inner.ModuloPlaces.{moved_pauli, pivot_place, multiplied_at, multiplied_over, multiplied_by_all_over}
 use Rattle.pauli_theory.proofs.ModuloPlaces.{over_next, over_end, pivot_place_lem}
 use Rattle.pauli_group.specs.Inner.Area.{standard_at, further_at, stride_of, Outside}
 use Rattle.pauli_group.proofs.area.AreaLaws.{form_room}

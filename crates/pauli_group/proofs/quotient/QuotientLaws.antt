@@ -1,9 +1,8 @@
 -- Laws of the call for the quotient.
-use Rattle.std.proofs.Common.{◌≡◌, ℕ, ◌+◌, ◌≤◌, Bool, true, false, not, List, ◌++◌, length, sym, refl, ap, ◌∙◌, subst, ⊎_elim, true≢false, arith}
+use Rattle.std.proofs.Common.{◌≡◌, ℕ, ◌≤◌, Bool, true, false, not, List, ◌++◌, length, sym, refl, ap, ◌∙◌, subst, ⊎_elim, true≢false, arith}
 use mathlib.Core.List.Memᴰ
 use mathlib.Core.List.Memᴰ.{append_cases as in-append}
 use mathlib.Core.List.{Memᴰ as Mem}
-use mathlib.Core.Option.{some, none}
 use Rattle.pauli.specs.Roll.{Sparse, numbers, support}
 use Rattle.pauli.specs.Told.{answer, refused}
 use Rattle.pauli.specs.Condense.{list_of}

@@ -3,7 +3,7 @@ use Rattle.std.proofs.Common.{◌≡◌, ℕ, zero, suc, ◌+◌, ◌-◌, ◌*�
 use native.Mathlib.Nat.{mul-mod_left}
 use lib.Arith.{digits_lt}
 use lib.ListN.{length-map}
-use lib.Pow.{split, high, low, mod-mod-pow}
+use lib.Pow.{split, low, mod-mod-pow}
 use lib.Seq.{take-append-le}
 use Rattle.binar.specs.Words.{words, put_row, image}
 use Rattle.binar.proofs.echelon.Matrix.{row_in}

@@ -1,5 +1,5 @@
 -- Comparison by numbers of phases and ranks.
-use Rattle.std.specs.Prelude.{ℕ, Bool, true, false}
+use Rattle.std.specs.Prelude.{Bool, true, false}
 use Rattle.pauli_theory.specs.Order.{Order, equal, less, greater, no_order, Ranks, and, same_ranks, no_more, first_of}
 use Rattle.pauli_group.specs.declared.order.GroupRanks.{GroupRanks}
 

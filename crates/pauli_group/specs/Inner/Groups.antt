@@ -1,5 +1,5 @@
 -- What the inner functions leave in the work area, and what they tell.
-use Rattle.std.specs.Prelude.{◌≡◌, ℕ, ◌+◌, ◌*◌, ◌≤◌, List, map, length, take}
+use Rattle.std.specs.Prelude.{◌≡◌, ℕ, ◌*◌, List, map, length, take}
 use Rattle.binar.specs.Echelon.{EchelonForm, rank as echelon_rank}
 use Rattle.binar.specs.Layout.{form_in}
 use Rattle.pauli.specs.Condense.{condensed}

@@ -1,5 +1,5 @@
 -- The listing in the work area.
-use Rattle.std.specs.Prelude.{◌≡◌, ℕ, zero, suc, ◌+◌, ◌*◌, ◌/◌, ◌%◌, ◌≤◌, List, [], ◌∷◌, length, slice_index}
+use Rattle.std.specs.Prelude.{◌≡◌, ℕ, zero, suc, ◌*◌, ◌/◌, ◌%◌, ◌≤◌, List, [], ◌∷◌, length, slice_index}
 use Rattle.pauli.specs.Pauli.{Pauli, turned, indexed_product}
 use Rattle.pauli_theory.specs.Listing.{binomial, subset_at}
 

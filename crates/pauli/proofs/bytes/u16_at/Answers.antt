@@ -6,4 +6,3 @@ use Rattle.pauli.proofs.bytes.u16_at.Goals as goal
 pub returns : goal.returns
 unfolding u16_at
 returns c = omega arith
-

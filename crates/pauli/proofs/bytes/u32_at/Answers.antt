@@ -6,4 +6,3 @@ use Rattle.pauli.proofs.bytes.u32_at.Goals as goal
 pub returns : goal.returns
 unfolding u32_at
 returns c = omega arith
-

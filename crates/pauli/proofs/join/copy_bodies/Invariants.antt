@@ -8,7 +8,5 @@ use Rattle.pauli.proofs.join.copy_bodies.Given as goal
 abbrev pub invariant-loop-k : goal.invariant-loop-k
 invariant-loop-k l = (l.k ≤ l.end) × Left l.initial.out l.at (bodies (list_of l.b)) l.out l.to (drop l.k l.b)
 
-
 abbrev pub decreases-loop-k : goal.decreases-loop-k
 decreases-loop-k l = l.end - l.k
-

@@ -6,4 +6,3 @@ use Rattle.pauli.proofs.joined.joined_qubits.Goals as goal
 pub join_support-requires : goal.join_support-requires
 unfolding most_qubits
 join_support-requires c = (c.requires.0, c.requires.1, omega arith)
-

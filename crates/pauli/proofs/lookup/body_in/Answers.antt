@@ -7,30 +7,23 @@ use Rattle.pauli.proofs.lookup.body_in.Goals as goal
 pub entry_at-e-requires : goal.entry_at-e-requires
 entry_at-e-requires c = accepted_table c.args.b.now c.args.n c.requires.0 c.args.i c.requires.1
 
-
 pub overflow_mul-start : goal.overflow_mul-start
 overflow_mul-start c = omega (arith, accepted_room c.args.b.now c.args.n c.requires.0 c.args.i c.requires.1 c.entry_at-e.result c.entry_at-e.ensures.0)
-
 
 pub overflow_add-start : goal.overflow_add-start
 overflow_add-start c = omega (arith, accepted_room c.args.b.now c.args.n c.requires.0 c.args.i c.requires.1 c.entry_at-e.result c.entry_at-e.ensures.0)
 
-
 pub overflow_mul-start-2 : goal.overflow_mul-start-2
 overflow_mul-start-2 c = omega (arith, accepted_room c.args.b.now c.args.n c.requires.0 c.args.i c.requires.1 c.entry_at-e.result c.entry_at-e.ensures.0)
-
 
 pub overflow_add-start-2 : goal.overflow_add-start-2
 overflow_add-start-2 c = omega (arith, accepted_room c.args.b.now c.args.n c.requires.0 c.args.i c.requires.1 c.entry_at-e.result c.entry_at-e.ensures.0)
 
-
 pub overflow_add-end-2 : goal.overflow_add-end-2
 overflow_add-end-2 c = omega (arith, accepted_room c.args.b.now c.args.n c.requires.0 c.args.i c.requires.1 c.entry_at-e.result c.entry_at-e.ensures.0)
 
-
 pub slice_bounds-result-end : goal.slice_bounds-result-end
 slice_bounds-result-end c = omega (arith, accepted_room c.args.b.now c.args.n c.requires.0 c.args.i c.requires.1 c.entry_at-e.result c.entry_at-e.ensures.0)
-
 
 pub returns : goal.returns
 returns c =

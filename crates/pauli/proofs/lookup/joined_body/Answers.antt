@@ -13,7 +13,6 @@ returns-in-Refused c =
 pub body_in-requires : goal.body_in-requires
 body_in-requires c = ((counts_joining c.args.left.now c.args.right.now _ (sym c.joined_counts-found.ensures ∙ ap told_counts c.in-Counts.is)).left, c.if-n-nl.true)
 
-
 pub returns-then-n-nl : goal.returns-then-n-nl
 unfolding address_of stretch_in
 returns-then-n-nl c =
@@ -23,7 +22,6 @@ returns-then-n-nl c =
 
 pub body_in-requires-then-n-nl-2 : goal.body_in-requires-then-n-nl-2
 body_in-requires-then-n-nl-2 c = ((counts_joining c.args.left.now c.args.right.now _ (sym c.joined_counts-found.ensures ∙ ap told_counts c.in-Counts.is)).right, c.if-n-nl-2.true)
-
 
 pub returns-then-n-nl-2 : goal.returns-then-n-nl-2
 unfolding address_of stretch_in

@@ -7,7 +7,5 @@ use Rattle.pauli.proofs.roll.check_entries.Given as goal
 abbrev pub invariant-loop-i : goal.invariant-loop-i
 invariant-loop-i l = (l.i ≤ l.n) × (l.before ≤ 131072 * l.i) × (check_entries 0 0 (entries_at l.b 2 l.n) ≡ check_entries l.i l.before (entries_from l.b l.n l.i))
 
-
 abbrev pub decreases-loop-i : goal.decreases-loop-i
 decreases-loop-i l = l.n - l.i
-

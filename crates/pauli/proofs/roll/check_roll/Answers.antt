@@ -9,58 +9,46 @@ use Rattle.pauli.proofs.roll.check_roll.Goals as goal
 pub returns-then-b-lt2 : goal.returns-then-b-lt2
 returns-then-b-lt2 c = c.refuse.ensures ∙ sym (roll_short _ c.if-b-lt2.true)
 
-
 pub returns-then-n-gt-MOST_PAULIS : goal.returns-then-n-gt-MOST_PAULIS
 unfolding most_paulis
 returns-then-n-gt-MOST_PAULIS c = c.refuse-then-n-gt-MOST_PAULIS.ensures ∙ sym (roll_many _ c.if-b-lt2.false _ c.u16_at-n.ensures.0 c.if-n-gt-MOST_PAULIS.true)
-
 
 pub returns-then-b-n : goal.returns-then-b-n
 unfolding most_paulis
 returns-then-b-n c = c.refuse-then-b-n.ensures ∙ sym (roll_cut _ c.if-b-lt2.false _ c.u16_at-n.ensures.0 c.if-n-gt-MOST_PAULIS.false c.if-b-n.true)
 
-
 pub check_entries-e-requires : goal.check_entries-e-requires
 unfolding most_paulis
 check_entries-e-requires c = omega arith
-
 
 pub returns-in-Refused : goal.returns-in-Refused
 unfolding most_paulis
 returns-in-Refused c = sym (roll_entry _ c.if-b-lt2.false _ c.u16_at-n.ensures.0 c.if-n-gt-MOST_PAULIS.false c.if-b-n.false _ _ (sym c.check_entries-e.ensures ∙ ap told_numbers c.in-Refused.is))
 
-
 pub overflow_mul-total : goal.overflow_mul-total
 unfolding most_paulis
 overflow_mul-total c = omega (arith, total_bound _ c.if-b-lt2.false _ c.u16_at-n.ensures.0 c.if-n-gt-MOST_PAULIS.false c.if-b-n.false _ (sym c.check_entries-e.ensures ∙ ap told_numbers c.in-Numbers.is) (λ q. (c.shared_slice_known-1.given q).fits))
-
 
 pub overflow_add-n-3 : goal.overflow_add-n-3
 unfolding most_paulis
 overflow_add-n-3 c = omega (arith, total_bound _ c.if-b-lt2.false _ c.u16_at-n.ensures.0 c.if-n-gt-MOST_PAULIS.false c.if-b-n.false _ (sym c.check_entries-e.ensures ∙ ap told_numbers c.in-Numbers.is) (λ q. (c.shared_slice_known-1.given q).fits))
 
-
 pub returns-then-b-n-2 : goal.returns-then-b-n-2
 unfolding most_paulis
 returns-then-b-n-2 c = c.refuse-then-b-n-2.ensures ∙ sym (roll_length _ c.if-b-lt2.false _ c.u16_at-n.ensures.0 c.if-n-gt-MOST_PAULIS.false c.if-b-n.false _ (sym c.check_entries-e.ensures ∙ ap told_numbers c.in-Numbers.is) c.if-b-n-2.true)
-
 
 pub check_sets-s-requires : goal.check_sets-s-requires
 unfolding most_paulis
 check_sets-s-requires c = roll_filled _ c.if-b-lt2.false _ c.u16_at-n.ensures.0 c.if-n-gt-MOST_PAULIS.false c.if-b-n.false _ (sym c.check_entries-e.ensures ∙ ap told_numbers c.in-Numbers.is) c.if-b-n-2.false
 
-
 pub returns-in-Refused-s : goal.returns-in-Refused-s
 unfolding most_paulis
 returns-in-Refused-s c = sym (roll_set _ c.if-b-lt2.false _ c.u16_at-n.ensures.0 c.if-n-gt-MOST_PAULIS.false c.if-b-n.false _ (sym c.check_entries-e.ensures ∙ ap told_numbers c.in-Numbers.is) c.if-b-n-2.false _ _ (sym c.check_sets-s.ensures ∙ ap told_passed c.in-Refused-s.is))
-
 
 pub returns-then-distinct-gt-MOST_QUBITS : goal.returns-then-distinct-gt-MOST_QUBITS
 unfolding most_paulis most_qubits
 returns-then-distinct-gt-MOST_QUBITS c = c.refuse-then-distinct-gt-MOST_QUBITS.ensures ∙ sym (roll_qubits _ c.if-b-lt2.false _ c.u16_at-n.ensures.0 c.if-n-gt-MOST_PAULIS.false c.if-b-n.false _ (sym c.check_entries-e.ensures ∙ ap told_numbers c.in-Numbers.is) c.if-b-n-2.false _ (sym c.check_sets-s.ensures ∙ ap told_passed c.in-Passed.is) _ c.distinct.ensures c.if-distinct-gt-MOST_QUBITS.true)
 
-
 pub returns : goal.returns
 unfolding most_paulis most_qubits
 returns c = sym (roll_passes _ c.if-b-lt2.false _ c.u16_at-n.ensures.0 c.if-n-gt-MOST_PAULIS.false c.if-b-n.false _ (sym c.check_entries-e.ensures ∙ ap told_numbers c.in-Numbers.is) c.if-b-n-2.false _ (sym c.check_sets-s.ensures ∙ ap told_passed c.in-Passed.is) _ c.distinct.ensures c.if-distinct-gt-MOST_QUBITS.false)
-

@@ -6,67 +6,50 @@ use Rattle.pauli.proofs.roll.check_sets.Goals as goal
 pub overflow_mul-at : goal.overflow_mul-at
 overflow_mul-at c = omega (arith, c.requires)
 
-
 pub overflow_add-at : goal.overflow_add-at
 overflow_add-at c = omega (arith, c.requires)
-
 
 pub loop-i-init : goal.loop-i-init
 loop-i-init c = (filled_start _ _ c.requires, sets_start _ _)
 
-
 pub entry_at-e-requires : goal.entry_at-e-requires
 entry_at-e-requires c = omega (arith, c.loop-i.invariant.0.table, c.loop-i.invariant.0.bodies)
-
 
 pub check_set-x-requires : goal.check_set-x-requires
 check_set-x-requires c = omega (arith, c.requires, c.loop-i.invariant.0.table, c.loop-i.invariant.0.bodies, bodies_next c.args.b.now c.args.n c.loop-i.at c.loop-i.i c.loop-i-test.true c.entry_at-e.result c.entry_at-e.ensures.0)
 
-
 pub returns-in-Refused : goal.returns-in-Refused
 returns-in-Refused c = sym (c.loop-i.invariant.1 ∙ sets_x _ _ _ _ c.loop-i-test.true _ c.entry_at-e.ensures.0 _ _ (sym c.check_set-x.ensures ∙ ap told_passed c.in-Refused.is))
-
 
 pub overflow_mul-e : goal.overflow_mul-e
 overflow_mul-e c = omega (arith, c.requires, c.loop-i.invariant.0.table, c.loop-i.invariant.0.bodies, bodies_next c.args.b.now c.args.n c.loop-i.at c.loop-i.i c.loop-i-test.true c.entry_at-e.result c.entry_at-e.ensures.0)
 
-
 pub overflow_add-at-in-loop-i : goal.overflow_add-at-in-loop-i
 overflow_add-at-in-loop-i c = omega (arith, c.requires, c.loop-i.invariant.0.table, c.loop-i.invariant.0.bodies, bodies_next c.args.b.now c.args.n c.loop-i.at c.loop-i.i c.loop-i-test.true c.entry_at-e.result c.entry_at-e.ensures.0)
-
 
 pub check_set-z-requires : goal.check_set-z-requires
 check_set-z-requires c = omega (arith, c.requires, c.loop-i.invariant.0.table, c.loop-i.invariant.0.bodies, bodies_next c.args.b.now c.args.n c.loop-i.at c.loop-i.i c.loop-i-test.true c.entry_at-e.result c.entry_at-e.ensures.0)
 
-
 pub returns-in-Refused-z : goal.returns-in-Refused-z
 returns-in-Refused-z c = sym (c.loop-i.invariant.1 ∙ sets_z _ _ _ _ c.loop-i-test.true _ c.entry_at-e.ensures.0 _ (sym c.check_set-x.ensures ∙ ap told_passed c.in-Passed.is) _ _ (sym c.check_set-z.ensures ∙ ap told_passed c.in-Refused-z.is))
-
 
 pub overflow_add-at-in-loop-i-2 : goal.overflow_add-at-in-loop-i-2
 overflow_add-at-in-loop-i-2 c = omega (arith, c.requires, c.loop-i.invariant.0.table, c.loop-i.invariant.0.bodies, bodies_next c.args.b.now c.args.n c.loop-i.at c.loop-i.i c.loop-i-test.true c.entry_at-e.result c.entry_at-e.ensures.0)
 
-
 pub overflow_mul-at-in-loop-i : goal.overflow_mul-at-in-loop-i
 overflow_mul-at-in-loop-i c = omega (arith, c.requires, c.loop-i.invariant.0.table, c.loop-i.invariant.0.bodies, bodies_next c.args.b.now c.args.n c.loop-i.at c.loop-i.i c.loop-i-test.true c.entry_at-e.result c.entry_at-e.ensures.0)
-
 
 pub overflow_add-at-in-loop-i-3 : goal.overflow_add-at-in-loop-i-3
 overflow_add-at-in-loop-i-3 c = omega (arith, c.requires, c.loop-i.invariant.0.table, c.loop-i.invariant.0.bodies, bodies_next c.args.b.now c.args.n c.loop-i.at c.loop-i.i c.loop-i-test.true c.entry_at-e.result c.entry_at-e.ensures.0)
 
-
 pub overflow_add-i : goal.overflow_add-i
 overflow_add-i c = omega (arith, c.loop-i-test.true)
-
 
 pub loop-i-smaller : goal.loop-i-smaller
 loop-i-smaller c = omega (arith, c.loop-i-test.true)
 
-
 pub loop-i-preserved : goal.loop-i-preserved
 loop-i-preserved c = (filled_next _ _ _ _ c.loop-i-test.true _ c.entry_at-e.ensures.0 c.loop-i.invariant.0, c.loop-i.invariant.1 ∙ sets_next _ _ _ _ c.loop-i-test.true _ c.entry_at-e.ensures.0 _ (sym c.check_set-x.ensures ∙ ap told_passed c.in-Passed.is) _ (sym c.check_set-z.ensures ∙ ap told_passed c.in-Passed-z.is))
 
-
 pub returns : goal.returns
 returns c = sym (c.loop-i.invariant.1 ∙ sets_end _ _ _ _ c.loop-i-test.false)
-

@@ -7,7 +7,5 @@ use Rattle.pauli.proofs.roll.check_sets.Given as goal
 abbrev pub invariant-loop-i : goal.invariant-loop-i
 invariant-loop-i l = Filled l.b l.n l.at l.i × (check_sets 0 (paulis_at l.b (2 + 10 * l.n) (entries_at l.b 2 l.n)) ≡ sets_from l.b l.n l.at l.i)
 
-
 abbrev pub decreases-loop-i : goal.decreases-loop-i
 decreases-loop-i l = l.n - l.i
-

@@ -6,4 +6,3 @@ use Rattle.pauli.proofs.roll.distinct.Goals as goal
 pub gather-requires : goal.gather-requires
 unfolding most_qubits
 gather-requires c = (c.requires, omega arith, omega arith, tt)
-

@@ -10,10 +10,8 @@ use Rattle.pauli.proofs.signed.indexed_product.Goals as goal
 pub identity-product-requires : goal.identity-product-requires
 identity-product-requires c = omega arith
 
-
 pub first_from-i-requires : goal.first_from-i-requires
 first_from-i-requires c = omega arith
-
 
 pub loop-i-init : goal.loop-i-init
 loop-i-init c =
@@ -23,34 +21,26 @@ loop-i-init c =
     let f = first_told (omega arith) c.first_from-i.ensures in
     (f.found, left_start w s a.base a.n ∙ ap (product_left w s a.base a.n 0) (sym c.identity-product.ensures) ∙ left_skip w s a.base a.n _ f)
 
-
 pub overflow_mul-i : goal.overflow_mul-i
 overflow_mul-i c = omega arith
-
 
 pub overflow_add-base : goal.overflow_add-base
 overflow_add-base c = omega arith
 
-
 pub load-requires : goal.load-requires
 load-requires c = omega arith
-
 
 pub times-requires : goal.times-requires
 times-requires c = omega arith
 
-
 pub overflow_add-i : goal.overflow_add-i
 overflow_add-i c = omega arith
-
 
 pub first_from-i-requires-in-loop-i : goal.first_from-i-requires-in-loop-i
 first_from-i-requires-in-loop-i c = omega arith
 
-
 pub loop-i-smaller : goal.loop-i-smaller
 loop-i-smaller c = omega (arith, (first_told (omega arith) c.first_from-i-in-loop-i.ensures).from)
-
 
 pub loop-i-preserved : goal.loop-i-preserved
 loop-i-preserved c =
@@ -65,11 +55,9 @@ loop-i-preserved c =
           ∙ left_same w s a.base a.n (c.loop-i.i + 1) _ _ product ∙ left_skip w s a.base a.n _ f,
     )
 
-
 pub returns : goal.returns
 returns c =
     let a = c.args in
     let w = a.w.now in
     let s = set_in a.set in
     sym (c.loop-i.invariant.1 ∙ left_end w s a.base a.n c.loop-i.i _ (omega arith))
-

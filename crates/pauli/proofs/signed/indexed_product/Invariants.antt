@@ -10,7 +10,5 @@ use Rattle.pauli.proofs.signed.indexed_product.Given as goal
 abbrev pub invariant-loop-i : goal.invariant-loop-i
 invariant-loop-i l = (l.i < 128 → bit (set_in l.set) l.i ≡ 1) × (indexed_product (set_in l.set) (list_in l.w l.base l.n) ≡ product_left l.w (set_in l.set) l.base l.n l.i (held l.product))
 
-
 abbrev pub decreases-loop-i : goal.decreases-loop-i
 decreases-loop-i l = l.n - l.i
-

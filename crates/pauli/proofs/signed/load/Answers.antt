@@ -10,4 +10,3 @@ use Rattle.pauli.proofs.signed.load.Goals as goal
 pub returns : goal.returns
 unfolding held pauli_in set_in normal
 returns c = pauli_path (byte_value _) refl refl
-

@@ -8,7 +8,5 @@ use Rattle.pauli.proofs.write.numbers_in.Given as goal
 abbrev pub invariant-loop-i : goal.invariant-loop-i
 invariant-loop-i l = (l.i ≤ l.n) × (l.total ≤ 256 * l.i) × (numbers_of (list_in l.w l.base l.n) ≡ l.total + numbers_of (list_from l.w l.base l.n l.i))
 
-
 abbrev pub decreases-loop-i : goal.decreases-loop-i
 decreases-loop-i l = l.n - l.i
-

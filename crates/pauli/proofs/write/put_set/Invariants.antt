@@ -10,7 +10,5 @@ use Rattle.pauli.proofs.write.put_set.Given as goal
 abbrev pub invariant-loop-p : goal.invariant-loop-p
 invariant-loop-p l = (l.p < 128 → bit (set_in l.set) l.p ≡ 1) × Left l.initial.out l.at (le32s (select (set_in l.set) (take l.count l.support))) l.out l.next (le32s (chosen_from (set_in l.set) (take l.count l.support) l.p))
 
-
 abbrev pub decreases-loop-p : goal.decreases-loop-p
 decreases-loop-p l = l.count - l.p
-

@@ -6,12 +6,10 @@ use Rattle.pauli_group.proofs.basis.common_basis.Goals as goal
 pub stack_standard-stacked-requires : goal.stack_standard-stacked-requires
 stack_standard-stacked-requires c = (c.requires.0, c.requires.1, c.requires.2, c.requires.3, c.requires.4, c.requires.5)
 
-
 pub overflow_add-n : goal.overflow_add-n
 overflow_add-n c =
     let few = lists_few _ _ _ _ c.requires.0 c.requires.1 c.requires.2 in
     omega (arith, stack_count _ _ few _ _ _ c.stack_standard-stacked.ensures)
-
 
 pub form_of-rank-requires : goal.form_of-rank-requires
 form_of-rank-requires c =
@@ -21,13 +19,11 @@ form_of-rank-requires c =
     let size = c.stack_standard-stacked.auto.w ∙ c.requires.3 in
     (size, n, omega arith, omega (arith, n, size), c.requires.5.few, stack_on _ _ few _ _ _ S _ c.requires.5.count)
 
-
 pub overflow_sub-zeros : goal.overflow_sub-zeros
 overflow_sub-zeros c =
     let few = lists_few _ _ _ _ c.requires.0 c.requires.1 c.requires.2 in
     let F = c.form_of-rank.ensures in
     stack_rank _ _ few _ _ _ c.stack_standard-stacked.ensures _ c.requires.5.count _ F.rank _ F.form F.rest
-
 
 pub put_products-requires : goal.put_products-requires
 put_products-requires c =
@@ -40,7 +36,6 @@ put_products-requires c =
     let zeros = stack_zeros _ _ few _ _ _ S _ c.requires.5.count _ F.rank _ F.form F.rest in
     let first = stack_first _ _ few _ _ _ S in
     (size, n, omega (arith, rank), first, omega arith, omega (arith, first, size), omega (arith, zeros, size), inr (omega (arith, zeros)))
-
 
 pub form_of-count-requires : goal.form_of-count-requires
 form_of-count-requires c =
@@ -57,7 +52,6 @@ form_of-count-requires c =
       dependencies_on _ _ few _ _ _ S _ c.requires.5.count _ F.rank _ F.form F.rest _ c.put_products.ensures.list,
     )
 
-
 pub put_products-requires-2 : goal.put_products-requires-2
 put_products-requires-2 c =
     let few = lists_few _ _ _ _ c.requires.0 c.requires.1 c.requires.2 in
@@ -69,10 +63,8 @@ put_products-requires-2 c =
     let count = basis_count _ _ few _ _ _ S _ c.requires.5.count _ F.rank _ F.form F.rest _ c.put_products.ensures.list _ E.rank _ E.form E.rest in
     (size, omega (arith, zeros), omega (arith, count), zeros, omega arith, omega (arith, zeros, size), omega (arith, zeros, count, size), inl (omega (arith, zeros)))
 
-
 pub shape_of-w : goal.shape_of-w
 shape_of-w c = c.put_products-2.auto.w ∙ c.form_of-count.auto.w ∙ c.put_products.auto.w ∙ c.form_of-rank.auto.w ∙ c.stack_standard-stacked.auto.w
-
 
 pub returns : goal.returns
 returns c =

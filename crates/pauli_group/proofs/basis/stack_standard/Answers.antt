@@ -9,7 +9,6 @@ pub group_of-a-requires : goal.group_of-a-requires
 unfolding most_qubits
 group_of-a-requires c = (c.requires.0, omega arith, c.requires.3)
 
-
 pub move_list-requires : goal.move_list-requires
 move_list-requires c =
     let g = c.group_of-a.ensures in
@@ -24,20 +23,16 @@ move_list-requires c =
       grouped_movable g.group _ (joint_rises _ _ _ _ c.requires.5) (joint_left _ _ _ _ c.requires.5),
     )
 
-
 pub group_of-b-requires : goal.group_of-b-requires
 unfolding most_qubits
 group_of-b-requires c =
     (c.requires.1, omega (arith, c.group_of-a.auto.known), c.move_list.ensures.rest.size ∙ c.group_of-a.ensures.rest.size ∙ c.requires.3)
 
-
 pub overflow_mul-a : goal.overflow_mul-a
 overflow_mul-a c = omega (arith, group_total _ _ c.requires.0 c.group_of-a.ensures.group)
 
-
 pub overflow_add-a : goal.overflow_add-a
 overflow_add-a c = omega (arith, group_total _ _ c.requires.0 c.group_of-a.ensures.group)
-
 
 pub move_list-requires-2 : goal.move_list-requires-2
 move_list-requires-2 c =
@@ -54,12 +49,9 @@ move_list-requires-2 c =
       grouped_movable g.group _ (joint_rises _ _ _ _ c.requires.5) (joint_right _ _ _ _ c.requires.5),
     )
 
-
 pub shape_of-w : goal.shape_of-w
 shape_of-w c = c.move_list-2.ensures.rest.size ∙ c.group_of-b.ensures.rest.size ∙ c.move_list.ensures.rest.size ∙ c.group_of-a.ensures.rest.size
-
 
 pub returns : goal.returns
 returns c =
     stack_is _ _ _ _ c.requires.5 c.group_of-a.ensures.group _ c.move_list.ensures.list c.group_of-b.ensures.group c.group_of-b.ensures.rest _ c.move_list-2.ensures.list c.move_list-2.ensures.rest
-

@@ -13,22 +13,18 @@ returns-in-Refused c =
       area = area_kept c.args.b.now c.args.work.now none;
     }
 
-
 pub slice_bounds-describe_once-end : goal.slice_bounds-describe_once-end
 slice_bounds-describe_once-end c = (list_given _ _ c.check_list-checked.ensures _ c.in-Count.is).room
-
 
 pub slice_bounds-describe_once-end-2 : goal.slice_bounds-describe_once-end-2
 slice_bounds-describe_once-end-2 c =
     let given = list_given _ _ c.check_list-checked.ensures _ c.in-Count.is in
     sym (length-take-le 4096 c.args.work.now given.room)
 
-
 pub describe_once-d-requires : goal.describe_once-d-requires
 describe_once-d-requires c =
     let given = list_given _ _ c.check_list-checked.ensures _ c.in-Count.is in
     (given.count, length-take-le 4096 c.args.work.now given.room)
-
 
 pub returns : goal.returns
 returns c =
@@ -38,4 +34,3 @@ returns c =
       told = answers c.args.b.now c.args.work.now given (facts_of (promise_of c.args.promise)) _ description.told;
       area = area_cleared c.args.b.now c.args.work.now given _ description.area;
     }
-

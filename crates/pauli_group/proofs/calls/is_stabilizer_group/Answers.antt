@@ -16,7 +16,6 @@ decided-requires c =
     let found = facts_given promise _ _ e.told _ c.in-Description.is in
     rw found.facts.stabilizer_is (stabilizer_le promise (paulis (list_of c.args.b.now)))
 
-
 pub returns-in-Refused : goal.returns-in-Refused
 unfolding stabilizer_call
 returns-in-Refused c =
@@ -25,7 +24,6 @@ returns-in-Refused c =
     let refused = facts_none promise _ _ e.told _ c.in-Refused.is in
     record { told = refuses c.args.b.now c.args.work.now refused (stabilizer promise); area = e.area }
 
-
 pub returns-in-Description : goal.returns-in-Description
 unfolding stabilizer_call
 returns-in-Description c =
@@ -33,4 +31,3 @@ returns-in-Description c =
     let e = c.describe_list-found.ensures in
     let found = facts_given promise _ _ e.told _ c.in-Description.is in
     record { told = c.decided.ensures ∙ answers c.args.b.now c.args.work.now found.given (stabilizer promise) _ found.facts.stabilizer_is; area = e.area }
-

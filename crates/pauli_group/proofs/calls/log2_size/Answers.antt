@@ -16,14 +16,12 @@ overflow_sub-result c =
     let found = facts_given promise _ _ e.told _ c.in-Description.is in
     omega (arith, found.facts.step_is, (step_kinds promise (paulis (list_of c.args.b.now))).1)
 
-
 pub overflow_add-result : goal.overflow_add-result
 overflow_add-result c =
     let promise = promise_of c.args.promise in
     let e = c.describe_list-found.ensures in
     let found = facts_given promise _ _ e.told _ c.in-Description.is in
     omega (arith, found.facts.rank_is, list_rank _ _ found.given.count)
-
 
 pub returns-in-Refused : goal.returns-in-Refused
 unfolding size_call
@@ -33,7 +31,6 @@ returns-in-Refused c =
     let refused = facts_none promise _ _ e.told _ c.in-Refused.is in
     record { told = refuses c.args.b.now c.args.work.now refused (log2_size promise); area = e.area }
 
-
 pub returns-in-Description : goal.returns-in-Description
 unfolding size_call
 returns-in-Description c =
@@ -41,4 +38,3 @@ returns-in-Description c =
     let e = c.describe_list-found.ensures in
     let found = facts_given promise _ _ e.told _ c.in-Description.is in
     record { told = answers c.args.b.now c.args.work.now found.given (log2_size promise) _ (size_told promise _ _ _ found.facts.rank_is found.facts.step_is); area = e.area }
-

@@ -14,7 +14,6 @@ returns-in-Refused c =
     let refused = facts_none promise _ _ e.told _ c.in-Refused.is in
     record { told = refuses c.args.b.now c.args.work.now refused rank; area = e.area }
 
-
 pub returns-in-Description : goal.returns-in-Description
 unfolding rank_call
 returns-in-Description c =
@@ -22,4 +21,3 @@ returns-in-Description c =
     let e = c.describe_list-found.ensures in
     let found = facts_given promise _ _ e.told _ c.in-Description.is in
     record { told = answers c.args.b.now c.args.work.now found.given rank _ found.facts.rank_is; area = e.area }
-

@@ -11,7 +11,6 @@ pub group_of-g-requires : goal.group_of-g-requires
 unfolding most_qubits
 group_of-g-requires c = (c.requires.0, omega arith, omega arith)
 
-
 pub write_roll-wrote-requires : goal.write_roll-wrote-requires
 write_roll-wrote-requires c =
     let count = c.requires.0 in
@@ -20,7 +19,6 @@ write_roll-wrote-requires c =
     let places = group_places _ _ count group in
     let known = c.group_of-g.auto.known in
     (omega arith, omega arith, places, omega arith, group_on _ _ count group)
-
 
 pub returns : goal.returns
 returns c =

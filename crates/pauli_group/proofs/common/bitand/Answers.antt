@@ -13,22 +13,18 @@ returns-in-Refused c =
     let e = ends_refused c.args.left.now c.args.right.now c.args.work.now c.args.out.now (map_told (common_bytes (promise_of c.args.left_promise) (promise_of c.args.right_promise))) refl none in
     record { told = e.answered; written = e.written; area = e.area }
 
-
 pub slice_bounds-write_common-end : goal.slice_bounds-write_common-end
 slice_bounds-write_common-end c = (pair_given _ _ _ c.check_pair-found.ensures _ c.in-Counts.is).room
-
 
 pub slice_bounds-write_common-end-2 : goal.slice_bounds-write_common-end-2
 slice_bounds-write_common-end-2 c =
     let g = pair_given _ _ _ c.check_pair-found.ensures _ c.in-Counts.is in
     sym (length-take-le 4096 c.args.work.now g.room)
 
-
 pub write_common-requires : goal.write_common-requires
 write_common-requires c =
     let g = pair_given _ _ _ c.check_pair-found.ensures _ c.in-Counts.is in
     (joinable g.joining, length-take-le 4096 c.args.work.now g.room)
-
 
 pub returns : goal.returns
 unfolding common_call map_told
@@ -37,4 +33,3 @@ returns c =
     let write = c.write_common.ensures in
     let e = ends_answered c.args.left.now c.args.right.now c.args.work.now c.args.out.now (map_told (common_bytes (promise_of c.args.left_promise) (promise_of c.args.right_promise))) g.joining g.room _ refl _ _ _ write.told write.left write.area in
     record { told = e.answered; written = e.written; area = e.area }
-

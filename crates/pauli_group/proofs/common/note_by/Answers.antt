@@ -10,10 +10,8 @@ pub group_of-group-requires : goal.group_of-group-requires
 unfolding most_qubits
 group_of-group-requires c = (c.requires.0, omega arith, c.requires.1)
 
-
 pub signs_of-signs-requires : goal.signs_of-signs-requires
 signs_of-signs-requires c = omega (arith, group_total _ _ c.requires.0 c.group_of-group.ensures.group, c.group_of-group.ensures.rest.size, c.requires.1)
-
 
 pub note_exponents-requires : goal.note_exponents-requires
 note_exponents-requires c =
@@ -29,10 +27,8 @@ note_exponents-requires c =
       group_movable _ _ c.requires.0 g.group size g.rest _ _ c.requires.6,
     )
 
-
 pub shape_of-w : goal.shape_of-w
 shape_of-w c = c.note_exponents.auto.w ∙ c.group_of-group.ensures.rest.size
-
 
 pub returns : goal.returns
 returns c =

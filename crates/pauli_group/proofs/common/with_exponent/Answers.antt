@@ -6,4 +6,3 @@ use Rattle.pauli_group.proofs.common.with_exponent.Goals as goal
 pub returns : goal.returns
 unfolding held with_exponent
 returns c = refl
-

@@ -8,10 +8,8 @@ use Rattle.pauli_group.proofs.common.write_common.Goals as goal
 pub order_of-order-requires : goal.order_of-order-requires
 order_of-order-requires c = (c.requires.0, c.requires.1)
 
-
 pub write_lesser-wrote-requires : goal.write_lesser-wrote-requires
 write_lesser-wrote-requires c = (c.requires.0, c.order_of-order.auto.w ∙ c.requires.1)
-
 
 pub returns : goal.returns
 returns c =

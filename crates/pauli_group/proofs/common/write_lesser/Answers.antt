@@ -4,18 +4,14 @@ use Rattle.pauli_group.proofs.common.write_lesser.Goals as goal
 pub write_list-requires : goal.write_list-requires
 write_list-requires c = (c.requires.0.left, c.requires.1)
 
-
 pub write_list-requires-in-Less : goal.write_list-requires-in-Less
 write_list-requires-in-Less c = (c.requires.0.left, c.requires.1)
-
 
 pub write_list-requires-in-Greater : goal.write_list-requires-in-Greater
 write_list-requires-in-Greater c = (c.requires.0.right, c.requires.1)
 
-
 pub write_part-requires : goal.write_part-requires
 write_part-requires c = (c.requires.0, c.requires.1)
-
 
 pub returns-in-Equal : goal.returns-in-Equal
 unfolding lesser

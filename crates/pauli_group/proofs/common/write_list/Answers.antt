@@ -13,7 +13,6 @@ pub group_of-group-requires : goal.group_of-group-requires
 unfolding most_qubits
 group_of-group-requires c = (c.requires.0, omega arith, c.requires.1)
 
-
 pub write_roll-requires : goal.write_roll-requires
 unfolding most_paulis
 write_roll-requires c =
@@ -21,7 +20,6 @@ write_roll-requires c =
     let size = g.rest.size ∙ c.requires.1 in
     let few = accepted_few c.args.b.now c.args.n c.requires.0 in
     (omega (arith, few, size), omega (arith, few), group_places _ _ c.requires.0 g.group, places_known g.group, list_on _ _ c.requires.0 g.group size)
-
 
 pub returns : goal.returns
 returns c =

@@ -11,12 +11,10 @@ pub join_support-size-requires : goal.join_support-size-requires
 unfolding most_qubits
 join_support-size-requires c = (c.requires.0.left, c.requires.0.right, omega arith)
 
-
 pub common_basis-m-requires : goal.common_basis-m-requires
 common_basis-m-requires c =
     let J = joint_is _ _ _ _ _ c.join_support-size.ensures c.requires.0.qubits in
     (c.requires.0.left, c.requires.0.right, c.requires.0.few, c.requires.1, omega (arith, J.few, c.join_support-size.auto.known), J)
-
 
 pub note_by-a-requires : goal.note_by-a-requires
 note_by-a-requires c =
@@ -30,7 +28,6 @@ note_by-a-requires c =
       part_on _ _ _ _ J _ _ B.list,
       part_left _ _ _ _ J _ _ B.list,
     )
-
 
 pub note_by-b-requires : goal.note_by-b-requires
 note_by-b-requires c =
@@ -46,26 +43,21 @@ note_by-b-requires c =
       once_right _ _ _ _ J _ _ B.list _ N.list,
     )
 
-
 pub keep_shared-kept-requires : goal.keep_shared-kept-requires
-keep_shared-kept-requires c =
-    (
-      c.note_by-b.auto.w ∙ c.note_by-a.auto.w ∙ c.common_basis-m.auto.w ∙ c.requires.1,
-      c.common_basis-m.ensures.few,
-      rw c.note_by-a.ensures.step (step_kinds _ _).0,
-      rw c.note_by-b.ensures.step (step_kinds _ _).0,
-    )
-
+keep_shared-kept-requires c = (
+  c.note_by-b.auto.w ∙ c.note_by-a.auto.w ∙ c.common_basis-m.auto.w ∙ c.requires.1,
+  c.common_basis-m.ensures.few,
+  rw c.note_by-a.ensures.step (step_kinds _ _).0,
+  rw c.note_by-b.ensures.step (step_kinds _ _).0,
+)
 
 pub append_phases-total-requires : goal.append_phases-total-requires
-append_phases-total-requires c =
-    (
-      c.keep_shared-kept.auto.w ∙ c.note_by-b.auto.w ∙ c.note_by-a.auto.w ∙ c.common_basis-m.auto.w ∙ c.requires.1,
-      omega (arith, c.keep_shared-kept.ensures.few, c.common_basis-m.ensures.few),
-      rw c.note_by-a.ensures.step (step_kinds _ _).0,
-      rw c.note_by-b.ensures.step (step_kinds _ _).0,
-    )
-
+append_phases-total-requires c = (
+  c.keep_shared-kept.auto.w ∙ c.note_by-b.auto.w ∙ c.note_by-a.auto.w ∙ c.common_basis-m.auto.w ∙ c.requires.1,
+  omega (arith, c.keep_shared-kept.ensures.few, c.common_basis-m.ensures.few),
+  rw c.note_by-a.ensures.step (step_kinds _ _).0,
+  rw c.note_by-b.ensures.step (step_kinds _ _).0,
+)
 
 pub write_roll-requires : goal.write_roll-requires
 write_roll-requires c =
@@ -80,7 +72,6 @@ write_roll-requires c =
       omega (arith, J.few, c.join_support-size.auto.known),
       part_places_lem _ _ _ _ J _ _ B.list _ c.note_by-a.ensures.list _ _ _ c.note_by-b.ensures.list _ _ c.note_by-a.ensures.step c.note_by-b.ensures.step _ _ K.list _ _ A.list,
     )
-
 
 pub returns : goal.returns
 returns c =

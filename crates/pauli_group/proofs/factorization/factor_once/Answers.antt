@@ -11,12 +11,10 @@ unfolding most_qubits
 group_of-g-requires c =
     (c.requires.0, omega arith, c.requires.3)
 
-
 pub signs_of-signs-requires : goal.signs_of-signs-requires
 signs_of-signs-requires c =
     let total = group_total _ _ c.requires.0 c.group_of-g.ensures.group in
     omega (arith, c.group_of-g.auto.w, c.requires.3)
-
 
 pub factor-factoring-requires : goal.factor-factoring-requires
 factor-factoring-requires c =
@@ -31,7 +29,6 @@ factor-factoring-requires c =
       group_places _ _ c.requires.0 group.ensures.group,
       asked_of _ _ c.requires.0 group.ensures.group _ signs.clash signs.step signs.stabilizer,
     )
-
 
 pub returns : goal.returns
 unfolding asked_of

@@ -9,23 +9,19 @@ pub returns-in-Refused : goal.returns-in-Refused
 returns-in-Refused c =
     call_refused _ _ _ _ _ _ _ (counts_none _ _ _ _ c.check_question-checked.ensures _ c.in-Refused.is)
 
-
 pub slice_bounds-factor_once-end : goal.slice_bounds-factor_once-end
 slice_bounds-factor_once-end c =
     (counts_asking _ _ _ _ c.check_question-checked.ensures _ c.in-Counts.is).room
-
 
 pub slice_bounds-factor_once-end-2 : goal.slice_bounds-factor_once-end-2
 slice_bounds-factor_once-end-2 c =
     let asking = counts_asking _ _ _ _ c.check_question-checked.ensures _ c.in-Counts.is in
     sym (length-take-le 4096 c.args.work.now asking.room)
 
-
 pub factor_once-factoring-requires : goal.factor_once-factoring-requires
 factor_once-factoring-requires c =
     let asking = counts_asking _ _ _ _ c.check_question-checked.ensures _ c.in-Counts.is in
     (asking.generators, asking.elements, asking.inside, length-take-le 4096 c.args.work.now asking.room)
-
 
 pub returns-in-NotFound : goal.returns-in-NotFound
 returns-in-NotFound c =
@@ -33,14 +29,12 @@ returns-in-NotFound c =
     let factor = c.factor_once-factoring.ensures in
     call_none _ _ _ _ _ _ asking _ factor.area (sym (ap factoring_told c.in-NotFound.is) ∙ factor.told)
 
-
 pub returns-then-out-count : goal.returns-then-out-count
 returns-then-out-count c =
     let asking = counts_asking _ _ _ _ c.check_question-checked.ensures _ c.in-Counts.is in
     let factor = c.factor_once-factoring.ensures in
     let found = sym (ap factoring_told c.in-Found.is) ∙ factor.told in
     call_short _ _ _ _ _ _ asking _ factor.area _ found (omega (arith, c.weight-count.ensures.0, c.if-out-count.true))
-
 
 pub put_indexes-requires : goal.put_indexes-requires
 put_indexes-requires c =
@@ -52,7 +46,6 @@ put_indexes-requires c =
       omega (arith, c.weight-count.ensures.0, c.if-out-count.false),
     )
 
-
 pub returns : goal.returns
 returns c =
     let asking = counts_asking _ _ _ _ c.check_question-checked.ensures _ c.in-Counts.is in
@@ -60,4 +53,3 @@ returns c =
     let found = sym (ap factoring_told c.in-Found.is) ∙ factor.told in
     call_found _ _ _ _ _ _ asking _ factor.area _ found _ c.weight-count.ensures.0
     c.if-out-count.false _ c.put_indexes.ensures
-

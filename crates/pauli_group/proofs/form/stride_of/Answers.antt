@@ -6,4 +6,3 @@ use Rattle.pauli_group.proofs.form.stride_of.Goals as goal
 pub returns : goal.returns
 unfolding stride_of form_stride
 returns c = refl
-

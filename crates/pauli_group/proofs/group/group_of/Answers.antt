@@ -10,36 +10,28 @@ use Rattle.pauli_group.proofs.group.group_of.Goals as goal
 pub overflow_mul-n : goal.overflow_mul-n
 overflow_mul-n c = omega (arith, accepted_length c.args.b.now c.args.n c.requires.0)
 
-
 pub overflow_add-n : goal.overflow_add-n
 overflow_add-n c = omega (arith, accepted_length c.args.b.now c.args.n c.requires.0)
-
 
 pub numbers_of-requires : goal.numbers_of-requires
 numbers_of-requires c = c.requires.0
 
-
 pub gather-places-requires : goal.gather-places-requires
 gather-places-requires c = (omega (arith, accepted_length c.args.b.now c.args.n c.requires.0, c.numbers_of.ensures), omega arith, c.requires.1, tt)
-
 
 pub read_list-requires : goal.read_list-requires
 unfolding most_paulis most_qubits
 read_list-requires c = let g = own_gathered c.args.b.now c.args.n c.requires.0 _ c.numbers_of.ensures _ _ _ c.gather-places.ensures in let few = own_few c.args.b.now c.args.n c.requires.0 in (part_readable _ _ _ _ g few c.args.b.now c.args.n c.requires.0 (λ p m. m), places_few _ _ _ _ g few, omega (arith, places_few _ _ _ _ g few, c.requires.1, c.gather-places.auto.known), omega (arith, c.requires.2, accepted_few c.args.b.now c.args.n c.requires.0), (accepted c.args.b.now c.args.n c.requires.0).1)
 
-
 pub build-requires : goal.build-requires
 unfolding most_paulis
 build-requires c = let g = own_gathered c.args.b.now c.args.n c.requires.0 _ c.numbers_of.ensures _ _ _ c.gather-places.ensures in let few = own_few c.args.b.now c.args.n c.requires.0 in (c.read_list.ensures.rest.size ∙ c.requires.2, accepted_few c.args.b.now c.args.n c.requires.0, places_few _ _ _ _ g few, on_places _ _ _ _ g few _ c.args.n c.read_list.ensures.list)
 
-
 pub shape_of-known : goal.shape_of-known
 shape_of-known c = c.gather-places.auto.known
 
-
 pub shape_of-w : goal.shape_of-w
 shape_of-w c = c.build.auto.w ∙ c.read_list.ensures.rest.size
-
 
 pub returns : goal.returns
 unfolding most_paulis

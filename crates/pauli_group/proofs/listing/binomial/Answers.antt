@@ -6,39 +6,29 @@ use Rattle.pauli_group.proofs.listing.binomial.Goals as goal
 pub bounds-row-0 : goal.bounds-row-0
 bounds-row-0 c = omega arith
 
-
 pub loop-i-init : goal.loop-i-init
 loop-i-init c = (omega arith, row_first)
-
 
 pub slice_bounds-next_row-end : goal.slice_bounds-next_row-end
 slice_bounds-next_row-end c = sym c.loop-i.invariant.1.size
 
-
 pub next_row-requires : goal.next_row-requires
 next_row-requires c = (c.loop-i.invariant.1, omega arith)
-
 
 pub overflow_add-i : goal.overflow_add-i
 overflow_add-i c = omega arith
 
-
 pub loop-i-smaller : goal.loop-i-smaller
 loop-i-smaller c = omega arith
-
 
 pub loop-i-preserved : goal.loop-i-preserved
 loop-i-preserved c = (omega arith, c.next_row.ensures)
 
-
 pub offset_bounds-row-k : goal.offset_bounds-row-k
 offset_bounds-row-k c = omega arith
-
 
 pub bounds-row-k : goal.bounds-row-k
 bounds-row-k c = omega arith
 
-
 pub returns : goal.returns
 returns c = let e : c.loop-i.i ≡ c.args.n = omega arith in c.loop-i.invariant.1.entries _ c.requires.1 ∙ ap (λ (m : ℕ). binomial m c.args.k) e
-

@@ -9,7 +9,6 @@ returns-then-size-eq0 c = record { small = (c.requires.1, omega (arith, pow_next
 pub overflow_add-result : goal.overflow_add-result
 overflow_add-result c = omega (arith, pow_small c.args.p (omega arith))
 
-
 pub returns-then-number-with : goal.returns-then-number-with
 returns-then-number-with c = let p = c.args.p in
     let s = one_shifted p (omega arith) in

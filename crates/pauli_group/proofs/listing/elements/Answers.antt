@@ -21,22 +21,18 @@ returns-in-Refused c =
       area = area_kept b work none;
     }
 
-
 pub slice_bounds-write_page-end : goal.slice_bounds-write_page-end
 slice_bounds-write_page-end c = (list_given _ _ c.check_list-checked.ensures _ c.in-Count.is).room
-
 
 pub slice_bounds-write_page-end-2 : goal.slice_bounds-write_page-end-2
 slice_bounds-write_page-end-2 c =
     let given = list_given _ _ c.check_list-checked.ensures _ c.in-Count.is in
     sym (length-take-le 4096 c.args.work.now given.room)
 
-
 pub write_page-requires : goal.write_page-requires
 write_page-requires c =
     let given = list_given _ _ c.check_list-checked.ensures _ c.in-Count.is in
     (given.count, length-take-le 4096 c.args.work.now given.room)
-
 
 pub returns : goal.returns
 returns c =
@@ -51,4 +47,3 @@ returns c =
       left = written.left ∙ ap (λ (t : Told (List ℕ)). left_in t out) same;
       area = area_cleared b work given _ written.area;
     }
-

@@ -6,7 +6,5 @@ use Rattle.pauli_group.proofs.listing.next_row.Given as goal
 abbrev pub invariant-loop-k : goal.invariant-loop-k
 invariant-loop-k l = RowPart l.n l.k l.row × (length l.row ≡ length l.initial.row)
 
-
 abbrev pub decreases-loop-k : goal.decreases-loop-k
 decreases-loop-k l = l.k
-

@@ -6,11 +6,8 @@ use Rattle.pauli_group.proofs.listing.page_size.Goals as goal
 pub returns-then-count-eq0 : goal.returns-then-count-eq0
 returns-then-count-eq0 c = (sym (page_default _ c.if-count-eq0.true), omega arith)
 
-
 pub returns-then-count-gt-LARGEST_PAGE : goal.returns-then-count-gt-LARGEST_PAGE
 returns-then-count-gt-LARGEST_PAGE c = (sym (page_largest _ c.if-count-eq0.false c.if-count-gt-LARGEST_PAGE.true), omega arith)
 
-
 pub returns : goal.returns
 returns c = (sym (page_asked _ c.if-count-eq0.false c.if-count-gt-LARGEST_PAGE.false), omega arith)
-

@@ -14,7 +14,6 @@ pub group_of-g-requires : goal.group_of-g-requires
 unfolding most_qubits
 group_of-g-requires c = (c.requires.0, omega arith, omega arith)
 
-
 pub returns-then-g-gt-MOST_LISTED : goal.returns-then-g-gt-MOST_LISTED
 unfolding told_bytes left_in
 returns-then-g-gt-MOST_LISTED c =
@@ -28,14 +27,11 @@ signs_of-signs-requires c =
     let group = c.group_of-g in
     omega (arith, group_total _ _ c.requires.0 group.ensures.group, group.auto.w, c.requires.1)
 
-
 pub nonzero_div-total : goal.nonzero_div-total
 nonzero_div-total c = omega (arith, signs_some _ c.group_of-g.ensures.group c.signs_of-signs.result c.signs_of-signs.ensures.clash c.signs_of-signs.ensures.step c.signs_of-signs.ensures.stabilizer)
 
-
 pub overflow_mul-total : goal.overflow_mul-total
 overflow_mul-total c = omega (arith, total_small c.group_of-g.result.rank c.signs_of-signs.result.step c.if-g-gt-MOST_LISTED.false (signs_some _ c.group_of-g.ensures.group c.signs_of-signs.result c.signs_of-signs.ensures.clash c.signs_of-signs.ensures.step c.signs_of-signs.ensures.stabilizer) (signs_few _ c.group_of-g.ensures.group c.signs_of-signs.result c.signs_of-signs.ensures.clash c.signs_of-signs.ensures.step c.signs_of-signs.ensures.stabilizer))
-
 
 pub put_elements-requires : goal.put_elements-requires
 put_elements-requires c =
@@ -47,7 +43,6 @@ put_elements-requires c =
       omega (arith, c.page_length-length.ensures, c.page_size.ensures.1),
       omega (arith, c.ranges),
     )
-
 
 pub write_roll-wrote-requires : goal.write_roll-wrote-requires
 write_roll-wrote-requires c =
@@ -63,10 +58,8 @@ write_roll-wrote-requires c =
       page_places _ _ group.ensures.group _ step _ _ _ (c.page_length-length.ensures ∙ ap₂ (λ (s : ℕ) (t : ℕ). min s (t - c.args.start)) c.page_size.ensures.0 (total_is _ _ c.if-g-gt-MOST_LISTED.false)) _ c.put_elements.ensures.list,
     )
 
-
 pub clear_bits-requires-2 : goal.clear_bits-requires-2
 clear_bits-requires-2 c = omega (arith, c.put_elements.auto.w, c.group_of-g.auto.w, c.requires.1)
-
 
 pub returns : goal.returns
 returns c =

@@ -6,23 +6,18 @@ use Rattle.pauli_group.proofs.member.covers.Goals as goal
 pub loop-k-init : goal.loop-k-init
 loop-k-init c = covered_start _ _ _ _
 
-
 pub overflow_mul-k : goal.overflow_mul-k
 overflow_mul-k c = omega arith
-
 
 pub overflow_add-at : goal.overflow_add-at
 overflow_add-at c = omega arith
 
-
 pub u32_at-requires : goal.u32_at-requires
 u32_at-requires c = omega arith
-
 
 pub place_from-place-requires : goal.place_from-place-requires
 place_from-place-requires c =
     (c.requires.1, rw c.walk_start.ensures (walk_from _ _ _ c.loop-k.invariant.walk _), c.requires.2)
-
 
 pub returns-then-i-count : goal.returns-then-i-count
 returns-then-i-count c =
@@ -30,10 +25,8 @@ returns-then-i-count c =
     covered_none _ _ _ _ _ _ _ c.loop-k.invariant c.loop-k-test.true _ c.u32_at.ensures _ c.place_from-place.ensures
     c.requires.2 (λ l e. omega (arith, size, c.if-i-count.true))
 
-
 pub qubit_at-met-requires : goal.qubit_at-met-requires
 qubit_at-met-requires c = omega (arith, c.if-i-count.false, c.requires.1)
-
 
 pub returns-then-met-q : goal.returns-then-met-q
 returns-then-met-q c =
@@ -41,18 +34,14 @@ returns-then-met-q c =
     covered_none _ _ _ _ _ _ _ c.loop-k.invariant c.loop-k-test.true _ c.u32_at.ensures _ c.place_from-place.ensures
     c.requires.2 (λ l e. c.if-met-q.true (c.qubit_at-met.ensures ∙ sym at ∙ e))
 
-
 pub overflow_add-from : goal.overflow_add-from
 overflow_add-from c = omega arith
-
 
 pub overflow_add-k : goal.overflow_add-k
 overflow_add-k c = omega arith
 
-
 pub loop-k-smaller : goal.loop-k-smaller
 loop-k-smaller c = omega arith
-
 
 pub loop-k-preserved : goal.loop-k-preserved
 loop-k-preserved c =
@@ -61,7 +50,5 @@ loop-k-preserved c =
     covered_next _ _ _ _ _ _ _ c.loop-k.invariant c.loop-k-test.true _ c.u32_at.ensures _ c.place_from-place.ensures
     (omega (arith, size, c.if-i-count.false)) (at ∙ sym c.qubit_at-met.ensures ∙ c.if-met-q.false)
 
-
 pub returns : goal.returns
 returns c = covered_end _ _ _ _ _ _ _ c.loop-k.invariant c.loop-k-test.false
-

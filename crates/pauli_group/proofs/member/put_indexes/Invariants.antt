@@ -12,7 +12,5 @@ abbrev pub invariant-loop-i : goal.invariant-loop-i
 invariant-loop-i l =
     (l.i < 128 → bit (set_in l.set) l.i ≡ 1) × Left l.initial.out 0 (le16s (members (set_in l.set))) l.out l.next (le16s (chosen_from (set_in l.set) (up_to l.n) l.i))
 
-
 abbrev pub decreases-loop-i : goal.decreases-loop-i
 decreases-loop-i l = l.n - l.i
-

@@ -14,7 +14,6 @@ pub group_of-a-requires : goal.group_of-a-requires
 unfolding most_qubits
 group_of-a-requires c = (c.requires.0, omega arith, c.requires.5)
 
-
 pub move_list-requires : goal.move_list-requires
 move_list-requires c =
     let group = c.group_of-a in
@@ -31,16 +30,13 @@ move_list-requires c =
       left_moves _ _ _ c.requires.4 g on,
     )
 
-
 pub group_of-b-requires : goal.group_of-b-requires
 unfolding most_qubits
 group_of-b-requires c = (c.requires.1, omega arith, c.move_list.auto.w ∙ c.group_of-a.auto.w ∙ c.requires.5)
 
-
 pub signs_of-signs-requires : goal.signs_of-signs-requires
 signs_of-signs-requires c =
     omega (arith, group_total _ _ c.requires.1 c.group_of-b.ensures.group, c.group_of-b.auto.w, c.move_list.auto.w, c.group_of-a.auto.w, c.requires.5)
-
 
 pub multiply_all-requires : goal.multiply_all-requires
 multiply_all-requires c =
@@ -59,7 +55,6 @@ multiply_all-requires c =
       rw (list_kept_after group.ensures.rest further_at c.group_of-a.result.total (omega arith)) (moved_low _ _ _ c.requires.4 c.group_of-a.ensures.group _ c.move_list.ensures.list),
     )
 
-
 pub take_mod-requires : goal.take_mod-requires
 take_mod-requires c =
     let g = c.group_of-b.ensures.group in
@@ -69,10 +64,8 @@ take_mod-requires c =
       rw step (step_kinds (promise_of c.args.promise) (paulis (list_of c.args.right.now))).0,
     )
 
-
 pub shape_of-w : goal.shape_of-w
 shape_of-w c = c.take_mod.auto.w ∙ c.multiply_all.auto.w ∙ c.group_of-b.auto.w ∙ c.move_list.auto.w ∙ c.group_of-a.auto.w
-
 
 pub returns : goal.returns
 returns c =
@@ -87,4 +80,3 @@ returns c =
     let moved = list_kept_after group.ensures.rest further_at left.result.total (omega arith) ∙ left_list _ _ _ c.requires.4 left.ensures.group _ c.move_list.ensures.list in
     remainder_left _ _ _ c.requires.4 g (list_few _ _ c.requires.1) (group_places _ _ c.requires.1 g) size (group_total _ _ c.requires.1 g) (group_on _ _ c.requires.1 g) _ moved
     _ _ step _ _ _ (rw n c.multiply_all.ensures.list) c.take_mod.ensures.list few
-

@@ -10,13 +10,11 @@ pub join_support-size-requires : goal.join_support-size-requires
 unfolding most_qubits
 join_support-size-requires c = (c.requires.0.left, c.requires.0.right, omega arith)
 
-
 pub remainder-count-requires : goal.remainder-count-requires
 remainder-count-requires c =
     let join = c.join_support-size in
     let places = joined_places c.args.left.now c.args.right.now _ _ _ c.requires.0.qubits join.ensures in
     (c.requires.0.left, c.requires.0.right, places, omega (arith, places, join.auto.known), joined_support c.args.left.now c.args.right.now _ _ _ c.requires.0.qubits join.ensures, c.requires.1)
-
 
 pub write_roll-wrote-requires : goal.write_roll-wrote-requires
 write_roll-wrote-requires c =
@@ -30,18 +28,14 @@ write_roll-wrote-requires c =
       remainder_on left _ (joined_size c.args.left.now c.args.right.now _ _ _ c.requires.0.qubits join.ensures),
     )
 
-
 pub clear_bits-requires : goal.clear_bits-requires
 clear_bits-requires c = omega (arith, c.remainder-count.auto.w, c.requires.1)
-
 
 pub shape_of-w : goal.shape_of-w
 shape_of-w c = c.clear_bits.auto.w ∙ c.remainder-count.auto.w
 
-
 pub shape_of-out : goal.shape_of-out
 shape_of-out c = c.write_roll-wrote.auto.out
-
 
 pub returns : goal.returns
 returns c =

@@ -11,7 +11,5 @@ invariant-loop-i l =
     (l.i < 128 → bit (set_in l.set) l.i ≡ 1) × (l.i < l.count → l.from.0 ≤ lower (get_or l.own l.i 0) (take l.size l.joined))
     × (set_in l.moved ≡ moved_set (take l.count l.own) (take l.size l.joined) (set_in l.set % 2 ^ l.i))
 
-
 abbrev pub decreases-loop-i : goal.decreases-loop-i
 decreases-loop-i l = l.count - l.i
-

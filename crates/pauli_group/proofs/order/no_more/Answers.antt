@@ -5,7 +5,5 @@ use Rattle.pauli_group.proofs.order.no_more.Goals as goal
 pub returns-then-a-b : goal.returns-then-a-b
 returns-then-a-b c = phases_more (ranks_in c.args.a) (ranks_in c.args.b) c.if-a-b.true
 
-
 pub returns : goal.returns
 returns c = phases_no_more (ranks_in c.args.a) (ranks_in c.args.b) c.if-a-b.false
-

@@ -9,14 +9,11 @@ use Rattle.pauli_group.proofs.order.order_of.Goals as goal
 pub ranks_of-requires : goal.ranks_of-requires
 ranks_of-requires c = step_positive _ _ _ c.describe-a.ensures
 
-
 pub ranks_of-requires-2 : goal.ranks_of-requires-2
 ranks_of-requires-2 c = step_positive _ _ _ c.describe-b.ensures
 
-
 pub ranks_of-requires-3 : goal.ranks_of-requires-3
 ranks_of-requires-3 c = step_positive _ _ _ c.describe_two-both.ensures
-
 
 pub returns : goal.returns
 returns c =
@@ -25,4 +22,3 @@ returns c =
     (ranks_are _ _ _ c.describe-b.ensures _ _ c.ranks_of-2.ensures.0 c.ranks_of-2.ensures.1)
     (ranks_are _ _ _ c.describe_two-both.ensures _ _ c.ranks_of-3.ensures.0 c.ranks_of-3.ensures.1
     ∙ ap (ranks_of none) (paulis_append (list_of c.args.left.now) (list_of c.args.right.now)))
-

@@ -12,22 +12,18 @@ returns-in-Refused c =
       area = pair_kept c.args.left.now c.args.right.now c.args.work.now none;
     }
 
-
 pub slice_bounds-compare-end : goal.slice_bounds-compare-end
 slice_bounds-compare-end c = (pair_given _ _ _ c.check_pair-found.ensures _ c.in-Counts.is).room
-
 
 pub slice_bounds-compare-end-2 : goal.slice_bounds-compare-end-2
 slice_bounds-compare-end-2 c =
     let g = pair_given _ _ _ c.check_pair-found.ensures _ c.in-Counts.is in
     sym (length-take-le 4096 c.args.work.now g.room)
 
-
 pub compare-order-requires : goal.compare-order-requires
 compare-order-requires c =
     let g = pair_given _ _ _ c.check_pair-found.ensures _ c.in-Counts.is in
     (joinable g.joining, length-take-le 4096 c.args.work.now g.room)
-
 
 pub returns : goal.returns
 returns c =
@@ -37,4 +33,3 @@ returns c =
       told = order_answered c.args.left.now c.args.right.now c.args.work.now _ _ g.joining g.room _ _ _ order.told;
       area = pair_cleared c.args.left.now c.args.right.now c.args.work.now _ _ g.joining g.room _ order.area;
     }
-

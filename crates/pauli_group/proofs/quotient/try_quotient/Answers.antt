@@ -14,22 +14,18 @@ returns-in-Refused c =
     let e = ends_refused c.args.left.now c.args.right.now c.args.work.now c.args.out.now (λ t. and_then t λ b. quotient_bytes (try_quotient (promise_of c.args.left_promise) (promise_of c.args.right_promise) b.left b.right)) refl none in
     record { told = e.answered; written = e.written; area = e.area }
 
-
 pub slice_bounds-write_quotient-end : goal.slice_bounds-write_quotient-end
 slice_bounds-write_quotient-end c = (pair_given _ _ _ c.check_pair-found.ensures _ c.in-Counts.is).room
-
 
 pub slice_bounds-write_quotient-end-2 : goal.slice_bounds-write_quotient-end-2
 slice_bounds-write_quotient-end-2 c =
     let g = pair_given _ _ _ c.check_pair-found.ensures _ c.in-Counts.is in
     sym (length-take-le 4096 c.args.work.now g.room)
 
-
 pub write_quotient-requires : goal.write_quotient-requires
 write_quotient-requires c =
     let g = pair_given _ _ _ c.check_pair-found.ensures _ c.in-Counts.is in
     (joinable g.joining, length-take-le 4096 c.args.work.now g.room)
-
 
 pub returns : goal.returns
 unfolding quotient_call and_then
@@ -38,4 +34,3 @@ returns c =
     let write = c.write_quotient.ensures in
     let e = ends_answered c.args.left.now c.args.right.now c.args.work.now c.args.out.now (λ t. and_then t λ b. quotient_bytes (try_quotient (promise_of c.args.left_promise) (promise_of c.args.right_promise) b.left b.right)) g.joining g.room _ refl _ _ _ write.told write.left write.area in
     record { told = e.answered; written = e.written; area = e.area }
-

@@ -9,14 +9,11 @@ use Rattle.pauli_group.proofs.quotient.write_quotient.Goals as goal
 pub order_of-order-requires : goal.order_of-order-requires
 order_of-order-requires c = (swapped c.requires.0, c.requires.1)
 
-
 pub clear_bits-requires : goal.clear_bits-requires
 clear_bits-requires c = omega (arith, c.order_of-order.auto.w, c.requires.1)
 
-
 pub shape_of-w-then-not-is_below : goal.shape_of-w-then-not-is_below
 shape_of-w-then-not-is_below c = c.clear_bits.auto.w ∙ c.order_of-order.auto.w
-
 
 pub returns-then-not-is_below : goal.returns-then-not-is_below
 unfolding told_bytes left_in
@@ -26,14 +23,11 @@ returns-then-not-is_below c =
 pub write_modulo-requires : goal.write_modulo-requires
 write_modulo-requires c = (c.requires.0, c.order_of-order.auto.w ∙ c.requires.1)
 
-
 pub shape_of-w : goal.shape_of-w
 shape_of-w c = c.write_modulo.auto.w ∙ c.order_of-order.auto.w
 
-
 pub shape_of-out : goal.shape_of-out
 shape_of-out c = c.write_modulo.auto.out
-
 
 pub returns : goal.returns
 unfolding cleared

@@ -11,25 +11,20 @@ overflow_add-w c =
           c.struct_known-then-s-lt64-1.given.1.0.fits c.shifted-a.ensures;
     }
 
-
 pub bounds-w-at-then-s-lt64 : goal.bounds-w-at-then-s-lt64
 bounds-w-at-then-s-lt64 c = simp length-set (omega arith)
-
 
 pub bounds-w-at-then-s-lt64-2 : goal.bounds-w-at-then-s-lt64-2
 bounds-w-at-then-s-lt64-2 c = simp length-set (omega arith)
 
-
 pub bounds-w-at-then-s-lt64-3 : goal.bounds-w-at-then-s-lt64-3
 bounds-w-at-then-s-lt64-3 c = simp length-set (omega arith)
-
 
 pub returns-then-s-lt64 : goal.returns-then-s-lt64
 returns-then-s-lt64 c =
     short_row c.args.w.now c.args.at c.args.p c.args.s c.requires.0 c.requires.2 c.requires.3
     c.if-s-lt64.true c.shifted-a.result c.struct_known-then-s-lt64-1.given.0.fits
     c.struct_known-then-s-lt64-1.given.1.0.fits c.shifted-a.ensures
-
 
 pub overflow_add-w-2 : goal.overflow_add-w-2
 overflow_add-w-2 c =
@@ -39,10 +34,8 @@ overflow_add-w-2 c =
           c.shifted-a-2.ensures;
     }
 
-
 pub bounds-w-at-3 : goal.bounds-w-at-3
 bounds-w-at-3 c = simp length-set (omega arith)
-
 
 pub overflow_add-w-4 : goal.overflow_add-w-4
 overflow_add-w-4 c =
@@ -53,14 +46,11 @@ overflow_add-w-4 c =
           c.shifted-b.ensures;
     }
 
-
 pub bounds-w-at-4 : goal.bounds-w-at-4
 bounds-w-at-4 c = simp length-set (omega arith)
 
-
 pub bounds-w-at-5 : goal.bounds-w-at-5
 bounds-w-at-5 c = simp length-set (omega arith)
-
 
 pub returns : goal.returns
 returns c =
@@ -68,4 +58,3 @@ returns c =
     c.if-s-lt64.false c.requires.1 c.shifted-a-2.result
     c.struct_known-4-1.given.0.fits c.shifted-a-2.ensures c.shifted-b.result c.struct_known-5-1.given.0.fits
     c.shifted-b.ensures c.struct_known-2-1.given.0.fits c.struct_known-5-1.given.1.0.fits
-

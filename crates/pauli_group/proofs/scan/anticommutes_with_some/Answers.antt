@@ -9,18 +9,14 @@ use Rattle.pauli_group.proofs.scan.anticommutes_with_some.Goals as goal
 pub loop-i-init : goal.loop-i-init
 loop-i-init c = from_start (anticommutes_with_some _) _ _ _
 
-
 pub overflow_mul-i : goal.overflow_mul-i
 overflow_mul-i c = omega arith
-
 
 pub overflow_add-base : goal.overflow_add-base
 overflow_add-base c = omega arith
 
-
 pub load-requires : goal.load-requires
 load-requires c = omega arith
-
 
 pub returns-then-anticommutes-eq1 : goal.returns-then-anticommutes-eq1
 returns-then-anticommutes-eq1 c =
@@ -28,14 +24,11 @@ returns-then-anticommutes-eq1 c =
     from_hit (with_some_lem (held c.args.p)) c.loop-i.invariant c.loop-i-test.true load.result load.ensures
     (omega (arith, c.anticommutes.ensures, c.if-anticommutes-eq1.true))
 
-
 pub overflow_add-i : goal.overflow_add-i
 overflow_add-i c = omega arith
 
-
 pub loop-i-smaller : goal.loop-i-smaller
 loop-i-smaller c = omega arith
-
 
 pub loop-i-preserved : goal.loop-i-preserved
 loop-i-preserved c =
@@ -43,7 +36,5 @@ loop-i-preserved c =
     from_miss (with_some_lem (held c.args.p)) c.loop-i.invariant c.loop-i-test.true load.result load.ensures
     (zero_bit _ (anticommute_lt _ _) (λ e. c.if-anticommutes-eq1.false (c.anticommutes.ensures ∙ e)))
 
-
 pub returns : goal.returns
 returns c = from_end (with_some_lem (held c.args.p)) c.loop-i.invariant c.loop-i-test.false
-

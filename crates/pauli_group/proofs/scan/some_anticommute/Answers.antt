@@ -9,34 +9,26 @@ use Rattle.pauli_group.proofs.scan.some_anticommute.Goals as goal
 pub loop-i-init : goal.loop-i-init
 loop-i-init c = from_start some_anticommute _ _ _
 
-
 pub overflow_mul-at : goal.overflow_mul-at
 overflow_mul-at c = omega arith
-
 
 pub overflow_add-at : goal.overflow_add-at
 overflow_add-at c = omega arith
 
-
 pub overflow_add-at-in-loop-i : goal.overflow_add-at-in-loop-i
 overflow_add-at-in-loop-i c = omega arith
-
 
 pub overflow_sub-n : goal.overflow_sub-n
 overflow_sub-n c = omega arith
 
-
 pub overflow_sub-n-in-loop-i : goal.overflow_sub-n-in-loop-i
 overflow_sub-n-in-loop-i c = omega arith
-
 
 pub load-requires : goal.load-requires
 load-requires c = omega arith
 
-
 pub anticommutes_with_some-requires : goal.anticommutes_with_some-requires
 anticommutes_with_some-requires c = omega arith
-
 
 pub returns-then-anticommutes_with_some-eq1 : goal.returns-then-anticommutes_with_some-eq1
 returns-then-anticommutes_with_some-eq1 c = let load = c.load in
@@ -47,10 +39,8 @@ returns-then-anticommutes_with_some-eq1 c = let load = c.load in
 pub overflow_add-i : goal.overflow_add-i
 overflow_add-i c = omega arith
 
-
 pub loop-i-smaller : goal.loop-i-smaller
 loop-i-smaller c = omega arith
-
 
 pub loop-i-preserved : goal.loop-i-preserved
 loop-i-preserved c = let load = c.load in
@@ -60,4 +50,3 @@ loop-i-preserved c = let load = c.load in
 
 pub returns : goal.returns
 returns c = from_end two_anticommute c.loop-i.invariant c.loop-i-test.false
-

@@ -7,18 +7,14 @@ use Rattle.pauli_group.proofs.scan.some_order_four.Goals as goal
 pub loop-i-init : goal.loop-i-init
 loop-i-init c = from_start some_order_four _ _ _
 
-
 pub overflow_mul-i : goal.overflow_mul-i
 overflow_mul-i c = omega arith
-
 
 pub overflow_add-base : goal.overflow_add-base
 overflow_add-base c = omega arith
 
-
 pub load-requires : goal.load-requires
 load-requires c = omega arith
-
 
 pub returns-then-not-is_order_two : goal.returns-then-not-is_order_two
 returns-then-not-is_order_two c =
@@ -26,14 +22,11 @@ returns-then-not-is_order_two c =
     from_hit order_four_lem c.loop-i.invariant c.loop-i-test.true load.result load.ensures
     (more_than _ (eqb-false _ 0 (sym c.is_order_two.ensures ∙ c.if-not-is_order_two.true)))
 
-
 pub overflow_add-i : goal.overflow_add-i
 overflow_add-i c = omega arith
 
-
 pub loop-i-smaller : goal.loop-i-smaller
 loop-i-smaller c = omega arith
-
 
 pub loop-i-preserved : goal.loop-i-preserved
 loop-i-preserved c =
@@ -41,7 +34,5 @@ loop-i-preserved c =
     from_miss order_four_lem c.loop-i.invariant c.loop-i-test.true load.result load.ensures
     (eqb-true _ 0 (sym c.is_order_two.ensures ∙ c.if-not-is_order_two.false))
 
-
 pub returns : goal.returns
 returns c = from_end order_four_lem c.loop-i.invariant c.loop-i-test.false
-

@@ -10,13 +10,10 @@ pub returns-in-Abelian : goal.returns-in-Abelian
 unfolding clash_of
 returns-in-Abelian c = (rw c.in-Abelian.is, omega arith)
 
-
 pub returns-in-NotAbelian : goal.returns-in-NotAbelian
 unfolding clash_of
 returns-in-NotAbelian c = (rw c.in-NotAbelian.is, omega arith)
 
-
 pub returns-in-None : goal.returns-in-None
 unfolding clash_of
 returns-in-None c = (rw c.in-None.is c.some_anticommute.ensures, omega (arith, search_lt two_anticommute (list_in c.args.w.now standard_at c.args.n)))
-

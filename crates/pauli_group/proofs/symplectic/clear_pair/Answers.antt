@@ -1,4 +1,4 @@
-use Rattle.std.proofs.Common.{sym, ap, ◌∙◌, ⊎_elim, arith}
+use Rattle.std.proofs.Common.{sym, ap, ◌∙◌, arith}
 use Rattle.pauli.specs.Pauli.{normal, I}
 use Rattle.pauli.specs.Signed.{held, list_in}
 use Rattle.pauli.proofs.write.Writers.{length_list}
@@ -12,46 +12,35 @@ use Rattle.pauli_group.proofs.symplectic.clear_pair.Goals.{then-i-k, else-i-k}
 pub loop-i-init : goal.loop-i-init
 loop-i-init c = (omega arith, stored_none normal _ _ _ _, outside_refl _ _ _)
 
-
 pub overflow_mul-i : goal.overflow_mul-i
 overflow_mul-i c = omega arith
-
 
 pub overflow_add-base : goal.overflow_add-base
 overflow_add-base c = omega arith
 
-
 pub load-g-requires : goal.load-g-requires
 load-g-requires c = omega (arith, c.loop-i.invariant.2.size)
-
 
 pub times_if-g-requires : goal.times_if-g-requires
 times_if-g-requires c = omega arith
 
-
 pub overflow_mul-i-in-loop-i : goal.overflow_mul-i-in-loop-i
 overflow_mul-i-in-loop-i c = omega arith
-
 
 pub overflow_add-base-in-loop-i : goal.overflow_add-base-in-loop-i
 overflow_add-base-in-loop-i c = omega arith
 
-
 pub times_if-requires : goal.times_if-requires
 times_if-requires c = omega arith
-
 
 pub store-requires : goal.store-requires
 store-requires c = omega (arith, c.loop-i.invariant.2.size)
 
-
 pub overflow_add-i : goal.overflow_add-i
 overflow_add-i c = omega arith
 
-
 pub loop-i-smaller : goal.loop-i-smaller
 loop-i-smaller c = omega arith
-
 
 pub loop-i-preserved : goal.loop-i-preserved
 loop-i-preserved c = let loop = c.loop-i in
@@ -70,7 +59,7 @@ loop-i-preserved c = let loop = c.loop-i in
       omega arith,
       stored_step normal (cleared k x z gs) base n w i loop.w loop.invariant.1 (cleared_length k x z gs ∙ count) I c.times_if.result less (omega arith)
           (elim c.if-i-k.branch [
-            then-i-k h ↦ clear_after k n i x z gs count less (held load.result) (held c.if-i-k.g) (held c.times_if.result) same c.times_if.ensures h.if-i-k.true (ap (λ q. normal (held q)) h.g-is ∙ h.times_if-g.ensures)
+            | then-i-k h ↦ clear_after k n i x z gs count less (held load.result) (held c.if-i-k.g) (held c.times_if.result) same c.times_if.ensures h.if-i-k.true (ap (λ q. normal (held q)) h.g-is ∙ h.times_if-g.ensures)
             | else-i-k h ↦ clear_before k n i x z gs count less (held load.result) (held c.if-i-k.g) (held c.times_if.result) same c.times_if.ensures (omega (arith, h.if-i-k.false)) (ap held h.g-is)
           ])
           _ c.store.ensures,
@@ -79,7 +68,6 @@ loop-i-preserved c = let loop = c.loop-i in
 
 pub shape_of-w : goal.shape_of-w
 shape_of-w c = c.loop-i.invariant.2.size
-
 
 pub returns : goal.returns
 returns c = let loop = c.loop-i in

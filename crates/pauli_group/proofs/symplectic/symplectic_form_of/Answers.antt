@@ -20,22 +20,18 @@ returns-in-Refused c =
       area = area_kept b work none;
     }
 
-
 pub slice_bounds-write_symplectic-end : goal.slice_bounds-write_symplectic-end
 slice_bounds-write_symplectic-end c = (list_given _ _ c.check_list-checked.ensures _ c.in-Count.is).room
-
 
 pub slice_bounds-write_symplectic-end-2 : goal.slice_bounds-write_symplectic-end-2
 slice_bounds-write_symplectic-end-2 c =
     let given = list_given _ _ c.check_list-checked.ensures _ c.in-Count.is in
     sym (length-take-le 4096 c.args.work.now given.room)
 
-
 pub write_symplectic-requires : goal.write_symplectic-requires
 write_symplectic-requires c =
     let given = list_given _ _ c.check_list-checked.ensures _ c.in-Count.is in
     (given.count, length-take-le 4096 c.args.work.now given.room)
-
 
 pub returns : goal.returns
 unfolding symplectic_call
@@ -52,4 +48,3 @@ returns c =
       left = written.left ∙ ap (λ (t : Told (List ℕ)). left_in t out) same;
       area = area_cleared b work given _ written.area;
     }
-

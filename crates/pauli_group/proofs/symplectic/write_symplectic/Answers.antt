@@ -13,19 +13,15 @@ use Rattle.pauli_group.proofs.symplectic.write_symplectic.Goals as goal
 pub overflow_mul-n : goal.overflow_mul-n
 overflow_mul-n c = omega (arith, accepted_length c.args.b.now c.args.n c.requires.0)
 
-
 pub overflow_add-n : goal.overflow_add-n
 overflow_add-n c = omega (arith, accepted_length c.args.b.now c.args.n c.requires.0)
-
 
 pub numbers_of-requires : goal.numbers_of-requires
 numbers_of-requires c = c.requires.0
 
-
 pub gather-places-requires : goal.gather-places-requires
 unfolding most_qubits
 gather-places-requires c = (omega (arith, accepted_length c.args.b.now c.args.n c.requires.0, c.numbers_of.ensures), omega arith, omega arith, tt)
-
 
 pub read_list-requires : goal.read_list-requires
 unfolding most_paulis most_qubits
@@ -38,11 +34,9 @@ read_list-requires c = let g = own_gathered c.args.b.now c.args.n c.requires.0 _
       (accepted c.args.b.now c.args.n c.requires.0).1,
     )
 
-
 pub pair_up-requires : goal.pair_up-requires
 unfolding most_paulis
 pair_up-requires c = (c.read_list.ensures.rest.size ∙ c.requires.1, accepted_few c.args.b.now c.args.n c.requires.0)
-
 
 pub write_roll-wrote-requires : goal.write_roll-wrote-requires
 unfolding most_paulis
@@ -55,7 +49,6 @@ write_roll-wrote-requires c = let g = own_gathered c.args.b.now c.args.n c.requi
       omega (arith, places_few _ _ _ _ g few, c.gather-places.auto.known),
       pairs_on c.args.b.now c.args.n c.requires.0 _ _ _ g _ c.read_list.ensures.list _ c.pair_up.ensures,
     )
-
 
 pub returns : goal.returns
 returns c = let out = c.args.out.now in

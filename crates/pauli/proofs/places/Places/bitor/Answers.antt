@@ -7,4 +7,3 @@ use Rattle.pauli.proofs.places.Places.bitor.Goals as goal
 pub returns : goal.returns
 unfolding set_in
 returns c = or_halves c.args.self c.args.other (record { low = omega arith; high = omega arith }) (record { low = omega arith; high = omega arith })
-

@@ -5,4 +5,3 @@ use Rattle.pauli.proofs.places.Places.dot.Goals as goal
 
 pub returns : goal.returns
 returns c = (dot_halves c.args.self c.args.other (record { low = omega arith; high = omega arith }) (record { low = omega arith; high = omega arith }), omega arith)
-

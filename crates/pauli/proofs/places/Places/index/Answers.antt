@@ -8,8 +8,6 @@ pub returns-then-i-lt64 : goal.returns-then-i-lt64
 unfolding bit
 returns-then-i-lt64 c = sym (index_low c.args.self (record { low = omega arith; high = omega arith }) c.args.p.0 c.if-i-lt64.true)
 
-
 pub returns : goal.returns
 unfolding bit
 returns c = sym (index_high c.args.self (record { low = omega arith; high = omega arith }) c.args.p.0 c.if-i-lt64.false)
-

@@ -6,4 +6,3 @@ use Rattle.pauli.proofs.places.Places.none.Goals as goal
 pub returns : goal.returns
 unfolding set_in
 returns c = refl
-

@@ -8,4 +8,3 @@ use Rattle.pauli.proofs.signed.Pauli.identity.Goals as goal
 pub returns : goal.returns
 unfolding held I
 returns c = pauli_path refl c.none.ensures c.none-2.ensures
-

@@ -9,8 +9,6 @@ pub returns-then-self-ne0 : goal.returns-then-self-ne0
 unfolding held is_identity
 returns-then-self-ne0 c = sym (sum_not _ _ c.if-self-ne0.true)
 
-
 pub returns : goal.returns
 unfolding held is_identity
 returns c = c.is_zero.ensures ∙ ap (λ (x : ℕ). eqb x 0) c.bitor.ensures ∙ sym (sum_zero _ _ c.if-self-ne0.false)
-

@@ -7,8 +7,6 @@ use Rattle.pauli.proofs.signed.Pauli.is_order_two.Goals as goal
 pub overflow_add-result : goal.overflow_add-result
 overflow_add-result c = omega (arith, c.dot.ensures.1)
 
-
 pub returns : goal.returns
 unfolding held order_four
 returns c = ap (λ (x : ℕ). eqb ((c.args.self.exponent + x) % 2) 0) c.dot.ensures.0
-

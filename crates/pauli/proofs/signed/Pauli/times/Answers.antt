@@ -9,12 +9,9 @@ use Rattle.pauli.proofs.signed.Pauli.times.Goals as goal
 pub overflow_mul-sign : goal.overflow_mul-sign
 overflow_mul-sign c = omega (arith, c.dot-crossed.ensures.1)
 
-
 pub overflow_cast-sign : goal.overflow_cast-sign
 overflow_cast-sign c = omega (arith, c.dot-crossed.ensures.1)
-
 
 pub returns : goal.returns
 unfolding held normal times
 returns c = pauli_path (wrap_value _ _ _ _ _ _ c.wrapping_add_u8-sum.ensures.value c.wrapping_add_u8.ensures.value c.dot-crossed.ensures.0) c.bitxor.ensures c.bitxor-2.ensures
-

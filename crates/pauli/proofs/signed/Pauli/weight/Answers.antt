@@ -8,4 +8,3 @@ use Rattle.pauli.proofs.signed.Pauli.weight.Goals as goal
 pub returns : goal.returns
 unfolding held pauli_weight
 returns c = c.weight.ensures.0 ∙ ap weight c.bitor.ensures
-

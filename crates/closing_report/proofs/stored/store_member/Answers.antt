@@ -1,0 +1,16 @@
+-- Three stores.
+use mathlib.Core.Path.{refl}
+use native.Mathlib.Omega.{arith}
+use lib.ListN.{length-set}
+use Rattle.closing_report.specs.Stored.{put_member}
+use Rattle.closing_report.proofs.stored.store_member.Goals as goal
+
+pub bounds-w-at-2 : goal.bounds-w-at-2
+bounds-w-at-2 c = simp length-set (omega arith)
+
+pub bounds-w-at-3 : goal.bounds-w-at-3
+bounds-w-at-3 c = simp length-set (omega arith)
+
+pub returns : goal.returns
+unfolding put_member
+returns c = refl
