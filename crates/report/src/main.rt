@@ -15,7 +15,7 @@ use std::io;
 use std::io::Read;
 
 // How many bytes were read, or that a read failed.
-#[derive(Drop)]
+#[derive(Clone, Copy)]
 enum Reading {
     Bytes(usize),
     Failed,
