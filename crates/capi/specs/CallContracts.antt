@@ -4,14 +4,16 @@ use Rattle.std.proofs.Math.Option.{Option}
 use Rattle.binar.specs.declared.matrix_form.Formation.TheVariants.{Rank, Misfit}
 use Rattle.binar.specs.Layout.{form_stride, fits, formed, pick}
 use Rattle.binar.specs.Laid.{laid_out}
-use Rattle.pauli.specs.Told.{Told}
+use Rattle.pauli.specs.Told.{Told, map_told}
 use Rattle.pauli.specs.Writing.{told_bytes, left_in}
 use Rattle.pauli.specs.JoinCalls.{stretch_of, roll_numbered, body_of}
 use Rattle.pauli_theory.specs.Membership.{Factorization}
 use Rattle.pauli_group.specs.WorkArea.{area_after}
 use Rattle.pauli_group.specs.Calls.{told_member, member_left}
+use Rattle.factorizations.specs.Calls.{told_results}
+use Rattle.factorizations.specs.Records.{results_bytes}
 use Rattle.capi.specs.declared.answer.Answer.{Answer}
-use Rattle.capi.specs.Code.{code_number, code_body, code_member, code_form}
+use Rattle.capi.specs.Code.{code_number, code_body, code_member, code_results, code_form}
 
 -- a call that writes a roll, and uses no work area
 pub record Writing (result : Told (List ℕ)) (out : List ℕ) (r : Answer) (out' : List ℕ) : Type 0 where
@@ -33,6 +35,12 @@ pub record Listing {A : Type 0} (result : Told (List ℕ)) (checked : Told A) (w
 pub record Factoring {A : Type 0} (result : Told (Option Factorization)) (checked : Told A) (work out : List ℕ) (r : Answer) (work' out' : List ℕ) : Type 0 where
   pub told : r ≡ code_member (told_member result out)
   pub left : out' ≡ member_left result out
+  pub area : work' ≡ area_after checked work
+
+-- membership of a roll of elements
+pub record FactoringAll {A : Type 0} (results : Told (List (Option Factorization))) (checked : Told A) (work out : List ℕ) (r : Answer) (work' out' : List ℕ) : Type 0 where
+  pub told : r ≡ code_results (told_results results out)
+  pub left : out' ≡ left_in (map_told results_bytes results) out
   pub area : work' ≡ area_after checked work
 
 -- the lookup of a joined body: where it stands, and that the bytes there are the body; at a refusal both are empty

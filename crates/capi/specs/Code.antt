@@ -8,6 +8,8 @@ use Rattle.pauli.specs.JoinCalls.{Looked, Stretch}
 use Rattle.pauli_theory.specs.Group.{Promise, none, abelian, notAbelian}
 use Rattle.pauli_theory.specs.Order.{Order, equal, less, greater, no_order}
 use Rattle.pauli_group.specs.Calls.{Factored}
+use Rattle.factorizations.specs.Calls.{Totals}
+use Rattle.sizes.specs.Calls.{Joined}
 use Rattle.capi.specs.declared.answer.Answer.{Answer}
 
 -- "A refusal carries its number and its place"; all else is 0
@@ -43,6 +45,16 @@ abbrev pub code_member : Told (Option Factored) → Answer
 code_member (answer (some f)) = code_values 1 f.count f.exponent
 code_member (answer nothing) = code_values 0 0 0
 code_member (refused n p) = code_refusal n p
+
+-- how many results there are, and how many bytes they take
+abbrev pub code_results : Told Totals → Answer
+code_results (answer t) = code_values t.count t.bytes 0
+code_results (refused n p) = code_refusal n p
+
+-- the joined roll's length in bytes, its count and its number of distinct qubits
+abbrev pub code_sizes : Told Joined → Answer
+code_sizes (answer s) = code_values s.bytes s.count s.qubits
+code_sizes (refused n p) = code_refusal n p
 
 abbrev pub order_number : Order → ℕ
 order_number equal = 0

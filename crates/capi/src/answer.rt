@@ -6,9 +6,12 @@ ghost use Rattle.pauli.specs.WriteAnswers.{told_wrote};
 ghost use Rattle.pauli.specs.Lookups.{told_looked};
 ghost use Rattle.pauli_group.specs.Answers.{phases_told, told_rank, told_phases, told_decided, told_size, told_factored};
 ghost use Rattle.pauli_group.specs.Answers.{order_of, told_order};
-ghost use Rattle.capi.specs.Code.{code_refusal as code_refusal_spec, code_values as code_values_spec, code_number, code_phases as code_phases_spec, code_looked as code_looked_spec, code_member as code_member_spec, order_number as order_number_spec, code_order as code_order_spec, code_form as code_form_spec};
+ghost use Rattle.factorizations.specs.Answers.{told_factorizations};
+ghost use Rattle.sizes.specs.Answers.{told_sizes, told_bound, told_page};
+ghost use Rattle.capi.specs.Code.{code_refusal as code_refusal_spec, code_values as code_values_spec, code_number, code_phases as code_phases_spec, code_looked as code_looked_spec, code_member as code_member_spec, code_results as code_results_spec, code_sizes as code_sizes_spec, order_number as order_number_spec, code_order as code_order_spec, code_form as code_form_spec};
 
 use binar::matrix_form::Formation;
+use factorizations::answers::ResultsFound;
 use pauli::lookup::EntryFound;
 use pauli::refusal::{Refusal, number_of};
 use pauli::roll::Checked;
@@ -16,6 +19,7 @@ use pauli::write::Wrote;
 use pauli_group::answers::{
     Decided, MemberFound, Order, OrderFound, Phases, PhasesFound, RankFound, SizeFound,
 };
+use sizes::answers::{BoundFound, PageFound, SizesFound};
 
 // The refusal's number, or 0 for an answer; the refusal's place; and what the call answers, in up to three numbers.
 #[repr(C)]
@@ -137,6 +141,42 @@ pub(crate) fn code_member(found: MemberFound) -> Answer
         MemberFound::Member(f) => code_values(1, f.count, f.exponent as usize),
         MemberFound::NotMember => code_values(0, 0, 0),
         MemberFound::Refused(r) => code_refusal(r),
+    }
+}
+
+pub(crate) fn code_results(found: ResultsFound) -> Answer
+    ensures { result ≡ code_results_spec (told_factorizations found) }
+{
+    match found {
+        ResultsFound::Results(results) => code_values(results.count, results.bytes, 0),
+        ResultsFound::Refused(r) => code_refusal(r),
+    }
+}
+
+pub(crate) fn code_sizes(found: SizesFound) -> Answer
+    ensures { result ≡ code_sizes_spec (told_sizes found) }
+{
+    match found {
+        SizesFound::Sizes(sizes) => code_values(sizes.bytes, sizes.count, sizes.qubits),
+        SizesFound::Refused(r) => code_refusal(r),
+    }
+}
+
+pub(crate) fn code_bound(found: BoundFound) -> Answer
+    ensures { result ≡ code_number (told_bound found) }
+{
+    match found {
+        BoundFound::Bytes(n) => code_values(n, 0, 0),
+        BoundFound::Refused(r) => code_refusal(r),
+    }
+}
+
+pub(crate) fn code_page(found: PageFound) -> Answer
+    ensures { result ≡ code_number (told_page found) }
+{
+    match found {
+        PageFound::Elements(n) => code_values(n, 0, 0),
+        PageFound::Refused(r) => code_refusal(r),
     }
 }
 

@@ -1,13 +1,15 @@
 // The calls on one list. Each lends a work area.
 ghost use Rattle.std.specs.Prelude.{length};
 ghost use Rattle.pauli_group.specs.Calls.{one_list, standard_generators as standard_generators_spec, rank_call, phases_call, abelian_call, stabilizer_call, size_call, question, factorization_call, symplectic_call, elements_call};
+ghost use Rattle.factorizations.specs.Calls.{questions, factorizations_call};
 ghost use Rattle.capi.specs.Code.{code_number, code_phases as code_phases_spec, promise_numbered as promise_numbered_spec};
-ghost use Rattle.capi.specs.CallContracts.{Telling, Listing, Factoring};
+ghost use Rattle.capi.specs.CallContracts.{Telling, Listing, Factoring, FactoringAll};
 
 use crate::answer::{
-    Answer, code_decided, code_member, code_phases, code_rank, code_size, code_wrote,
+    Answer, code_decided, code_member, code_phases, code_rank, code_results, code_size, code_wrote,
 };
 use crate::promise::promise_numbered;
+use factorizations::calls::indexed_factorizations_of;
 use pauli_group::calls::{
     is_abelian, is_stabilizer_group, log2_size, phases, rank, standard_generators,
 };
@@ -91,6 +93,22 @@ pub extern "C" fn howhiruke_indexed_factorization_of(
     let promised = promise_numbered(promise);
     let found = indexed_factorization_of(generators, elements, number, promised, work, out);
     code_member(found)
+}
+
+// Membership of every Pauli of the element roll; a record of each goes to the output.
+#[unsafe(no_mangle)]
+pub extern "C" fn howhiruke_indexed_factorizations_of(
+    generators: &[u8],
+    elements: &[u8],
+    promise: u64,
+    work: &mut [u64],
+    out: &mut [u8],
+) -> Answer
+    ensures { FactoringAll (factorizations_call (promise_numbered_spec promise) generators.now elements.now (length work.old)) (questions generators.now elements.now (length work.old)) work.old out.old result work.new out.new }
+{
+    let promised = promise_numbered(promise);
+    let found = indexed_factorizations_of(generators, elements, promised, work, out);
+    code_results(found)
 }
 
 // Writes a page of the group's elements.

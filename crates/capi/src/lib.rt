@@ -12,6 +12,8 @@ pub mod roll_calls;
 pub mod group_calls;
 // The calls on two lists.
 pub mod pair_calls;
+// The calls that tell sizes before the work.
+pub mod size_calls;
 // The echelon form of a matrix.
 pub mod matrix_calls;
 // The call for the closing listing.

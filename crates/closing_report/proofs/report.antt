@@ -1,4 +1,3 @@
-pub mod RefusalLaws
 pub mod CallLaws
 pub mod BoundLaws
 pub mod ResultLaws

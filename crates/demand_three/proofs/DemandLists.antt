@@ -11,7 +11,6 @@ use Rattle.pauli.specs.Pauli.{Pauli, I, normal, cons_if, select}
 use Rattle.pauli.specs.Roll.{Sparse, by_value}
 use Rattle.pauli.specs.Support.{All}
 use Rattle.pauli.specs.Sets.{members}
-use Rattle.pauli.specs.Writing.{put_bytes}
 use Rattle.pauli.proofs.roll.BytesLaws.{length_le16, u16_read}
 use Rattle.pauli.proofs.roll.Items.{items_at, items_bytes, length_items_at, length_items_bytes, items_read}
 use Rattle.pauli.proofs.join.ReadBack.{paulis_by_value as lists_by_value}
@@ -41,14 +40,12 @@ length_indexes b i n = rw (indexes_items, length_items_at)
 pub length_le16s : (ns : List ℕ) → length (le16s ns) ≡ 2 * length ns
 length_le16s ns = rw (le16s_items, length_items_bytes 2 le16 length_le16)
 
--- the numbers at the front of an output, read back
-pub indexes_read : (out ns : List ℕ) → All (λ n. n < 2 ^ 16) ns → indexes_at (put_bytes out 0 (le16s ns)) 0 (length ns) ≡ ns
-unfolding put_bytes
-indexes_read out ns low =
-    let b = put_bytes out 0 (le16s ns) in
-    let rest = drop (0 + length (le16s ns)) out in
-    indexes_items b 0 (length ns)
-    ∙ items_read 2 le16 length_le16 b (u16_at b) (λ n. n < 2 ^ 16) (u16_read b) ns 0 rest low (ap (◌++ rest) (le16s_items ns))
+-- the numbers that stand from byte i on, read back
+pub indexes_read : (b : List ℕ) (i : ℕ) (ns rest : List ℕ) → All (λ n. n < 2 ^ 16) ns → drop i b ≡ le16s ns ++ rest
+    → indexes_at b i (length ns) ≡ ns
+indexes_read b i ns rest low h =
+    indexes_items b i (length ns)
+    ∙ items_read 2 le16 length_le16 b (u16_at b) (λ n. n < 2 ^ 16) (u16_read b) ns i rest low (h ∙ ap (◌++ rest) (le16s_items ns))
 
 -- ---- index sets
 
@@ -64,7 +61,7 @@ module _ {A B : Type 0} (f : A → B) where
   map_select s (x ∷ xs) = map_cons_if (s % 2) x (select (s / 2) xs) ∙ ap (cons_if (s % 2) (f x)) (map_select (s / 2) xs)
 
 -- below the length the default does not matter
-get_d_any : {A : Type 0} (l : List A) (i : ℕ) (d e : A) → i < length l → get_or l i d ≡ get_or l i e
+pub get_d_any : {A : Type 0} (l : List A) (i : ℕ) (d e : A) → i < length l → get_or l i d ≡ get_or l i e
 get_d_any [] i d e h = absurd (omega arith)
 get_d_any (a ∷ l) zero d e h = refl
 get_d_any (a ∷ l) (suc i) d e h = get_d_any l i d e (omega arith)

@@ -1,25 +1,21 @@
 -- Membership, by what its calls promise.
-use mathlib.Core.Path.{◌≡◌, refl, sym, ap, ap₂, ◌∙◌, subst}
-use mathlib.Core.Bool.{Bool, true, false}
-use mathlib.Core.List.{List}
+use Rattle.std.proofs.Common.{◌≡◌, refl, sym, ap, ap₂, ◌∙◌, subst, Bool, true, false, List, ◌++◌, ℕ, ◌+◌, ◌*◌, ◌≤◌, ◌<◌, arith, ltb, length, get_or, drop, replicate}
 use mathlib.Core.Option.{Option, some, none}
-use Prim.Native.Nat.{ℕ, ◌*◌, ◌≤◌}
-use native.Mathlib.Omega.{arith}
 use borrow.Author.Tests.{ltb-false, le-ltb, lt-leb}
-use lib.Dec.{ltb}
-use lib.ListN.{length, replicate, length-replicate}
+use lib.ListN.{length-replicate}
 use Rattle.binar.specs.Row.{weight}
 use Rattle.binar.proofs.Lists.{all_map}
 use Rattle.pauli.specs.JoinCalls.{read_both, within}
-use Rattle.pauli.specs.Pauli.{indexed_product}
-use Rattle.pauli.specs.Roll.{most_paulis}
-use Rattle.pauli.specs.Sets.{members}
+use Rattle.pauli.specs.Pauli.{Pauli, indexed_product}
+use Rattle.pauli.specs.Condense.{nothing}
+use Rattle.pauli.specs.Roll.{most_paulis, Sparse, read}
+use Rattle.pauli.specs.Sets.{members, pauli_of}
 use Rattle.pauli.specs.Told.{answer, refuse_if, and_then, map_told}
 use Rattle.pauli.specs.Writing.{put_bytes}
 use Rattle.pauli.proofs.condense.Sets.{members_rise, members_count}
 use Rattle.pauli.proofs.support.SupportLaws.{rising_bound}
 use Rattle.pauli.proofs.roll.Told.{test_pass, test_passed, map_test}
-use Rattle.pauli_theory.specs.Group.{Generated}
+use Rattle.pauli_theory.specs.Group.{Generated, Promise}
 use Rattle.pauli_theory.specs.Membership.{Factorization, factorization_of}
 use Rattle.pauli_theory.specs.Theorems.{MembershipLaw}
 use Rattle.pauli_theory.proofs.IndexSets.{members_below}
@@ -28,18 +24,19 @@ use Rattle.pauli_group.specs.declared.answers.MemberFound.{MemberFound}
 use Rattle.pauli_group.specs.declared.answers.MemberFound.TheVariants.{Member as MemberTold, NotMember}
 use Rattle.pauli_group.specs.Answers.{told_factored}
 use Rattle.pauli_group.specs.WorkArea.{enough, area_after}
-use Rattle.pauli_group.specs.Calls.{question, factorization_call, index_bytes, Factored, factored, told_member, member_left}
+use Rattle.pauli_group.specs.Calls.{paulis, question, factorization_call, index_bytes, Factored, factored, told_member, member_left}
+use Rattle.pauli_group.proofs.factorization.QuestionLaws.{indexes_below}
 use Rattle.demand_three.specs.DemandThree.{Generators, list, Element, pauli, Asked, Member, indexes_at, Gives, if_area, if_room, bytes_of}
 use Rattle.demand_three.proofs.ReadBack.{read_few}
 use Rattle.demand_three.proofs.DemandLists.{length_le16s, indexes_read, named_select}
 
 -- ---- what a call tells of a factorization
 
-result : Option Factorization → Option Factored
+unfoldable pub result : Option Factorization → Option Factored
 result none = none
 result (some g) = some (factored g)
 
-index_bytes_lem : (g : Factorization) → length (index_bytes g) ≡ 2 * weight g.indexes
+pub index_bytes_lem : (g : Factorization) → length (index_bytes g) ≡ 2 * weight g.indexes
 unfolding index_bytes
 index_bytes_lem g = length_le16s (members g.indexes) ∙ ap (2 *◌) (members_count g.indexes)
 
@@ -50,7 +47,7 @@ told_result true F out = refl
 told_result false none out = sym (test_pass (ltb (length out) 0) 12 0 (answer none) (le-ltb (length out) 0 (omega arith)))
 told_result false (some g) out = ap (λ (k : ℕ). refuse_if (ltb (length out) k) 12 0 (answer (some (factored g)))) (index_bytes_lem g)
 
-left_result : (g : Factorization) (out : List ℕ) → 2 * weight g.indexes ≤ length out
+pub left_result : (g : Factorization) (out : List ℕ) → 2 * weight g.indexes ≤ length out
     → member_left (answer (some g)) out ≡ put_bytes out 0 (index_bytes g)
 unfolding member_left
 left_result g out h = rw (index_bytes_lem g, le-ltb (length out) (2 * weight g.indexes) h)
@@ -75,13 +72,58 @@ told_found (some f) = refl
 room : (n : ℕ) → (l : List ℕ) × (length l ≡ n)
 room n = (replicate n 0, length-replicate n 0)
 
+-- ---- a question to a list, whatever is promised
+
+few_of : (b : List ℕ) (ps : List Sparse) → read b ≡ answer ps → length (paulis ps) ≤ 128
+unfolding most_paulis
+few_of = read_few
+
+pub weight_few : (promise : Promise) (b : List ℕ) (ps : List Sparse) → read b ≡ answer ps → (x : Pauli) (g : Factorization)
+    → factorization_of promise (paulis ps) x ≡ some g → weight g.indexes ≤ 128
+weight_few promise b ps p x g f =
+    let s = g.indexes in
+    let m = length (paulis ps) in
+    let low = members_below m s (indexes_below promise (paulis ps) x g (sym f)) in
+    omega (arith, rising_bound 0 m (members s) (members_rise s) low (omega arith), members_count s, few_of b ps p)
+
+module _ (promise : Promise) (b e : List ℕ) (ps qs : List Sparse) (p : read b ≡ answer ps) (q : read e ≡ answer qs) (n : ℕ) (h : n < length qs) where
+  abbrev G : Option Factorization
+  G = factorization_of promise (paulis ps) (pauli_of (get_or qs n nothing))
+
+  pub question_is : (words : ℕ) → factorization_call promise b e n words ≡ refuse_if (ltb words 4096) 9 0 (answer G)
+  unfolding factorization_call question read_both and_then within enough map_told
+  question_is words =
+      rw (p, q, lt-leb (length qs) n h) (ap (map_told _) (test_pass false 8 0 _ refl) ∙ map_test _ (ltb words 4096) 9 0 _)
+
+  bytes_few : bytes_of (result G) ≤ 256
+  unfolding bytes_of result factored
+  bytes_few = go G refl
+    where
+      go : (o : Option Factorization) → G ≡ o → bytes_of (result o) ≤ 256
+      go none f = omega arith
+      go (some g) f = omega (arith, weight_few promise b ps p (pauli_of (get_or qs n nothing)) g f)
+
+  -- what every call tells
+  pub told_of : (work out : List ℕ) → told_member (factorization_call promise b e n (length work)) out
+      ≡ if_area work (if_room out (bytes_of (result G)) (result G))
+  unfolding if_area
+  told_of work out = ap (λ t. told_member t out) (question_is (length work)) ∙ told_result (ltb (length work) 4096) G out
+
+  pub passes : (work out : List ℕ) → 4096 ≤ length work → 256 ≤ length out
+      → if_area work (if_room out (bytes_of (result G)) (result G)) ≡ answer (result G)
+  unfolding if_area if_room
+  passes work out l k =
+      test_pass _ 9 0 _ (le-ltb (length work) 4096 l)
+      ∙ test_pass _ 12 0 _ (le-ltb (length out) (bytes_of (result G)) (omega (arith, bytes_few)))
+
+-- ---- a question with no promise or a true one
+
 module _ (A : Generators) where
   pub list_few : length (list A) ≤ 128
-  unfolding most_paulis
-  list_few = read_few A.roll A.held A.accepted
+  list_few = few_of A.roll A.held A.accepted
 
 module _ (A : Generators) (x : Element) where
-  law : MembershipLaw A.promise (list A) (pauli x)
+  pub law : MembershipLaw A.promise (list A) (pauli x)
   law = group_laws.membership_law A.promise (list A) (pauli x) A.honest
 
   abbrev F : Option Factorization
@@ -89,44 +131,22 @@ module _ (A : Generators) (x : Element) where
 
   call_is : (words : ℕ)
       → factorization_call A.promise A.roll x.roll x.number words ≡ refuse_if (ltb words 4096) 9 0 (answer F)
-  unfolding factorization_call question read_both and_then within enough map_told
-  call_is words =
-      rw (A.accepted, x.accepted, lt-leb (length x.held) x.number x.within)
-      (ap (map_told _) (test_pass false 8 0 _ refl) ∙ map_test _ (ltb words 4096) 9 0 _)
+  call_is = question_is A.promise A.roll x.roll A.held x.held A.accepted x.accepted x.number x.within
 
-  count_few : (g : Factorization) → F ≡ some g → weight g.indexes ≤ 128
-  count_few g e =
-      let s = g.indexes in
-      let low = members_below (length (list A)) s (law.within g e).0 in
-      omega (arith, rising_bound 0 (length (list A)) (members s) (members_rise s) low (omega arith), members_count s, list_few A)
-
-  bytes_few : bytes_of (result F) ≤ 256
-  unfolding bytes_of result factored
-  bytes_few = go F refl
-    where
-      go : (G : Option Factorization) → F ≡ G → bytes_of (result G) ≤ 256
-      go none e = omega arith
-      go (some g) e = omega (arith, count_few g e)
-
-  -- what every call tells
-  told_of : (work out : List ℕ) → told_member (factorization_call A.promise A.roll x.roll x.number (length work)) out
+  tells : (work out : List ℕ) → told_member (factorization_call A.promise A.roll x.roll x.number (length work)) out
       ≡ if_area work (if_room out (bytes_of (result F)) (result F))
-  unfolding if_area
-  told_of work out = ap (λ t. told_member t out) (call_is (length work)) ∙ told_result (ltb (length work) 4096) F out
+  tells = told_of A.promise A.roll x.roll A.held x.held A.accepted x.accepted x.number x.within
+
+  goes_on : (work out : List ℕ) → 4096 ≤ length work → 256 ≤ length out
+      → if_area work (if_room out (bytes_of (result F)) (result F)) ≡ answer (result F)
+  goes_on = passes A.promise A.roll x.roll A.held x.held A.accepted x.accepted x.number x.within
 
   told_is : (c : Asked A x) → told_factored c.found ≡ if_area c.work (if_room c.out (bytes_of (result F)) (result F))
-  told_is c = c.promised.told ∙ told_of c.work c.out
+  told_is c = c.promised.told ∙ tells c.work c.out
 
   pub asked_told : (r : Option Factored)
       × ((c : Asked A x) → told_factored c.found ≡ if_area c.work (if_room c.out (bytes_of r) r))
   asked_told = (result F, told_is)
-
-  passes : (work out : List ℕ) → 4096 ≤ length work → 256 ≤ length out
-      → if_area work (if_room out (bytes_of (result F)) (result F)) ≡ answer (result F)
-  unfolding if_area if_room
-  passes work out h k =
-      test_pass _ 9 0 _ (le-ltb (length work) 4096 h)
-      ∙ test_pass _ 12 0 _ (le-ltb (length out) (bytes_of (result F)) (omega (arith, bytes_few)))
 
   -- a call with room
   called : (work out : List ℕ) → 4096 ≤ length work → 256 ≤ length out → Asked A x
@@ -137,7 +157,7 @@ module _ (A : Generators) (x : Element) where
     work' = area_after (question A.roll x.roll x.number (length work)) work;
     out' = member_left (factorization_call A.promise A.roll x.roll x.number (length work)) out;
     promised = record {
-      told = told_found (result F) ∙ sym (told_of work out ∙ passes work out h k);
+      told = told_found (result F) ∙ sym (tells work out ∙ goes_on work out h k);
       left = refl;
       area = refl;
     };
@@ -167,7 +187,7 @@ module _ (A : Generators) (x : Element) where
   pub member_when : Generated (list A) (pauli x) → Member A x
   unfolding Member result
   member_when a c h k =
-      let (g, s) = law.complete a in (factored g, told_is c ∙ passes c.work c.out h k ∙ ap (λ G. answer (result G)) s)
+      let (g, s) = law.complete a in (factored g, told_is c ∙ goes_on c.work c.out h k ∙ ap (λ G. answer (result G)) s)
 
   pub member_only : Member A x → Generated (list A) (pauli x)
   unfolding Member called
@@ -180,7 +200,7 @@ module _ (A : Generators) (x : Element) where
 
   -- ---- the indexes given
   module _ (g : Factorization) (s : F ≡ some g) where
-    gives : Gives (list A) (members g.indexes) (factored g) (pauli x)
+    pub gives : Gives (list A) (members g.indexes) (factored g) (pauli x)
     unfolding factored indexed_product
     gives =
         let n = length (list A) in
@@ -193,17 +213,19 @@ module _ (A : Generators) (x : Element) where
           equals = rw (named_select (list A) g.indexes low) (law.equals g s);
         }
 
-    given : (out : List ℕ) → indexes_at (put_bytes out 0 (index_bytes g)) 0 (factored g).count ≡ members g.indexes
+    -- read off bytes in which they stand from byte i on
+    pub given : (b : List ℕ) (i : ℕ) (rest : List ℕ) → drop i b ≡ index_bytes g ++ rest
+        → indexes_at b i (factored g).count ≡ members g.indexes
     unfolding index_bytes factored
-    given out =
+    given b i rest h =
         let n = length (list A) in
         let ms = members g.indexes in
-        ap (indexes_at (put_bytes out 0 (index_bytes g)) 0) (sym (members_count g.indexes))
-        ∙ indexes_read out ms (all_map (λ i l. omega (arith, list_few A)) ms (members_below n g.indexes (law.within g s).0))
+        ap (indexes_at b i) (sym (members_count g.indexes))
+        ∙ indexes_read b i ms rest (all_map (λ i l. omega (arith, list_few A)) ms (members_below n g.indexes (law.within g s).0)) h
 
   pub product_is : (c : Asked A x) (f : Factored) → told_factored c.found ≡ answer (some f)
       → Gives (list A) (indexes_at c.out' 0 f.count) f (pauli x)
-  unfolding result bytes_of refuse_if factored
+  unfolding result bytes_of refuse_if factored put_bytes
   product_is c f e =
       let (area, short, told) = answer_tests c (some f) e in
       let (g, s, same) = result_some F f told in
@@ -213,6 +235,7 @@ module _ (A : Generators) (x : Element) where
       ∙ ap (λ t. member_left t c.out) (call_is (length c.work) ∙ test_pass _ 9 0 _ area ∙ ap answer s)
       ∙ left_result g c.out size in
       let here : indexes_at c.out' 0 f.count ≡ members g.indexes =
-      ap₂ (λ (o : List ℕ) (f : Factored). indexes_at o 0 f.count) left (sym same) ∙ given g s c.out in
+      ap₂ (λ (o : List ℕ) (f : Factored). indexes_at o 0 f.count) left (sym same)
+      ∙ given g s (put_bytes c.out 0 (index_bytes g)) 0 (drop (0 + length (index_bytes g)) c.out) refl in
       subst (λ (ms : List ℕ). Gives (list A) ms f (pauli x)) (sym here)
       (subst (λ (f : Factored). Gives (list A) (members g.indexes) f (pauli x)) same (gives g s))

@@ -4,3 +4,5 @@ pub mod DemandJoined
 pub mod DemandStandard
 pub mod DemandThree
 pub mod ReadBack
+pub mod ManyElements
+pub mod Sizes

@@ -1,2 +1,4 @@
 pub mod DemandThree
 pub mod ReadBack
+pub mod ManyElements
+pub mod Sizes

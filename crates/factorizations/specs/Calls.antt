@@ -1,9 +1,6 @@
--- The call, as a function of the bytes lent: document 02, L1, with the order of refusals of document 01, "Turned back".
-use mathlib.Core.List.{List, map}
-use mathlib.Core.Option.{Option}
-use Prim.Native.Nat.{ℕ}
-use lib.Dec.{ltb}
-use lib.ListN.{length}
+-- The call, as a function of the bytes lent.
+use Rattle.std.specs.Prelude.{List, map, ℕ, nat_lt, length}
+use Rattle.std.proofs.Math.Option.{Option}
 use Rattle.pauli.specs.JoinCalls.{read_both, Counts}
 use Rattle.pauli.specs.Pauli.{Pauli}
 use Rattle.pauli.specs.Told.{Told, answer, refused, refuse_if, and_then, map_told}
@@ -45,5 +42,5 @@ totals os = record { count = length os; bytes = length (results_bytes os) }
 
 -- what the call tells: the totals, or 12 where the output has no room for all
 unfoldable pub told_results : Told (List (Option Factorization)) → List ℕ → Told Totals
-told_results (answer os) out = refuse_if (ltb (length out) (totals os).bytes) 12 0 (answer (totals os))
+told_results (answer os) out = refuse_if (nat_lt (length out) (totals os).bytes) 12 0 (answer (totals os))
 told_results (refused n p) out = refused n p

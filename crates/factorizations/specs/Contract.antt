@@ -1,8 +1,5 @@
 -- What the call promises: its answer, the output at exit and the work area at exit, by what it was lent.
-use mathlib.Core.Path.{◌≡◌}
-use mathlib.Core.List.{List}
-use Prim.Native.Nat.{ℕ}
-use lib.ListN.{length}
+use Rattle.std.specs.Prelude.{◌≡◌, List, ℕ, length}
 use Rattle.pauli.specs.Told.{map_told}
 use Rattle.pauli.specs.Writing.{left_in}
 use Rattle.pauli_theory.specs.Group.{Promise}

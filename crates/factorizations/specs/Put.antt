@@ -1,8 +1,5 @@
 -- Bytes put into an output.
-use mathlib.Core.Path.{◌≡◌}
-use mathlib.Core.List.{List}
-use Prim.Native.Nat.{ℕ, ◌+◌}
-use lib.ListN.{length}
+use Rattle.std.specs.Prelude.{◌≡◌, List, ℕ, ◌+◌, length}
 use Rattle.pauli.specs.Writing.{put_bytes}
 
 -- a text is put into the output `out` from byte `at` on, which leaves `out'`; the byte past the text is `next`

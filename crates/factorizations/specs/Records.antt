@@ -1,7 +1,6 @@
--- The results of a whole roll of elements, as bytes: document 02, L1.
-use mathlib.Core.List.{List, [], ◌∷◌, ◌++◌}
-use mathlib.Core.Option.{Option, some, none}
-use Prim.Native.Nat.{ℕ}
+-- The results of a whole roll of elements, as bytes.
+use Rattle.std.specs.Prelude.{List, [], ◌∷◌, ◌++◌, ℕ}
+use Rattle.std.proofs.Math.Option.{Option, some, none}
 use Rattle.pauli.specs.Bytes.{le16}
 use Rattle.pauli_theory.specs.Membership.{Factorization}
 use Rattle.pauli_group.specs.Calls.{index_bytes, factored}

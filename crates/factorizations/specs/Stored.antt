@@ -1,18 +1,13 @@
 -- Results of membership, kept in the work area.
-use mathlib.Core.Path.{◌≡◌}
-use mathlib.Core.Bool.{cond}
-use mathlib.Core.List.{List, [], ◌∷◌}
-use mathlib.Core.Option.{Option, some, none}
-use Prim.Native.Nat.{ℕ, zero, suc, ◌+◌, ◌*◌, ◌^◌, ◌<◌}
-use lib.Dec.{ltb}
-use lib.ListN.{get_or, set}
+use Rattle.std.specs.Prelude.{◌≡◌, cond, List, [], ◌∷◌, ℕ, zero, suc, ◌+◌, ◌*◌, ◌^◌, ◌<◌, nat_lt, get_or, set}
+use Rattle.std.proofs.Math.Option.{Option, some, none}
 use Rattle.pauli_theory.specs.Membership.{Factorization}
 use Rattle.pauli_group.specs.Inner.Area.{Outside}
 
 -- the result whose five words start at word i: the exponent, or 4 for an element that is no member; the two words of the index set;
 -- and two that say nothing
 unfoldable pub result_in : List ℕ → ℕ → Option Factorization
-result_in l i = cond (ltb (get_or l i 0) 4) (some (record { indexes = get_or l (i + 2) 0 * 2 ^ 64 + get_or l (i + 1) 0; exponent = get_or l i 0 })) none
+result_in l i = cond (nat_lt (get_or l i 0) 4) (some (record { indexes = get_or l (i + 2) 0 * 2 ^ 64 + get_or l (i + 1) 0; exponent = get_or l i 0 })) none
 
 -- a member's result put there: its exponent and the two words of its index set; the two words that say nothing are as they were
 unfoldable pub put_member : List ℕ → ℕ → ℕ → ℕ → ℕ → List ℕ

@@ -1,7 +1,5 @@
 // The call for the factorizations of a roll of elements.
-ghost use mathlib.Core.Path.{◌≡◌};
-ghost use mathlib.Core.List.{map};
-ghost use lib.ListN.{length};
+ghost use Rattle.std.specs.Prelude.{◌≡◌, map, length};
 ghost use Rattle.pauli.specs.Condense.{list_of};
 ghost use Rattle.pauli.specs.JoinAnswers.{told_counts};
 ghost use Rattle.pauli.specs.Roll.{count_of};

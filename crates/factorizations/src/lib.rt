@@ -1,5 +1,4 @@
 // Factorizations of a whole roll of elements.
-
 #![tactic(auto)]
 
 // What membership tells of each element, kept in the work area.

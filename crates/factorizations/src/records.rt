@@ -1,12 +1,13 @@
 // The records of results: the length of each, and the record put into an output.
-ghost use mathlib.Core.Path.{◌≡◌};
-ghost use mathlib.Core.Option.{some, none};
-ghost use Prim.Native.Nat.{◌+◌, ◌*◌, ◌≤◌};
-ghost use lib.ListN.{length};
+ghost use Rattle.std.specs.Prelude.{◌≡◌, ◌+◌, ◌*◌, ◌^◌, ◌<◌, ◌≤◌, length};
+ghost use Rattle.std.proofs.Math.Option.{some, none};
+ghost use Rattle.binar.specs.Row.{weight};
 ghost use Rattle.pauli.specs.PlaceSet.{set_in};
+ghost use Rattle.pauli.specs.Sets.{members};
 ghost use Rattle.pauli.specs.Told.{answer};
 ghost use Rattle.pauli.specs.WriteAnswers.{told_wrote};
-ghost use Rattle.pauli.specs.Writing.{told_bytes, left_in};
+ghost use Rattle.pauli.specs.Writing.{put_bytes, told_bytes, left_in};
+ghost use Rattle.pauli_group.specs.Calls.{le16s};
 ghost use Rattle.pauli_group.specs.Inner.Members.{factoring_told};
 ghost use Rattle.factorizations.specs.Put.{Put};
 ghost use Rattle.factorizations.specs.Records.{result_bytes, results_bytes};
@@ -15,8 +16,9 @@ ghost use Rattle.factorizations.specs.Stored.{stored_in};
 use crate::stored::result_at;
 use pauli::places::Places;
 use pauli::refusal::{Reason, Refusal};
+use pauli::support::Place;
 use pauli::write::{Wrote, put_u16};
-use pauli_group::member::{Factoring, put_indexes};
+use pauli_group::member::Factoring;
 
 // ---- one record
 
@@ -40,6 +42,20 @@ fn put_other(out: &mut [u8], at: usize) -> usize
     at + 1
 }
 
+// Writes the numbers below n in the set from byte at on, rising, two bytes each: places in the list of generators.
+fn put_indexes_at(out: &mut [u8], at: usize, set: Places, n: usize)
+    requires { (n ≤ 128) × (set_in set < 2 ^ n) × (at + 2 * weight (set_in set) ≤ length out.old) }
+    ensures { out.new ≡ put_bytes out.old at (le16s (members (set_in set))) }
+{
+    let mut next = at;
+    let mut i = set.first_from(Place(0)).0;
+    while i < n {
+        put_u16(out, next, i);
+        next += 2;
+        i = set.first_from(Place(i + 1)).0;
+    }
+}
+
 // The numbers of the index set are places in the list of generators.
 fn put_member(out: &mut [u8], at: usize, set: Places, exponent: u8) -> usize
     requires { at + length (result_bytes (some (record { indexes = set_in set; exponent = exponent }))) ≤ length out.old }
@@ -49,7 +65,7 @@ fn put_member(out: &mut [u8], at: usize, set: Places, exponent: u8) -> usize
     out[at] = 1;
     out[at + 1] = exponent;
     put_u16(out, at + 2, count);
-    put_indexes(out, at + 4, set, 128);
+    put_indexes_at(out, at + 4, set, 128);
     at + 4 + 2 * count
 }
 

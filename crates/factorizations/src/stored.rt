@@ -1,9 +1,6 @@
 // Results of membership, kept in the work area, five words each: the exponent, or 4 for an element that is no member, and the two
 // words of the index set.
-ghost use mathlib.Core.Path.{◌≡◌};
-ghost use mathlib.Core.List.{map};
-ghost use Prim.Native.Nat.{◌+◌, ◌≤◌};
-ghost use lib.ListN.{length};
+ghost use Rattle.std.specs.Prelude.{◌≡◌, map, ◌+◌, ◌≤◌, length};
 ghost use Rattle.pauli.specs.Condense.{list_of};
 ghost use Rattle.pauli.specs.Roll.{count_of};
 ghost use Rattle.pauli.specs.Told.{answer};

@@ -8,3 +8,4 @@ pub mod Checks
 pub mod Limits
 pub mod RollLaws
 pub mod ReaderLaws
+pub mod RefusalLaws

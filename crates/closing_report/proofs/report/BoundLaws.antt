@@ -34,7 +34,7 @@ use Rattle.closing_report.specs.Stored.{Storable}
 use Rattle.closing_report.proofs.text.DecimalLaws.{few_digits}
 use Rattle.pauli_theory.proofs.IndexSets.{members_up_to}
 use Rattle.closing_report.proofs.report.CallLaws.{call_told, call_put}
-use Rattle.closing_report.proofs.report.RefusalLaws.{OfRoll, of_test, of_read}
+use Rattle.pauli.proofs.roll.RefusalLaws.{OfRoll, of_test, of_read}
 
 -- ---- the lines
 

@@ -1,11 +1,8 @@
 -- Laws for the call: what the checks tell, and the contract from what is then written.
-use mathlib.Core.Path.{◌≡◌, refl, sym, ap, ◌∙◌, subst}
-use mathlib.Core.List.{List, ◌++◌, map}
+use Rattle.std.proofs.Common.{◌≡◌, refl, sym, ap, ◌∙◌, subst, List, ◌++◌, map, ℕ, ◌≤◌, ◌<◌, ltb, length, take, drop}
 use mathlib.Core.Option.{Option}
-use Prim.Native.Nat.{ℕ, ◌≤◌, ◌<◌}
 use borrow.Author.Tests.{lt-ltb, le-ltb, ltb-false}
-use lib.Dec.{ltb}
-use lib.ListN.{length, take, drop, length-map}
+use lib.ListN.{length-map}
 use Rattle.pauli.specs.declared.joined.CountsFound.{CountsFound}
 use Rattle.pauli.specs.declared.joined.CountsFound.TheVariants.{Counts as CountsTold, Refused as CountsRefused}
 use Rattle.pauli.specs.declared.joined.RollCounts.{RollCounts}
@@ -16,19 +13,19 @@ use Rattle.pauli.specs.Condense.{list_of}
 use Rattle.pauli.specs.JoinAnswers.{counts_in, told_counts}
 use Rattle.pauli.specs.JoinCalls.{read_both, Counts}
 use Rattle.pauli.specs.Refusals.{told_refusal}
-use Rattle.pauli.specs.Told.{Told, answer, refused, refuse_if, and_then, map_told}
+use Rattle.pauli.specs.Told.{Told, answer, refused, and_then, map_told}
 use Rattle.pauli.specs.WriteAnswers.{told_wrote}
 use Rattle.pauli.specs.Writing.{told_bytes, left_in}
 use Rattle.pauli.proofs.joined.JoinLaws.{accepted}
 use Rattle.pauli.proofs.roll.Told.{refused_none, test_pass, test_refuses, test_passed, map_test, map_refused, map_answer}
 use Rattle.pauli_theory.specs.Group.{Promise}
 use Rattle.pauli_theory.specs.Membership.{Factorization, factorization_of}
-use Rattle.pauli_group.specs.Calls.{paulis, rollCounts}
+use Rattle.pauli_group.specs.Calls.{paulis, roll_counts}
 use Rattle.pauli_group.specs.WorkArea.{work_words, enough, cleared, area_after}
 use Rattle.pauli_group.proofs.checks.Rolls.{Accepted, both}
 use Rattle.pauli_group.proofs.group.GroupedLaws.{cleared_part, list_length}
 use Rattle.factorizations.specs.declared.answers.ResultsFound.TheVariants.{Results as ResultsTold, Refused}
-use Rattle.factorizations.specs.Calls.{Questions, questions, questions_counts, results_of, factorizations_call, Totals, totals, told_results}
+use Rattle.factorizations.specs.Calls.{questions, questions_counts, results_of, factorizations_call, Totals, totals, told_results}
 use Rattle.factorizations.specs.Contract.{FactorizationsCall}
 use Rattle.factorizations.specs.Records.{results_bytes}
 
@@ -72,10 +69,10 @@ module _ (b e : List ℕ) (words : ℕ) where
     pub room : work_words ≤ words
 
   asking : (c : Counts) → answer c ≡ map_told questions_counts (questions b e words) → Asking c.left c.right
-  unfolding rollCounts enough
-  asking c h = go (rollCounts b e) refl
+  unfolding roll_counts enough
+  asking c h = go (roll_counts b e) refl
     where
-      go : (t : Told Counts) → rollCounts b e ≡ t → Asking c.left c.right
+      go : (t : Told Counts) → roll_counts b e ≡ t → Asking c.left c.right
       go (refused m p) f = absurd (refused_none m p c (counted_refused m p (map_refused _ (read_both b e) m p f) ∙ sym h))
       go (answer d) f =
           let a = both b e d.left d.right (sym f) in

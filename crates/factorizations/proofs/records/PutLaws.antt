@@ -1,12 +1,6 @@
 -- Laws of bytes put into an output, one piece behind the other.
-use mathlib.Core.Path.{◌≡◌, sym, ap, ap₂, ◌∙◌}
-use mathlib.Core.Bool.{false}
-use mathlib.Core.List.{List, [], ◌∷◌, ◌++◌}
-use Prim.Native.Nat.{ℕ, ◌+◌, ◌≤◌, ◌<◌}
-use native.Mathlib.Omega.{arith}
+use Rattle.std.proofs.Common.{◌≡◌, sym, ap, ap₂, ◌∙◌, false, List, [], ◌∷◌, ◌++◌, ℕ, ◌+◌, ◌≤◌, ◌<◌, arith, ltb, length, length-append}
 use borrow.Author.Tests.{lt-ltb, le-ltb}
-use lib.Dec.{ltb}
-use lib.ListN.{length, length-append}
 use Rattle.pauli.specs.Told.{answer, refused, refuse_if}
 use Rattle.pauli.specs.Writing.{put_bytes, told_bytes, left_in}
 use Rattle.pauli.proofs.write.Puts.{length_put, put_append}

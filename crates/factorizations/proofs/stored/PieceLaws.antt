@@ -1,11 +1,6 @@
 -- Laws of bytes that tell the results in the work area, one behind the other.
-use mathlib.Core.Path.{◌≡◌, refl, ap, ap₂, ◌∙◌}
-use mathlib.Core.List.{List, [], ◌∷◌, ◌++◌}
+use Rattle.std.proofs.Common.{◌≡◌, refl, ap, ap₂, ◌∙◌, List, [], ◌∷◌, ◌++◌, ℕ, suc, ◌+◌, ◌-◌, ◌*◌, ◌≤◌, ◌<◌, mul-add, mul-one, arith, length, length-append}
 use mathlib.Core.Option.{Option}
-use Prim.Native.Nat.{ℕ, suc, ◌+◌, ◌-◌, ◌*◌, ◌≤◌, ◌<◌}
-use native.Mathlib.Nat.{mul-add, mul-one}
-use native.Mathlib.Omega.{arith}
-use lib.ListN.{length, length-append}
 use Rattle.pauli.proofs.write.Puts.{Left, left_done, left_room, left_step}
 use Rattle.pauli_theory.specs.Membership.{Factorization}
 use Rattle.factorizations.specs.Put.{Put}

@@ -1,11 +1,7 @@
 -- Laws of the elements put to the group in the work area.
-use mathlib.Core.Path.{◌≡◌, refl, sym, ap, ◌∙◌, subst}
-use mathlib.Core.List.{List, map, map-map}
+use Rattle.std.proofs.Common.{◌≡◌, refl, sym, ap, ◌∙◌, subst, List, map, ℕ, ◌+◌, ◌*◌, ◌%◌, ◌≤◌, ◌<◌, arith, length, get_or, take, take_all}
+use mathlib.Core.List.{map-map}
 use mathlib.Core.Option.{Option, some, none, some-injective}
-use Prim.Native.Nat.{ℕ, ◌+◌, ◌*◌, ◌%◌, ◌≤◌, ◌<◌}
-use native.Mathlib.Omega.{arith}
-use lib.ListN.{length, get_or, take}
-use lib.Seq.{take_all}
 use Rattle.pauli.specs.Pauli.{Pauli, indexed_product}
 use Rattle.pauli.specs.Roll.{Sparse}
 use Rattle.pauli.specs.Condense.{nothing}

@@ -107,18 +107,18 @@ module _ (s n : ℕ) (h : s < 2 ^ n) where
   all_indexes : members s ≡ chosen_from s (up_to n) 0
   all_indexes = members_up_to n s h ∙ sym (chosen_start s (up_to n))
 
-  pub indexes_start : (out : List ℕ) → 2 * weight s ≤ length out
-      → Left out 0 (le16s (members s)) out 0 (le16s (chosen_from s (up_to n) 0))
-  indexes_start out room = left_start out 0 _ _ (ap le16s all_indexes) (omega (arith, length_indexes s))
+  pub indexes_start : (out : List ℕ) (at : ℕ) → at + 2 * weight s ≤ length out
+      → Left out at (le16s (members s)) out at (le16s (chosen_from s (up_to n) 0))
+  indexes_start out at room = left_start out at _ _ (ap le16s all_indexes) (omega (arith, length_indexes s))
 
   -- the indexes are being written, and those from i on are left
-  module _ {first out : List ℕ} {next : ℕ} (i : ℕ)
-      (r : Left first 0 (le16s (members s)) out next (le16s (chosen_from s (up_to n) i))) where
-    pub indexes_done : n ≤ i → out ≡ put_bytes first 0 (le16s (members s))
+  module _ {first out : List ℕ} {at next : ℕ} (i : ℕ)
+      (r : Left first at (le16s (members s)) out next (le16s (chosen_from s (up_to n) i))) where
+    pub indexes_done : n ≤ i → out ≡ put_bytes first at (le16s (members s))
     unfolding le16s
     indexes_done l = (left_done r (ap le16s (chosen_end s (up_to n) i (rw up_to_length l)))).0
 
-    pub indexes_skip : {m k : ℕ} → First m s i k → Left first 0 (le16s (members s)) out next (le16s (chosen_from s (up_to n) k))
+    pub indexes_skip : {m k : ℕ} → First m s i k → Left first at (le16s (members s)) out next (le16s (chosen_from s (up_to n) k))
     indexes_skip f = left_same r _ (ap le16s (chosen_skip s (up_to n) f))
 
     module _ (l : i < n) where
@@ -134,5 +134,5 @@ module _ (s n : ℕ) (h : s < 2 ^ n) where
         indexes_room = left_room r (le16 i) _ 2 index (length_le16 i)
 
         pub indexes_hit : (u : List ℕ) → u ≡ put_bytes out next (le16 i) → length u ≡ length out
-            → Left first 0 (le16s (members s)) u (next + 2) (le16s (chosen_from s (up_to n) (i + 1)))
+            → Left first at (le16s (members s)) u (next + 2) (le16s (chosen_from s (up_to n) (i + 1)))
         indexes_hit = left_step r (le16 i) _ 2 index (length_le16 i)

@@ -9,7 +9,7 @@ first_from-i-requires c = omega arith
 pub loop-i-init : goal.loop-i-init
 loop-i-init c =
     let f = first_told (omega arith) c.first_from-i.ensures in
-    (f.found, indexes_skip _ _ c.requires.1 _ (indexes_start _ _ c.requires.1 _ c.requires.2) f)
+    (f.found, indexes_skip _ _ c.requires.1 _ (indexes_start _ _ c.requires.1 _ 0 (omega arith)) f)
 
 pub put_u16-requires : goal.put_u16-requires
 put_u16-requires c =

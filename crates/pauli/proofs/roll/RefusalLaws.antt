@@ -1,11 +1,5 @@
 -- The refusals of a roll: their numbers and places are small.
-use mathlib.Core.Path.{◌≡◌, refl}
-use mathlib.Core.Bool.{Bool, true, false}
-use mathlib.Core.List.{List, [], ◌∷◌}
-use Prim.Native.Nat.{ℕ, suc, ◌+◌, ◌*◌, ◌≤◌, ◌<◌}
-use native.Mathlib.Omega.{arith}
-use borrow.Author.Tests.{ltb-false}
-use lib.ListN.{length}
+use Rattle.std.proofs.Common.{◌≡◌, ℕ, suc, ◌+◌, ◌*◌, ◌<◌, ◌≤◌, Bool, true, false, List, [], ◌∷◌, length, refl, arith, ltb-false}
 use Rattle.pauli.specs.Bytes.{u16_at}
 use Rattle.pauli.specs.Roll.{most_paulis, Sparse, Entry, entries_at, paulis_at, check_entries, check_set, check_sets, read}
 use Rattle.pauli.specs.Told.{Told, answer, refused, refuse_if, and_then}
@@ -22,7 +16,7 @@ unfolding OfRoll refuse_if
 of_test true n p next h l k = (h, l)
 of_test false n p next h l k = k refl
 
-of_then : {A B : Type 0} (t : Told A) (next : A → Told B) → OfRoll t → ((a : A) → OfRoll (next a)) → OfRoll (and_then t next)
+pub of_then : {A B : Type 0} (t : Told A) (next : A → Told B) → OfRoll t → ((a : A) → OfRoll (next a)) → OfRoll (and_then t next)
 unfolding OfRoll and_then
 of_then (answer a) next h k = k a
 of_then (refused n p) next h k = h

@@ -1,0 +1,27 @@
+-- The elements are put to the group, the records are written, and the area is cleared.
+use Rattle.std.proofs.Common.{ap, ◌∙◌, List, arith}
+use mathlib.Core.Option.{Option}
+use Rattle.pauli.specs.Roll.{most_paulis}
+use Rattle.pauli.specs.Told.{answer}
+use Rattle.pauli.specs.Writing.{told_bytes, left_in}
+use Rattle.pauli.proofs.joined.JoinLaws.{accepted_few}
+use Rattle.pauli_theory.specs.Membership.{Factorization}
+use Rattle.pauli_group.proofs.group.GroupedLaws.{cleared_whole}
+use Rattle.factorizations.specs.Records.{results_bytes}
+use Rattle.factorizations.proofs.calls.write_factorizations.Goals as goal
+
+pub write_records-wrote-requires : goal.write_records-wrote-requires
+unfolding most_paulis
+write_records-wrote-requires c =
+    let few = accepted_few _ _ c.requires.1 in
+    (omega (arith, few, c.factor_rolls.auto.w, c.requires.2), omega (arith, few))
+
+pub clear_bits-requires : goal.clear_bits-requires
+clear_bits-requires c =
+    omega (arith, c.factor_rolls.auto.w, c.requires.2)
+
+pub returns : goal.returns
+returns c =
+    let wrote = c.write_records-wrote.ensures in
+    let results = c.factor_rolls.ensures.results in
+    let out = c.args.out.now in record { told = wrote.told ∙ ap (λ (os : List (Option Factorization)). told_bytes (answer (results_bytes os)) out) results; left = wrote.left ∙ ap (λ (os : List (Option Factorization)). left_in (answer (results_bytes os)) out) results; area = c.clear_bits.ensures ∙ cleared_whole _ _ (c.factor_rolls.auto.w ∙ c.requires.2) c.requires.2 }

@@ -1,0 +1,17 @@
+-- By what membership tells.
+use Rattle.std.proofs.Common.{ap, subst}
+use Rattle.pauli.specs.PlaceSet.{set_in}
+use Rattle.pauli_group.specs.Inner.Members.{factoring_told}
+use Rattle.factorizations.specs.Stored.{Storable}
+use Rattle.factorizations.proofs.stored.StoredLaws.{other_stored, member_stored}
+use Rattle.factorizations.proofs.stored.store_result.Goals as goal
+
+pub returns-in-NotFound : goal.returns-in-NotFound
+returns-in-NotFound c =
+    rw (c.in-NotFound.is, c.store_other.ensures) (other_stored _ _ c.requires.0)
+
+pub returns-in-Found : goal.returns-in-Found
+unfolding set_in
+returns-in-Found c =
+    let small = subst Storable (ap factoring_told c.in-Found.is) c.requires.1 in
+    rw (c.in-Found.is, c.store_member.ensures) (member_stored _ _ c.requires.0 _ _ _ small)
