@@ -50,8 +50,8 @@ if [ -n "${HOWHIRUKE_LIB:-}" ]; then
     HOWHIRUKE_LIB=$(cd "$HOWHIRUKE_LIB" && pwd)
     export HOWHIRUKE_LIB
 else
-    echo "bench: proving capi and building target/staticlib/libcapi.a: about six minutes from nothing, under a minute where all is proved" >&2
-    (cd "$root" && rt staticlib capi) > "$made/staticlib.log" 2>&1 || { tail -20 "$made/staticlib.log" >&2; exit 1; }
+    echo "bench: proving capi and building target/staticlib/libcapi.a: some minutes from nothing, seconds where all is proved" >&2
+    sh "$root/tools/make.sh" capi
 fi
 
 sed -e "s|@BENCH@|$here|g" -e "s|@ROOT@|$root|g" -e "s|@ORACLE@|$oracle|g" "$here/Cargo.toml.in" > "$made/driver/Cargo.new"

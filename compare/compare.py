@@ -4,7 +4,7 @@
 
 Builds the oracle (compare/oracle: the Rust behind a line protocol), makes random requests with its generator, N of each kind, answers
 them with the oracle and with the program replay, and compares every line. SOURCES is the folder of the Rust's sources
-(compare/oracle/README.md says how to get them), REPLAY the program (target/bin/replay after `rt check replay`).
+(compare/oracle/README.md says how to get them), REPLAY the program (target/bin/replay after `sh tools/make.sh replay`).
 Each call is lent an output of the size of its answer or a few bytes more, and 4,096 words or a few more.
 
 --damaged N: N further requests of each kind with damaged rolls, numbers past a list, short areas and outputs, and lists at the limits.
@@ -274,7 +274,7 @@ def compare_kinds(args, programs):
 def main():
     args = arguments()
     if not os.access(args.replay, os.X_OK):
-        sys.exit(f"{args.replay} is missing: `rt check replay` makes target/bin/replay")
+        sys.exit(f"{args.replay} is missing: `sh tools/make.sh replay` makes target/bin/replay")
     programs = built_from(args.sources)
     if args.lines:
         compare_lines(args, programs[1])

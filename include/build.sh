@@ -10,8 +10,8 @@ for program in rt gcc cargo; do
 done
 cd "$root"
 mkdir -p "$made"
-echo "proving capi and what it rests on: six to eight minutes from nothing, under a minute where all is proved; log: target/include/staticlib.log"
-rt staticlib capi > "$made/staticlib.log" 2>&1 || { tail -20 "$made/staticlib.log"; exit 1; }
+echo "proving capi and what it rests on: some minutes from nothing, seconds where all is proved; log: target/capi.log"
+sh tools/make.sh capi
 echo "wrote target/staticlib/libcapi.a"
 for name in example test; do
     gcc -std=c99 -O1 -Wall -Wextra -Werror -I "$here" "$here/$name.c" target/staticlib/libcapi.a -o "$made/$name"

@@ -10,7 +10,7 @@ fn main() {
     println!("cargo::rerun-if-changed={}", library.display());
     if !library.is_file() {
         println!(
-            "cargo::error={} is missing: run `rt staticlib capi` in the repository, or set HOWHIRUKE_LIB to the folder of libcapi.a",
+            "cargo::error={} is missing: run `sh tools/make.sh capi` in the repository, or set HOWHIRUKE_LIB to the folder of libcapi.a",
             library.display()
         );
         return;

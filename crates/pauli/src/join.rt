@@ -6,7 +6,7 @@ ghost use Rattle.pauli.specs.Condense.{list_of};
 ghost use Rattle.pauli.specs.JoinContract.{JoinCall};
 ghost use Rattle.pauli.specs.Writing.{put_bytes};
 
-use crate::joined::{CountsFound, joined_counts, numbers_of};
+use crate::joined::{CountsFound, joined_bytes, joined_counts, numbers_of};
 use crate::refusal::{Reason, Refusal};
 use crate::roll::entry_at;
 use crate::write::{Wrote, put_entry, put_u16};
@@ -77,7 +77,7 @@ pub fn join(left: &[u8], right: &[u8], out: &mut [u8]) -> Wrote
     };
     let nl = counts.left;
     let nr = counts.right;
-    let size = 2 + 10 * (nl + nr) + 4 * (numbers_of(left, nl) + numbers_of(right, nr));
+    let size = joined_bytes(left, nl, right, nr);
     if out.len() < size {
         return Wrote::Refused(Refusal {
             reason: Reason::Output,

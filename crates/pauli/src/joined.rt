@@ -1,6 +1,6 @@
 // Two rolls joined: left's Paulis, then right's.
 ghost use Rattle.std.specs.Prelude.{◌≡◌, suc, ◌+◌, ◌*◌, ◌<◌, min, ◌++◌, length};
-ghost use Rattle.pauli.specs.Roll.{numbers, support, count_of};
+ghost use Rattle.pauli.specs.Roll.{numbers, support, count_of, write};
 ghost use Rattle.pauli.specs.Support.{most_qubits};
 ghost use Rattle.pauli.specs.Told.{answer};
 ghost use Rattle.pauli.specs.JoinAnswers.{told_counts};
@@ -43,8 +43,16 @@ pub fn join_support(left: &[u8], nl: usize, right: &[u8], nr: usize, known: &mut
     gather(right, 2 + 10 * nr, numbers_of(right, nr), known, first)
 }
 
+// How many bytes the roll of two accepted rolls of nl and nr Paulis joined has.
+pub fn joined_bytes(left: &[u8], nl: usize, right: &[u8], nr: usize) -> usize
+    requires { (count_of left.now ≡ answer nl) × (count_of right.now ≡ answer nr) }
+    ensures { result ≡ length (write (list_of left.now ++ list_of right.now)) }
+{
+    2 + 10 * (nl + nr) + 4 * (numbers_of(left, nl) + numbers_of(right, nr))
+}
+
 // How many distinct qubits two accepted rolls have; where there are more than a list may have, one more than that.
-fn joined_qubits(left: &[u8], nl: usize, right: &[u8], nr: usize) -> usize
+pub fn joined_qubits(left: &[u8], nl: usize, right: &[u8], nr: usize) -> usize
     requires { (count_of left.now ≡ answer nl) × (count_of right.now ≡ answer nr) }
     ensures { result ≡ min (length (support (list_of left.now ++ list_of right.now))) (suc most_qubits) }
 {

@@ -1,3 +1,4 @@
 pub mod OneList
+pub mod Rolls
 pub mod TwoLists
 pub mod Question

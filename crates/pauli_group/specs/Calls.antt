@@ -71,6 +71,10 @@ question b e n words =
     and_then (read_both b e) λ l. within n l.right (enough words
     (answer (record { generators = paulis l.left; element = pauli_of (slice_index_or l.right n nothing) })))
 
+-- how many Paulis each of two rolls has
+unfoldable pub roll_counts : List ℕ → List ℕ → Told Counts
+roll_counts b e = map_told (λ l. record { left = length l.left; right = length l.right }) (read_both b e)
+
 -- how many Paulis the two rolls have, where the question can be asked
 unfoldable pub question_counts : List ℕ → List ℕ → ℕ → ℕ → Told Counts
 question_counts b e n words =

@@ -54,13 +54,13 @@ pub fn standard_generators(b: &[u8], work: &mut [u64], out: &mut [u8]) -> Wrote
 
 // What the calls tell of the group of a list, or why they are refused.
 #[derive(Drop)]
-pub(crate) enum DescriptionFound {
+pub enum DescriptionFound {
     Description(Description),
     Refused(Refusal),
 }
 
 // Describes the group of a list, and clears the work area.
-fn describe_list(b: &[u8], promise: Promise, work: &mut [u64]) -> DescriptionFound
+pub fn describe_list(b: &[u8], promise: Promise, work: &mut [u64]) -> DescriptionFound
     ensures { DescriptionCall (promise_of promise) b.now work.old result work.new }
 {
     let checked = check_list(b, work.len());

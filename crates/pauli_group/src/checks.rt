@@ -3,7 +3,7 @@ ghost use Rattle.std.specs.Prelude.{◌≡◌, length};
 ghost use Rattle.pauli.specs.JoinAnswers.{told_counts};
 ghost use Rattle.pauli.specs.RollAnswers.{told_count};
 ghost use Rattle.pauli.specs.Told.{map_told};
-ghost use Rattle.pauli_group.specs.Calls.{one_list, question_counts, pair_counts, two_lists};
+ghost use Rattle.pauli_group.specs.Calls.{one_list, roll_counts, question_counts, pair_counts, two_lists};
 
 use crate::area::WORK_WORDS;
 use pauli::joined::{CountsFound, RollCounts, joined_counts};
@@ -30,24 +30,40 @@ pub(crate) fn check_list(b: &[u8], words: usize) -> Checked
     Checked::Count(n)
 }
 
-// Checks the generators' roll, the elements' roll, the element's number and the work area of so many words.
-pub(crate) fn check_question(b: &[u8], elements: &[u8], number: usize, words: usize) -> CountsFound
-    ensures { told_counts result ≡ question_counts b.now elements.now number words }
+// Checks the generators' roll, then the elements' roll; tells how many Paulis each has.
+pub fn check_rolls(b: &[u8], elements: &[u8]) -> CountsFound
+    ensures { told_counts result ≡ roll_counts b.now elements.now }
 {
     let c = check_roll(b);
-    let n = match c {
+    let left = match c {
         Checked::Refused(r) => {
             return CountsFound::Refused(r);
         }
         Checked::Count(n) => n,
     };
     let d = check_roll(elements);
-    let m = match d {
+    let right = match d {
         Checked::Refused(r) => {
             return CountsFound::Refused(r);
         }
         Checked::Count(m) => m,
     };
+    CountsFound::Counts(RollCounts { left, right })
+}
+
+// Checks the generators' roll, the elements' roll, the element's number and the work area of so many words.
+pub(crate) fn check_question(b: &[u8], elements: &[u8], number: usize, words: usize) -> CountsFound
+    ensures { told_counts result ≡ question_counts b.now elements.now number words }
+{
+    let found = check_rolls(b, elements);
+    let counts = match found {
+        CountsFound::Refused(r) => {
+            return CountsFound::Refused(r);
+        }
+        CountsFound::Counts(counts) => counts,
+    };
+    let n = counts.left;
+    let m = counts.right;
     if number >= m {
         return CountsFound::Refused(Refusal {
             reason: Reason::Number,

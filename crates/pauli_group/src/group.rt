@@ -33,7 +33,7 @@ pub struct Group {
 
 // What the calls tell of a group: its rank, the step between its phases, and 1 or 0 for not abelian and for a stabilizer group.
 #[derive(Clone, Copy)]
-pub(crate) struct Description {
+pub struct Description {
     pub rank: usize,
     pub step: u64,
     pub clash: u64,

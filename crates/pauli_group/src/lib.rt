@@ -23,7 +23,7 @@ pub mod member;
 // What the calls answer.
 pub mod answers;
 // What is checked before a call works.
-pub(crate) mod checks;
+pub mod checks;
 // The calls for standard generators, rank, phases, abelian, stabilizer and size.
 pub mod calls;
 // The call for membership.

@@ -30,7 +30,7 @@ use pauli::support::MOST_QUBITS;
 use pauli::write::{Wrote, write_roll};
 
 // The highest rank whose group is listed.
-const MOST_LISTED: usize = 16;
+pub const MOST_LISTED: usize = 16;
 // The size of a page that asks for none.
 const DEFAULT_PAGE: usize = 16;
 // The largest page.
@@ -185,6 +185,15 @@ fn page_length(total: u64, start: u64, size: usize) -> usize
     size
 }
 
+// How many elements a page holds of a group of this rank, whose phases have this step.
+pub fn page_elements(rank: usize, step: u64, start: u32, count: u32) -> usize
+    requires { (rank ≤ 16) × (0 < step) × (step ≤ 4) }
+    ensures { (result ≡ min (page_size_spec count) (2 ^ rank * (4 / step) - start)) × (result ≤ 128) }
+{
+    let total = (1u64 << rank) * (4 / step);
+    page_length(total, start as u64, page_size(count as usize))
+}
+
 // Writes a page of the group of an accepted roll of n Paulis, and clears the work area.
 fn write_page(
     b: &[u8],
@@ -210,8 +219,7 @@ fn write_page(
         });
     }
     let signs = signs_of(w, g.total, promise);
-    let total = (1u64 << g.rank) * (4 / signs.step);
-    let length = page_length(total, start as u64, page_size(count as usize));
+    let length = page_elements(g.rank, signs.step, start, count);
     put_elements(w, g.rank, signs.step, start as u64, length);
     let wrote = write_roll(w, FURTHER, length, &known, g.places, out);
     clear_bits(w, 0, WORK_WORDS);

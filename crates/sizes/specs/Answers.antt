@@ -1,5 +1,5 @@
 -- What the answers tell.
-use Prim.Native.Nat.{ℕ}
+use Rattle.std.specs.Prelude.{ℕ}
 use Rattle.pauli.specs.Refusals.{told_refusal}
 use Rattle.pauli.specs.Told.{Told, answer}
 use Rattle.sizes.specs.declared.answers.JoinedSizes.{JoinedSizes}

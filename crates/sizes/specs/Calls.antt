@@ -1,8 +1,5 @@
--- The sizes, as functions of the bytes lent: document 02, L3.
-use mathlib.Core.List.{List}
-use Prim.Native.Nat.{ℕ, ◌+◌, ◌-◌, ◌*◌, ◌^◌, max, min}
-use lib.Dec.{ltb}
-use lib.ListN.{length}
+-- The sizes, as functions of the bytes lent.
+use Rattle.std.specs.Prelude.{List, ℕ, ◌+◌, ◌-◌, ◌*◌, ◌^◌, max, min, nat_lt, length}
 use Rattle.pauli.specs.Pauli.{Pauli}
 use Rattle.pauli.specs.Roll.{Sparse, support, read, write}
 use Rattle.pauli.specs.JoinCalls.{joined_of}
@@ -41,4 +38,4 @@ page_elements promise start count gs = min (page_size count) (2 ^ rank gs * phas
 -- refused as listing is: the roll (1 to 7), the work area (9), the rank (10)
 unfoldable pub page_call : Promise → ℕ → ℕ → List ℕ → ℕ → Told ℕ
 page_call promise start count b words =
-    and_then (one_list b words) λ gs. refuse_if (ltb most_listed (rank gs)) 10 0 (answer (page_elements promise start count gs))
+    and_then (one_list b words) λ gs. refuse_if (nat_lt most_listed (rank gs)) 10 0 (answer (page_elements promise start count gs))

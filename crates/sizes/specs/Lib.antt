@@ -1,3 +1,3 @@
 pub mod Answers
 pub mod Calls
-pub mod Contracts
+pub mod SizeContracts

@@ -1,11 +1,9 @@
 // The call for the bound on standard generators.
-ghost use mathlib.Core.Path.{◌≡◌};
-ghost use Prim.Native.Nat.{◌+◌, ◌*◌, ◌≤◌, max};
-ghost use lib.ListN.{length};
+ghost use Rattle.std.specs.Prelude.{◌≡◌, ◌+◌, ◌*◌, ◌≤◌, max, length};
 ghost use Rattle.pauli.specs.Condense.{list_of};
 ghost use Rattle.pauli.specs.Roll.{support, count_of};
 ghost use Rattle.pauli.specs.Told.{answer};
-ghost use Rattle.sizes.specs.Contracts.{StandardBoundCall};
+ghost use Rattle.sizes.specs.SizeContracts.{StandardBoundCall};
 
 use crate::answers::BoundFound;
 use pauli::joined::numbers_of;

@@ -1,5 +1,5 @@
 // The call for the sizes of two lists joined.
-ghost use Rattle.sizes.specs.Contracts.{JoinedSizesCall};
+ghost use Rattle.sizes.specs.SizeContracts.{JoinedSizesCall};
 
 use crate::answers::{JoinedSizes, SizesFound};
 use pauli::joined::{CountsFound, joined_bytes, joined_counts, joined_qubits};

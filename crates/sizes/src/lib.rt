@@ -1,5 +1,4 @@
 // How large a result will be, told without making it: the joined roll, the roll of standard generators, and a page of the listing.
-
 #![tactic(auto)]
 
 // What the calls answer.

@@ -1,13 +1,11 @@
 // The call for the size of a page.
-ghost use mathlib.Core.Path.{◌≡◌};
-ghost use Prim.Native.Nat.{◌-◌, ◌*◌, ◌/◌, ◌^◌, ◌≤◌, ◌<◌, min};
-ghost use lib.Dec.{ltb};
+ghost use Rattle.std.specs.Prelude.{◌≡◌, ◌-◌, ◌*◌, ◌/◌, ◌^◌, ◌≤◌, ◌<◌, min, nat_lt};
 ghost use Rattle.pauli.specs.Told.{answer, refuse_if};
 ghost use Rattle.pauli_theory.specs.Listing.{page_size as page_size_spec};
 ghost use Rattle.pauli_group.specs.Calls.{most_listed};
 ghost use Rattle.pauli_group.specs.Promises.{promise_of};
 ghost use Rattle.sizes.specs.Answers.{told_page};
-ghost use Rattle.sizes.specs.Contracts.{PageSizeCall};
+ghost use Rattle.sizes.specs.SizeContracts.{PageSizeCall};
 
 use crate::answers::PageFound;
 use pauli::refusal::{Reason, Refusal};
@@ -18,7 +16,7 @@ use pauli_group::promise::Promise;
 // How many elements a page holds of a group of this rank, whose phases have this step.
 fn page_of(rank: usize, step: u64, start: u32, count: u32) -> PageFound
     requires { (0 < step) × (step ≤ 4) }
-    ensures { told_page result ≡ refuse_if (ltb most_listed rank) 10 0 (answer (min (page_size_spec count) (2 ^ rank * (4 / step) - start))) }
+    ensures { told_page result ≡ refuse_if (nat_lt most_listed rank) 10 0 (answer (min (page_size_spec count) (2 ^ rank * (4 / step) - start))) }
 {
     if rank > MOST_LISTED {
         return PageFound::Refused(Refusal {

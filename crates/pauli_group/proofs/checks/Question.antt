@@ -9,13 +9,14 @@ use Rattle.pauli.specs.Refusals.{told_refusal}
 use Rattle.pauli.specs.JoinAnswers.{told_counts}
 use Rattle.pauli.specs.JoinCalls.{Lists, read_both, within, Counts}
 use Rattle.pauli.specs.Condense.{list_of, nothing}
-use Rattle.pauli.specs.Roll.{most_paulis, read, count_of}
+use Rattle.pauli.specs.Roll.{most_paulis, count_of}
 use Rattle.pauli.specs.Sets.{pauli_of}
 use Rattle.pauli.specs.Told.{Told, answer, refused, refuse_if, and_then, map_told}
 use Rattle.pauli.proofs.joined.JoinLaws.{accepted, accepted_few}
 use Rattle.pauli.proofs.roll.Told.{refused_none, test_pass, test_refuses, test_passed, map_refused}
 use Rattle.pauli_group.specs.WorkArea.{work_words, enough}
-use Rattle.pauli_group.specs.Calls.{paulis, question, question_counts}
+use Rattle.pauli_group.specs.Calls.{paulis, question, roll_counts, question_counts}
+use Rattle.pauli_group.proofs.checks.Rolls.{Accepted, both}
 
 -- what they let pass, changed by f
 unfoldable passed : {A : Type 0} → Told Lists → ℕ → ℕ → (Lists → A) → Told A
@@ -38,33 +39,31 @@ module _ (number words : ℕ) {A : Type 0} (f : Lists → A) where
   passed_refused t k p h = passed_map t ∙ ap (map_told f) h
 
 module _ (b e : List ℕ) (number words : ℕ) where
-  pub counts_left : (m p : ℕ) → count_of b ≡ refused m p → refused m p ≡ question_counts b e number words
-  unfolding count_of question_counts read_both and_then
-  counts_left m p h = rw (map_refused length (read b) m p h)
+  pub counts_refused : (m p : ℕ) → read_both b e ≡ refused m p → refused m p ≡ question_counts b e number words
+  unfolding question_counts and_then
+  counts_refused m p h = rw h
 
-  module _ (n : ℕ) (f : count_of b ≡ answer n) where
-    pub counts_right : (m p : ℕ) → count_of e ≡ refused m p → refused m p ≡ question_counts b e number words
-    unfolding count_of question_counts read_both and_then
-    counts_right m p h = rw ((accepted b n f).0, map_refused length (read e) m p h)
+  module _ (n m : ℕ) (r : Accepted b e n m) where
+    checks : question_counts b e number words
+        ≡ refuse_if (leb m number) 8 0 (refuse_if (ltb words work_words) 9 0 (answer (record { left = n; right = m })))
+    unfolding question_counts read_both and_then within enough
+    checks =
+        let g = r.generators in
+        let h = r.elements in
+        rw ((accepted b n g).0, (accepted e m h).0, (accepted b n g).1, (accepted e m h).1)
 
-    module _ (m : ℕ) (g : count_of e ≡ answer m) where
-      checks : question_counts b e number words
-          ≡ refuse_if (leb m number) 8 0 (refuse_if (ltb words work_words) 9 0 (answer (record { left = n; right = m })))
-      unfolding question_counts read_both and_then within enough
-      checks = rw ((accepted b n f).0, (accepted e m g).0, (accepted b n f).1, (accepted e m g).1)
+    pub counts_past : m ≤ number → refused 8 0 ≡ question_counts b e number words
+    counts_past h = sym (checks ∙ test_refuses (leb m number) 8 0 _ (le-leb m number h))
 
-      pub counts_past : m ≤ number → refused 8 0 ≡ question_counts b e number words
-      counts_past h = sym (checks ∙ test_refuses (leb m number) 8 0 _ (le-leb m number h))
+    module _ (h : number < m) where
+      next : question_counts b e number words ≡ refuse_if (ltb words work_words) 9 0 (answer (record { left = n; right = m }))
+      next = checks ∙ test_pass (leb m number) 8 0 _ (lt-leb m number h)
 
-      module _ (h : number < m) where
-        next : question_counts b e number words ≡ refuse_if (ltb words work_words) 9 0 (answer (record { left = n; right = m }))
-        next = checks ∙ test_pass (leb m number) 8 0 _ (lt-leb m number h)
+      pub counts_short : words < work_words → refused 9 0 ≡ question_counts b e number words
+      counts_short s = sym (next ∙ test_refuses (ltb words work_words) 9 0 _ (lt-ltb words work_words s))
 
-        pub counts_short : words < work_words → refused 9 0 ≡ question_counts b e number words
-        counts_short s = sym (next ∙ test_refuses (ltb words work_words) 9 0 _ (lt-ltb words work_words s))
-
-        pub counts_pass : work_words ≤ words → answer (record { left = n; right = m }) ≡ question_counts b e number words
-        counts_pass s = sym (next ∙ test_pass (ltb words work_words) 9 0 _ (le-ltb words work_words s))
+      pub counts_pass : work_words ≤ words → answer (record { left = n; right = m }) ≡ question_counts b e number words
+      counts_pass s = sym (next ∙ test_pass (ltb words work_words) 9 0 _ (le-ltb words work_words s))
 
   -- the rolls can be read, the element is there, and the area is large enough
   pub record Asking (n m : ℕ) : Type 0 where
@@ -78,26 +77,24 @@ module _ (b e : List ℕ) (number words : ℕ) where
   asking_few {n} a = accepted_few b n a.generators
 
   asking : (n m : ℕ) → answer (record { left = n; right = m }) ≡ question_counts b e number words → Asking n m
-  asking n m h = left (count_of b) refl
+  unfolding roll_counts
+  asking n m h = go (roll_counts b e) refl
     where
-      right : (k : ℕ) → count_of b ≡ answer k → (t : Told ℕ) → count_of e ≡ t → Asking n m
-      right k f (refused i p) g = absurd (refused_none i p _ (counts_right k f i p g ∙ sym h))
-      right k f (answer j) g =
-          let (within, next) = test_passed (leb j number) 8 0 _ _ (sym (checks k f j g) ∙ sym h) in
-          let (large, same) = test_passed (ltb words work_words) 9 0 _ _ next in
-          let both : ◌≡◌ {A = Counts} (record { left = k; right = j }) (record { left = n; right = m }) = cc in
-          let a : k ≡ n = ap (λ (c : Counts). c.left) both in
-          let c : j ≡ m = ap (λ (c : Counts). c.right) both in
+      go : (t : Told Counts) → roll_counts b e ≡ t → Asking n m
+      go (refused i p) f = absurd (refused_none i p _ (counts_refused i p (map_refused _ (read_both b e) i p f) ∙ sym h))
+      go (answer d) f =
+          let r = both b e d.left d.right (sym f) in
+          let (within, next) = test_passed (leb d.right number) 8 0 _ _ (sym (checks d.left d.right r) ∙ sym h) in
+          let (large, told) = test_passed (ltb words work_words) 9 0 _ _ next in
+          let same : ◌≡◌ {A = Counts} (record { left = d.left; right = d.right }) (record { left = n; right = m }) = cc in
+          let a : d.left ≡ n = ap (λ (c : Counts). c.left) same in
+          let c : d.right ≡ m = ap (λ (c : Counts). c.right) same in
           record {
-            generators = f ∙ ap answer a;
-            elements = g ∙ ap answer c;
-            inside = omega (arith, leb-false j number within);
+            generators = r.generators ∙ ap answer a;
+            elements = r.elements ∙ ap answer c;
+            inside = omega (arith, leb-false d.right number within);
             room = ltb-false words work_words large;
           }
-
-      left : (t : Told ℕ) → count_of b ≡ t → Asking n m
-      left (refused i p) f = absurd (refused_none i p _ (counts_left i p f ∙ sym h))
-      left (answer k) f = right k f (count_of e) refl
 
   question_none : (k p : ℕ) → question_counts b e number words ≡ refused k p → question b e number words ≡ refused k p
   unfolding question question_counts passed

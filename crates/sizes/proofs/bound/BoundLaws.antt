@@ -1,10 +1,5 @@
 -- What is told of the bound on standard generators.
-use mathlib.Core.Path.{◌≡◌, refl, sym, ap, ◌∙◌}
-use mathlib.Core.List.{List}
-use Prim.Native.Nat.{ℕ, zero, suc, ◌+◌, ◌*◌, ◌≤◌, max}
-use native.Mathlib.Nat.{mul-one, mul-le-mul_left}
-use native.Mathlib.Omega.{arith}
-use lib.ListN.{length}
+use Rattle.std.proofs.Common.{◌≡◌, refl, sym, ap, ◌∙◌, List, ℕ, zero, suc, ◌+◌, ◌*◌, ◌≤◌, max, mul-one, mul-le-mul_left, arith, length}
 use Rattle.pauli.specs.Condense.{list_of}
 use Rattle.pauli.specs.Roll.{support, count_of}
 use Rattle.pauli.specs.Told.{answer, refused, map_told}

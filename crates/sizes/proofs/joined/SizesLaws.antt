@@ -1,9 +1,5 @@
 -- What is told of two rolls that are not joined.
-use mathlib.Core.Path.{◌≡◌, sym, ap, ◌∙◌}
-use mathlib.Core.List.{List, ◌++◌}
-use Prim.Native.Nat.{ℕ, suc, ◌+◌, min}
-use native.Mathlib.Omega.{arith}
-use lib.ListN.{length, length-append}
+use Rattle.std.proofs.Common.{◌≡◌, sym, ap, ◌∙◌, List, ◌++◌, ℕ, suc, ◌+◌, min, arith, length, length-append}
 use Rattle.pauli.specs.Condense.{list_of}
 use Rattle.pauli.specs.JoinCalls.{counts_of}
 use Rattle.pauli.specs.Roll.{support, write}

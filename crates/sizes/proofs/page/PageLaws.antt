@@ -1,8 +1,5 @@
 -- What is told of a page that is not listed.
-use mathlib.Core.Path.{◌≡◌, ◌∙◌}
-use mathlib.Core.List.{List}
-use Prim.Native.Nat.{ℕ, ◌-◌, ◌*◌, ◌/◌, ◌^◌, min}
-use lib.Dec.{ltb}
+use Rattle.std.proofs.Common.{◌≡◌, ◌∙◌, List, ℕ, ◌-◌, ◌*◌, ◌/◌, ◌^◌, min, ltb}
 use Rattle.pauli.specs.Pauli.{Pauli}
 use Rattle.pauli.specs.Told.{Told, answer, refused, refuse_if, and_then}
 use Rattle.pauli_theory.specs.Group.{Promise}

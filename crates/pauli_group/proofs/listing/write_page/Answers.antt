@@ -1,5 +1,5 @@
 -- The group is built; where its rank allows, its page is listed and written; and the area is cleared.
-use Rattle.std.proofs.Common.{ℕ, ◌-◌, min, List, sym, ap, ◌∙◌, ap₂, arith}
+use Rattle.std.proofs.Common.{ℕ, List, sym, ap, ◌∙◌, arith}
 use Rattle.pauli.specs.Condense.{list_of}
 use Rattle.pauli_group.specs.Promises.{promise_of}
 use Rattle.pauli_group.specs.Calls.{paulis}
@@ -7,7 +7,7 @@ use Rattle.pauli.specs.Support.{most_qubits}
 use Rattle.pauli.specs.Told.{Told, answer}
 use Rattle.pauli.specs.Writing.{told_bytes, left_in}
 use Rattle.pauli_group.proofs.group.GroupedLaws.{cleared_whole, group_total, group_places}
-use Rattle.pauli_group.proofs.listing.PageLaws.{total_is, total_small, signs_step, signs_some, signs_few, page_places, page_written, page_refused, page_answered}
+use Rattle.pauli_group.proofs.listing.PageLaws.{signs_step, signs_some, signs_few, page_places, page_written, page_refused, page_answered}
 use Rattle.pauli_group.proofs.listing.write_page.Goals as goal
 
 pub group_of-g-requires : goal.group_of-g-requires
@@ -27,11 +27,12 @@ signs_of-signs-requires c =
     let group = c.group_of-g in
     omega (arith, group_total _ _ c.requires.0 group.ensures.group, group.auto.w, c.requires.1)
 
-pub nonzero_div-total : goal.nonzero_div-total
-nonzero_div-total c = omega (arith, signs_some _ c.group_of-g.ensures.group c.signs_of-signs.result c.signs_of-signs.ensures.clash c.signs_of-signs.ensures.step c.signs_of-signs.ensures.stabilizer)
-
-pub overflow_mul-total : goal.overflow_mul-total
-overflow_mul-total c = omega (arith, total_small c.group_of-g.result.rank c.signs_of-signs.result.step c.if-g-gt-MOST_LISTED.false (signs_some _ c.group_of-g.ensures.group c.signs_of-signs.result c.signs_of-signs.ensures.clash c.signs_of-signs.ensures.step c.signs_of-signs.ensures.stabilizer) (signs_few _ c.group_of-g.ensures.group c.signs_of-signs.result c.signs_of-signs.ensures.clash c.signs_of-signs.ensures.step c.signs_of-signs.ensures.stabilizer))
+pub page_elements-length-requires : goal.page_elements-length-requires
+page_elements-length-requires c = (
+  c.if-g-gt-MOST_LISTED.false,
+  signs_some _ c.group_of-g.ensures.group c.signs_of-signs.result c.signs_of-signs.ensures.clash c.signs_of-signs.ensures.step c.signs_of-signs.ensures.stabilizer,
+  signs_few _ c.group_of-g.ensures.group c.signs_of-signs.result c.signs_of-signs.ensures.clash c.signs_of-signs.ensures.step c.signs_of-signs.ensures.stabilizer,
+)
 
 pub put_elements-requires : goal.put_elements-requires
 put_elements-requires c =
@@ -40,7 +41,7 @@ put_elements-requires c =
       c.if-g-gt-MOST_LISTED.false,
       signs_some _ c.group_of-g.ensures.group c.signs_of-signs.result c.signs_of-signs.ensures.clash c.signs_of-signs.ensures.step c.signs_of-signs.ensures.stabilizer,
       signs_few _ c.group_of-g.ensures.group c.signs_of-signs.result c.signs_of-signs.ensures.clash c.signs_of-signs.ensures.step c.signs_of-signs.ensures.stabilizer,
-      omega (arith, c.page_length-length.ensures, c.page_size.ensures.1),
+      c.page_elements-length.ensures.1,
       omega (arith, c.ranges),
     )
 
@@ -49,13 +50,13 @@ write_roll-wrote-requires c =
     let group = c.group_of-g in
     let pre = c.requires in
     let step = signs_step _ c.group_of-g.ensures.group c.signs_of-signs.result c.signs_of-signs.ensures.clash c.signs_of-signs.ensures.step c.signs_of-signs.ensures.stabilizer in
-    let few = c.page_size.ensures.1 in
+    let few = c.page_elements-length.ensures.1 in
     let size = c.put_elements.auto.w in (
-      omega (arith, size, group.auto.w, pre.1, c.page_length-length.ensures, few),
-      omega (arith, c.page_length-length.ensures, few),
+      omega (arith, size, group.auto.w, pre.1, few),
+      omega (arith, few),
       group_places _ _ pre.0 group.ensures.group,
       omega (arith, group_places _ _ pre.0 group.ensures.group, group.auto.known),
-      page_places _ _ group.ensures.group _ step _ _ _ (c.page_length-length.ensures ∙ ap₂ (λ (s : ℕ) (t : ℕ). min s (t - c.args.start)) c.page_size.ensures.0 (total_is _ _ c.if-g-gt-MOST_LISTED.false)) _ c.put_elements.ensures.list,
+      page_places _ _ group.ensures.group _ step _ _ _ c.page_elements-length.ensures.0 _ c.put_elements.ensures.list,
     )
 
 pub clear_bits-requires-2 : goal.clear_bits-requires-2
@@ -68,5 +69,5 @@ returns c =
     let out = c.args.out.now in
     let step = signs_step _ c.group_of-g.ensures.group c.signs_of-signs.result c.signs_of-signs.ensures.clash c.signs_of-signs.ensures.step c.signs_of-signs.ensures.stabilizer in
     let wrote = c.write_roll-wrote.ensures in
-    let roll = page_written _ _ group.ensures.group _ step _ _ _ (c.page_length-length.ensures ∙ ap₂ (λ (s : ℕ) (t : ℕ). min s (t - c.args.start)) c.page_size.ensures.0 (total_is _ _ c.if-g-gt-MOST_LISTED.false)) _ c.put_elements.ensures.list in
+    let roll = page_written _ _ group.ensures.group _ step _ _ _ c.page_elements-length.ensures.0 _ c.put_elements.ensures.list in
     let same = ap answer roll ∙ sym (page_answered (promise_of c.args.promise) c.args.start c.args.count (paulis (list_of c.args.b.now)) (rw (← group.ensures.group.rank_is) c.if-g-gt-MOST_LISTED.false)) in record { told = wrote.told ∙ ap (λ (t : Told (List ℕ)). told_bytes t out) same; left = wrote.left ∙ ap (λ (t : Told (List ℕ)). left_in t out) same; area = c.clear_bits-2.ensures ∙ cleared_whole _ _ (c.put_elements.auto.w ∙ group.auto.w ∙ pre.1) pre.1 }

@@ -1,0 +1,38 @@
+-- The refusal of the checks is told on; else the sizes.
+use Rattle.std.proofs.Common.{sym, ap, ◌∙◌, arith}
+use Rattle.pauli.specs.JoinAnswers.{told_counts}
+use Rattle.pauli.specs.Roll.{most_paulis}
+use Rattle.pauli.proofs.joined.JoinLaws.{counts_joining}
+use Rattle.sizes.proofs.joined.SizesLaws.{sizes_refused, sizes_told}
+use Rattle.sizes.proofs.joined.joined_sizes.Goals as goal
+
+pub returns-in-Refused : goal.returns-in-Refused
+returns-in-Refused c =
+    let told = sym c.joined_counts-found.ensures ∙ ap told_counts c.in-Refused.is in
+    record { told = sizes_refused c.args.left.now c.args.right.now _ _ told }
+
+pub joined_bytes-bytes-requires : goal.joined_bytes-bytes-requires
+joined_bytes-bytes-requires c =
+    let told = sym c.joined_counts-found.ensures ∙ ap told_counts c.in-Counts.is in
+    let j = counts_joining c.args.left.now c.args.right.now _ told in
+    (j.left, j.right)
+
+pub overflow_add-count : goal.overflow_add-count
+unfolding most_paulis
+overflow_add-count c =
+    let told = sym c.joined_counts-found.ensures ∙ ap told_counts c.in-Counts.is in
+    let j = counts_joining c.args.left.now c.args.right.now _ told in
+    omega (arith, j.few)
+
+pub joined_qubits-qubits-requires : goal.joined_qubits-qubits-requires
+joined_qubits-qubits-requires c =
+    let told = sym c.joined_counts-found.ensures ∙ ap told_counts c.in-Counts.is in
+    let j = counts_joining c.args.left.now c.args.right.now _ told in
+    (j.left, j.right)
+
+pub returns : goal.returns
+returns c =
+    let told = sym c.joined_counts-found.ensures ∙ ap told_counts c.in-Counts.is in
+    let j = counts_joining c.args.left.now c.args.right.now _ told in
+    let bytes = c.joined_bytes-bytes.ensures in
+    record { told = sizes_told c.args.left.now c.args.right.now _ _ j _ _ bytes c.joined_qubits-qubits.ensures }
