@@ -44,11 +44,15 @@ extern "C" {
 #define HOWHIRUKE_DEFAULT_PAGE 16       /* elements of a page with count 0 */
 #define HOWHIRUKE_LARGEST_PAGE 128      /* elements of a page with a count of 128 or more */
 
-/* Sizes. */
+/* Sizes. How long an output has to be can be asked before the call: for howhiruke_join howhiruke_joined_sizes tells it exactly; for
+ * howhiruke_standard_generators what howhiruke_standard_bound tells is enough; a page of howhiruke_elements has as many Paulis as
+ * howhiruke_page_size tells, of at most 10 + 8 s bytes each on s qubits, and 2 bytes more. For any roll HOWHIRUKE_LARGEST_ROLL, the length of
+ * the largest possible one, is enough. */
 #define HOWHIRUKE_WORK_WORDS 4096       /* 64-bit words of a work area */
 #define HOWHIRUKE_LARGEST_ROLL 132354   /* bytes of the longest roll that is accepted or written */
 #define HOWHIRUKE_LARGEST_PRODUCT 1036  /* bytes of the longest roll of one Pauli */
 #define HOWHIRUKE_LARGEST_INDEXES 256   /* bytes of the indexes of a member */
+#define HOWHIRUKE_LARGEST_RESULTS 33280 /* bytes of the results of 128 elements */
 #define HOWHIRUKE_LARGEST_INPUT 65536   /* bytes of the longest input of the closing listing */
 #define HOWHIRUKE_LARGEST_LISTING 53924 /* bytes of the longest closing listing */
 
@@ -140,6 +144,14 @@ howhiruke_answer howhiruke_indexed_factorization_of(const uint8_t *generators, s
                                                     uint64_t promise, uint64_t *work, size_t work_len,
                                                     uint8_t *out, size_t out_len);
 
+/* The same of every Pauli of the roll elements. The results stand one behind the other, in the elements' order: byte 0 for no member; else
+ * byte 1, the exponent left (1 byte), how many generators multiply to it (2) and their indexes, rising (2 each), little-endian. first: how
+ * many results there are, second: how many bytes they take. An empty roll of elements has none. Also 12, where nothing is written. */
+howhiruke_answer howhiruke_indexed_factorizations_of(const uint8_t *generators, size_t generators_len,
+                                                     const uint8_t *elements, size_t elements_len,
+                                                     uint64_t promise, uint64_t *work, size_t work_len,
+                                                     uint8_t *out, size_t out_len);
+
 /* Writes a page of the group's elements: subsets of the standard generators by size, then lexicographic, phases fastest; count of
  * them from number start on (count 0 means 16, above 128 means 128). A start past the end gives an empty roll. first: the roll's
  * length. Also 10 and 12. */
@@ -150,6 +162,20 @@ howhiruke_answer howhiruke_elements(const uint8_t *roll, size_t roll_len, uint64
  * first: the roll's length. Also 12. */
 howhiruke_answer howhiruke_symplectic_form_of(const uint8_t *roll, size_t roll_len, uint64_t *work, size_t work_len,
                                               uint8_t *out, size_t out_len);
+
+/* ---- sizes before the work */
+
+/* The roll that howhiruke_join writes of the same rolls. first: its length, second: how many Paulis it has, third: how many distinct
+ * qubits. Refusals 1 to 7; 2 and 7 also joined. No work area. */
+howhiruke_answer howhiruke_joined_sizes(const uint8_t *left, size_t left_len, const uint8_t *right, size_t right_len);
+
+/* first: 2 + (10 + 8 s) n for n Paulis on s distinct qubits, n taken as 1 if it is 0: with an output of this length
+ * howhiruke_standard_generators is never refused with 12. Refusals 1 to 7. No work area. */
+howhiruke_answer howhiruke_standard_bound(const uint8_t *roll, size_t roll_len);
+
+/* first: how many elements the page has that howhiruke_elements writes with the same promise, start and count. Refusals 1 to 7, 9, 10. */
+howhiruke_answer howhiruke_page_size(const uint8_t *roll, size_t roll_len, uint64_t promise, uint32_t start, uint32_t count,
+                                     uint64_t *work, size_t work_len);
 
 /* ---- two groups: refusals 1 to 7 and 9, and those named; 2 and 7 also joined */
 

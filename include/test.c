@@ -220,6 +220,37 @@ static void others(void)
     holds("misfit", !memcmp(words, form, sizeof form));
 }
 
+/* A result for each element. */
+static void many_elements(void)
+{
+    pauli both = {0, {0, 1, E}, {0, 1, E}}, minus = {2, {0, 1, E}, {0, 1, E}};
+    roll bell = LIST(XX, ZZ), elements = LIST(both, X, I, minus), none = of(0, NULL);
+    uint8_t results[] = {1, 0, 2, 0, 0, 0, 1, 0, 0, 1, 0, 0, 0, 0};
+    told("many", CALL(indexed_factorizations_of, ROLL(bell), ROLL(elements), 0, WORK, OUT), 4, sizeof results, 0);
+    holds("many", !memcmp(out, results, sizeof results) && kept(sizeof results) && used());
+    told("many, just room", CALL(indexed_factorizations_of, ROLL(bell), ROLL(elements), 0, WORK, out, sizeof results), 4, sizeof results, 0);
+    refused("many 12", CALL(indexed_factorizations_of, ROLL(bell), ROLL(elements), 0, WORK, out, sizeof results - 1), 12, 0);
+    refused("many 9", CALL(indexed_factorizations_of, ROLL(bell), ROLL(none), 0, work, WORDS - 1, OUT), 9, 0);
+    refused("many 1", CALL(indexed_factorizations_of, ROLL(bell), elements.b, 1, 0, WORK, OUT), 1, 0);
+    told("none of many", CALL(indexed_factorizations_of, ROLL(bell), ROLL(none), 0, WORK, out, 0), 0, 0, 0);
+    holds("none of many", used());
+}
+
+/* What is told before the work. */
+static void sizes(void)
+{
+    roll bell = LIST(XX, ZZ), x1 = LIST(X1), none = of(0, NULL);
+    told("joined sizes", CALL(joined_sizes, ROLL(bell), ROLL(x1)), 52, 3, 2);
+    refused("joined sizes 1", CALL(joined_sizes, ROLL(bell), x1.b, 1), 1, 0);
+    told("bound of none", CALL(standard_bound, ROLL(none)), 12, 0, 0);
+    told("bound", CALL(standard_bound, ROLL(bell)), 54, 0, 0);
+    refused("bound 1", CALL(standard_bound, bell.b, 1), 1, 0);
+    worked("page", CALL(page_size, ROLL(bell), HOWHIRUKE_PROMISE_NONE, 1, 0, WORK), 3);
+    worked("page past the end", CALL(page_size, ROLL(bell), HOWHIRUKE_PROMISE_NONE, 4, 0, WORK), 0);
+    worked("page of two", CALL(page_size, ROLL(bell), HOWHIRUKE_PROMISE_NONE, 1, 2, WORK), 2);
+    refused("page 9", CALL(page_size, ROLL(bell), HOWHIRUKE_PROMISE_NONE, 1, 2, work, WORDS - 1), 9, 0);
+}
+
 /* The common part, and the closing example. */
 static void common_and_report(void)
 {
@@ -282,6 +313,8 @@ static void edges(void)
     howhiruke_answer a = howhiruke_elements(ROLL(listable), 0, 65535, 1, WORK, OUT);
     told("rank 16", a, 2 + 10 + 4 * 16, 0, 0);
     refused("rank 17", CALL(elements, ROLL(larger), 0, 0, 1, WORK, OUT), 10, 0);
+    worked("page of rank 16", CALL(page_size, ROLL(listable), 0, 65535, 2, WORK), 1);
+    refused("page of rank 17", CALL(page_size, ROLL(larger), 0, 0, 1, WORK), 10, 0);
 }
 
 /* Slices of no bytes and no words. */
@@ -329,6 +362,8 @@ int main(void)
 {
     marked();
     others();
+    many_elements();
+    sizes();
     common_and_report();
     refusals();
     edges();

@@ -34,11 +34,20 @@ extern "C" {
         generators: *const u8, n: usize, elements: *const u8, m: usize, number: usize, promise: u64, work: *mut u64, words: usize,
         out: *mut u8, room: usize,
     ) -> Answer;
+    pub fn howhiruke_indexed_factorizations_of(
+        generators: *const u8, n: usize, elements: *const u8, m: usize, promise: u64, work: *mut u64, words: usize, out: *mut u8,
+        room: usize,
+    ) -> Answer;
     pub fn howhiruke_elements(
         roll: *const u8, n: usize, promise: u64, start: u32, count: u32, work: *mut u64, words: usize, out: *mut u8, room: usize,
     ) -> Answer;
     pub fn howhiruke_symplectic_form_of(
         roll: *const u8, n: usize, work: *mut u64, words: usize, out: *mut u8, room: usize,
+    ) -> Answer;
+    pub fn howhiruke_joined_sizes(left: *const u8, nl: usize, right: *const u8, nr: usize) -> Answer;
+    pub fn howhiruke_standard_bound(roll: *const u8, n: usize) -> Answer;
+    pub fn howhiruke_page_size(
+        roll: *const u8, n: usize, promise: u64, start: u32, count: u32, work: *mut u64, words: usize,
     ) -> Answer;
     pub fn howhiruke_partial_cmp(
         left: *const u8, nl: usize, right: *const u8, nr: usize, left_promise: u64, right_promise: u64, work: *mut u64, words: usize,

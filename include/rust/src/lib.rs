@@ -17,6 +17,8 @@ pub const LARGEST_ROLL: usize = 132_354;
 pub const LARGEST_PRODUCT: usize = 1036;
 /// Bytes of the indexes that [`indexed_factorization_of`] writes at most.
 pub const LARGEST_INDEXES: usize = 256;
+/// Bytes of the results that [`indexed_factorizations_of`] writes at most.
+pub const LARGEST_RESULTS: usize = 33_280;
 /// Bytes of the longest input of [`closing_report`].
 pub const LARGEST_INPUT: usize = 65_536;
 /// Bytes of the longest text of [`closing_report`].
@@ -192,6 +194,15 @@ pub enum Membership {
     NotMember,
 }
 
+/// The results for a roll of elements, which are in the output.
+#[derive(Clone, Copy, Debug, PartialEq, Eq)]
+pub struct Results {
+    /// How many there are: one for each element.
+    pub count: usize,
+    /// How many bytes they take.
+    pub bytes: usize,
+}
+
 /// A generator of a joined list.
 #[derive(Clone, Copy, Debug, PartialEq, Eq)]
 pub struct Entry {
@@ -201,6 +212,17 @@ pub struct Entry {
     pub xcount: usize,
     /// How many qubits are in its z set.
     pub zcount: usize,
+}
+
+/// The roll of two lists joined.
+#[derive(Clone, Copy, Debug, PartialEq, Eq)]
+pub struct JoinedSizes {
+    /// How many bytes it has.
+    pub bytes: usize,
+    /// How many Paulis.
+    pub paulis: usize,
+    /// How many distinct qubits.
+    pub qubits: usize,
 }
 
 /// What becomes of a matrix.
@@ -327,6 +349,32 @@ pub fn indexed_factorization_of(
     Ok(Membership::Member { count: a.second as usize, exponent: a.third as u8 })
 }
 
+/// What [`indexed_factorization_of`] tells of every Pauli of the roll `elements`, written in their order, one behind the other: byte 0 for no
+/// member; else byte 1, the exponent, how many indexes (2 bytes) and the indexes (2 bytes each), little-endian. Reasons 1 to 7, 9, 12; nothing is
+/// written at 12.
+pub fn indexed_factorizations_of(
+    generators: &[u8],
+    elements: &[u8],
+    promise: Promise,
+    work: &mut [u64],
+    out: &mut [u8],
+) -> Result<Results, Refusal> {
+    let a = told(unsafe {
+        calls::howhiruke_indexed_factorizations_of(
+            generators.as_ptr(),
+            generators.len(),
+            elements.as_ptr(),
+            elements.len(),
+            promise as u64,
+            work.as_mut_ptr(),
+            work.len(),
+            out.as_mut_ptr(),
+            out.len(),
+        )
+    })?;
+    Ok(Results { count: a.first as usize, bytes: a.second as usize })
+}
+
 /// Writes a page of the group's elements, `count` of them from number `start` on (0 means [`DEFAULT_PAGE`]), in the order of docs/REFERENCE.md;
 /// the roll's length. A start past the end gives an empty roll. Reasons 1 to 7, 9, 10, 12.
 pub fn elements(roll: &[u8], promise: Promise, start: u32, count: u32, work: &mut [u64], out: &mut [u8]) -> Result<usize, Refusal> {
@@ -350,6 +398,25 @@ pub fn elements(roll: &[u8], promise: Promise, start: u32, count: u32, work: &mu
 pub fn symplectic_form_of(roll: &[u8], work: &mut [u64], out: &mut [u8]) -> Result<usize, Refusal> {
     number(unsafe {
         calls::howhiruke_symplectic_form_of(roll.as_ptr(), roll.len(), work.as_mut_ptr(), work.len(), out.as_mut_ptr(), out.len())
+    })
+}
+
+/// The sizes of the roll that [`join`] writes of the same rolls. Reasons 1 to 7; 2 and 7 also joined.
+pub fn joined_sizes(left: &[u8], right: &[u8]) -> Result<JoinedSizes, Refusal> {
+    let a = told(unsafe { calls::howhiruke_joined_sizes(left.as_ptr(), left.len(), right.as_ptr(), right.len()) })?;
+    Ok(JoinedSizes { bytes: a.first as usize, paulis: a.second as usize, qubits: a.third as usize })
+}
+
+/// A length that the roll of [`standard_generators`] never passes: 2 + (10 + 8 s) n for n Paulis on s distinct qubits, n taken as 1 if it is
+/// 0. Reasons 1 to 7.
+pub fn standard_bound(roll: &[u8]) -> Result<usize, Refusal> {
+    number(unsafe { calls::howhiruke_standard_bound(roll.as_ptr(), roll.len()) })
+}
+
+/// How many elements the page has that [`elements`] writes with the same promise, start and count. Reasons 1 to 7, 9, 10.
+pub fn page_size(roll: &[u8], promise: Promise, start: u32, count: u32, work: &mut [u64]) -> Result<usize, Refusal> {
+    number(unsafe {
+        calls::howhiruke_page_size(roll.as_ptr(), roll.len(), promise as u64, start, count, work.as_mut_ptr(), work.len())
     })
 }
 

@@ -82,6 +82,38 @@ fn membership() {
 }
 
 #[test]
+fn many_elements() {
+    let (bell, none) = (roll(&[XX, ZZ]), Promise::None);
+    let elements = roll(&[(0, &[0, 1], &[0, 1]), X, I, (2, &[0, 1], &[0, 1])]);
+    let mut out = [165; 16];
+    let mut area = work();
+    let found = indexed_factorizations_of(&bell, &elements, none, &mut area, &mut out);
+    assert_eq!(found, Ok(Results { count: 4, bytes: 14 }));
+    assert_eq!(out, [1, 0, 2, 0, 0, 0, 1, 0, 0, 1, 0, 0, 0, 0, 165, 165]);
+    assert!(area.iter().all(|w| *w == 0));
+    let many = |elements: &[u8], words: usize, room: usize| {
+        indexed_factorizations_of(&bell, elements, none, &mut work()[..words], &mut [0; 16][..room])
+    };
+    assert_eq!(many(&roll(&[]), WORK_WORDS, 0), Ok(Results { count: 0, bytes: 0 }));
+    assert_eq!(many(&roll(&[]), WORK_WORDS - 1, 0), refused(Reason::Work, 0));
+    assert_eq!(many(&elements, WORK_WORDS, 13), refused(Reason::Output, 0));
+    assert_eq!(many(&elements[..1], WORK_WORDS, 16), refused(Reason::Length, 0));
+}
+
+#[test]
+fn sizes() {
+    let (none, bell, x1) = (Promise::None, roll(&[XX, ZZ]), roll(&[X1]));
+    assert_eq!(joined_sizes(&bell, &x1), Ok(JoinedSizes { bytes: 52, paulis: 3, qubits: 2 }));
+    assert_eq!(joined_sizes(&bell, &x1[..1]), refused(Reason::Length, 0));
+    assert_eq!(standard_bound(&roll(&[])), Ok(12));
+    assert_eq!(standard_bound(&bell), Ok(54));
+    assert_eq!(page_size(&bell, none, 1, 0, &mut work()), Ok(3));
+    assert_eq!(page_size(&bell, none, 4, 0, &mut work()), Ok(0));
+    assert_eq!(page_size(&bell, none, 1, 2, &mut work()), Ok(2));
+    assert_eq!(page_size(&bell, none, 1, 2, &mut work()[1..]), refused(Reason::Work, 0));
+}
+
+#[test]
 fn two_groups() {
     let none = Promise::None;
     let bell = roll(&[XX, ZZ]);
