@@ -13,7 +13,7 @@ use Rattle.binar.specs.declared.matrix_form.Solution.{Solution}
 use Rattle.binar.specs.declared.matrix_form.Solution.TheVariants.{Set, NoSet}
 use Rattle.binar.specs.Space.{RowSpace, SameSpace, ReducedForm, Independent, Dimension}
 
--- 1. T-as-A = R over GF(2), where T is a square matrix
+-- 1. T·A = R over GF(2), where T is a square matrix
 pub record TransformLaw (c : ℕ) (A : List ℕ) : Type 0 where
   pub count : length (echelon c A).rows ≡ length A
   pub square : (i : ℕ) → get_or (T (echelon c A)) i 0 < 2 ^ length A

@@ -5,7 +5,7 @@ use Rattle.binar.specs.declared.matrix_form.Formation.{Formation}
 use Rattle.binar.specs.declared.matrix_form.Formation.TheVariants.{Rank, Misfit}
 use Rattle.pauli.specs.Told.{Told, answer, refused}
 use Rattle.pauli.specs.JoinCalls.{Looked, Stretch}
-use Rattle.pauli_theory.specs.Group.{Promise, none, abelian, notAbelian}
+use Rattle.pauli_theory.specs.Group.{Promise, none, abelian, not_abelian}
 use Rattle.pauli_theory.specs.Order.{Order, equal, less, greater, no_order}
 use Rattle.pauli_group.specs.Calls.{Factored}
 use Rattle.factorizations.specs.Calls.{Totals}
@@ -75,5 +75,5 @@ code_form Misfit = code_values 0 0 0
 unfoldable pub promise_numbered : ℕ → Promise
 promise_numbered zero = none
 promise_numbered (suc zero) = abelian
-promise_numbered (suc (suc zero)) = notAbelian
+promise_numbered (suc (suc zero)) = not_abelian
 promise_numbered (suc (suc (suc n))) = none

@@ -22,7 +22,7 @@ pub record Printed (input : List ℕ) (r : Wrote) (out' : List ℕ) : Type 0 whe
   pub room : size ≤ length out'
   pub text : take size out' ≡ text_of input
 
--- with a work area of 4,096 words or more and an output of `mostText` bytes or more the call is never refused
+-- with a work area of 4,096 words or more and an output of `most_text` bytes or more the call is never refused
 unfoldable pub NeverRefused : Type 0
 NeverRefused =
     (input work out : List ℕ) (r : Wrote) (work' out' : List ℕ) → ReportCall input work out r work' out'

@@ -61,10 +61,10 @@ module _ {A B : Type 0} (f : A → B) where
   map_select s (x ∷ xs) = map_cons_if (s % 2) x (select (s / 2) xs) ∙ ap (cons_if (s % 2) (f x)) (map_select (s / 2) xs)
 
 -- below the length the default does not matter
-pub get_d_any : {A : Type 0} (l : List A) (i : ℕ) (d e : A) → i < length l → get_or l i d ≡ get_or l i e
-get_d_any [] i d e h = absurd (omega arith)
-get_d_any (a ∷ l) zero d e h = refl
-get_d_any (a ∷ l) (suc i) d e h = get_d_any l i d e (omega arith)
+pub get_or_any : {A : Type 0} (l : List A) (i : ℕ) (d e : A) → i < length l → get_or l i d ≡ get_or l i e
+get_or_any [] i d e h = absurd (omega arith)
+get_or_any (a ∷ l) zero d e h = refl
+get_or_any (a ∷ l) (suc i) d e h = get_or_any l i d e (omega arith)
 
 module _ (gs : List Pauli) where
   by_place : map (λ i. get_or gs i I) (up_to (length gs)) ≡ gs
@@ -73,7 +73,7 @@ module _ (gs : List Pauli) where
       let f : ℕ → Pauli = λ i. get_or gs i I in
       let size : length (map f (up_to n)) ≡ n = length-map (up_to n) f ∙ up_to_length n in
       ext_get_or (get_or gs 0 I) (map f (up_to n)) gs size λ i l.
-      get_or-map f (up_to n) i 0 ∙ ap f (up_to_at n i (omega (arith, size))) ∙ get_d_any gs i I (get_or gs 0 I) (omega (arith, size))
+      get_or-map f (up_to n) i 0 ∙ ap f (up_to_at n i (omega (arith, size))) ∙ get_or_any gs i I (get_or gs 0 I) (omega (arith, size))
 
   -- the generators that an index set names
   pub named_select : (s : ℕ) → s < 2 ^ length gs → map (λ i. get_or gs i I) (members s) ≡ select s gs

@@ -30,7 +30,7 @@ use Rattle.factorizations.specs.Records.{result_bytes, results_bytes}
 use Rattle.factorizations.proofs.records.RecordLaws.{other_length, member_length}
 use Rattle.demand_three.specs.DemandThree.{Generators, list, Element, pauli, indexes_at, Gives}
 use Rattle.demand_three.specs.ManyElements.{size_in, results_up_to, results_in, together, factors_in, indexes_in, Answered, bytes, result, Single, result_of, ManyElements}
-use Rattle.demand_three.proofs.DemandLists.{get_d_any}
+use Rattle.demand_three.proofs.DemandLists.{get_or_any}
 use Rattle.demand_three.proofs.DemandMember.{result as factors, index_bytes_lem, left_result, weight_few, question_is, told_of, passes, law, gives, given}
 
 -- ---- results read from bytes alone
@@ -223,7 +223,7 @@ module _ (promise : Promise) (b e : List ℕ) (c : Answered promise b e) where
         let os = map F (paulis held.es) in
         let within : n < length (map result_bytes os) = omega (arith, as_many, ap length results_are) in
         ap (λ (rs : List (List ℕ)). get_or rs n []) results_are
-        ∙ get_d_any (map result_bytes os) n [] (result_bytes (F (pauli_of nothing))) within
+        ∙ get_or_any (map result_bytes os) n [] (result_bytes (F (pauli_of nothing))) within
         ∙ get_or-map result_bytes os n (F (pauli_of nothing))
         ∙ ap result_bytes (get_or-map F (paulis held.es) n (pauli_of nothing))
         ∙ ap (λ (p : Pauli). result_bytes (F p)) (get_or-map pauli_of held.es n nothing)

@@ -7,7 +7,7 @@ use lib.ListN.{get_or}
 use Rattle.binar.proofs.Lists.{all_map, all_get, all_by}
 use Rattle.pauli.specs.Support.{All}
 use Rattle.pauli.specs.Pauli.{Pauli, I, anticommute}
-use Rattle.pauli_theory.specs.Group.{Generated, Abelian, NotAbelian, Promise, none, abelian, notAbelian, Honest}
+use Rattle.pauli_theory.specs.Group.{Generated, Abelian, NotAbelian, Promise, none, abelian, not_abelian, Honest}
 use Rattle.pauli_theory.specs.Standard.{standard, some_anticommute, nonabelian}
 use Rattle.pauli_theory.proofs.Group.{all_inside}
 use Rattle.pauli_theory.proofs.Tests.{Commuting, anticommute_none, none_anticommute, some_anticommute_lt}
@@ -48,4 +48,4 @@ pub promise_nonabelian : (promise : Promise) (gs : List Pauli) → Honest promis
 unfolding Honest nonabelian
 promise_nonabelian none gs h = refl
 promise_nonabelian abelian gs h = sym (abelian_only gs h)
-promise_nonabelian notAbelian gs h = sym (not_abelian_one gs h)
+promise_nonabelian not_abelian gs h = sym (not_abelian_one gs h)

@@ -116,7 +116,7 @@ module _ (c : ℕ) (A : List ℕ) where
   pivot_rows_free = rw pivot_rows_lem (space_law c A).independent
 
   module _ (narrow : All (λ v. v < 2 ^ c) A) where
-    -- T-as-A = R, row by row
+    -- T·A = R, row by row
     pub rows_made : All (λ q. row_sum q.t A ≡ q.r) (echelon c A).rows
     unfolding T R
     rows_made =

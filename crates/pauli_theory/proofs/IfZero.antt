@@ -1,4 +1,4 @@
--- The two cases of `ifZero`.
+-- The two cases of `if_zero`.
 use mathlib.Core.Path.{◌≡◌, refl}
 use mathlib.Core.Option.{Option, some, none}
 use Prim.Native.Nat.{ℕ, zero, suc, ◌<◌}

@@ -154,10 +154,10 @@ step_attained two = (2, omega arith, refl, refl)
 step_attained four = (0, omega arith, refl, refl)
 
 -- ---- the law
-get_d_over : (f : Pauli → Pauli) (ps : List Pauli) (i : ℕ) (d e : Pauli) → i < length ps → get_or (map f ps) i d ≡ f (get_or ps i e)
-get_d_over f [] i d e l = absurd (omega arith)
-get_d_over f (p ∷ ps) zero d e l = refl
-get_d_over f (p ∷ ps) (suc i) d e l = get_d_over f ps i d e (omega arith)
+get_or_over : (f : Pauli → Pauli) (ps : List Pauli) (i : ℕ) (d e : Pauli) → i < length ps → get_or (map f ps) i d ≡ f (get_or ps i e)
+get_or_over f [] i d e l = absurd (omega arith)
+get_or_over f (p ∷ ps) zero d e l = refl
+get_or_over f (p ∷ ps) (suc i) d e l = get_or_over f ps i d e (omega arith)
 
 module _ (promise : Promise) (gs hs : List Pauli) (honest : Honest promise hs) where
   abbrev m : ℕ
@@ -234,7 +234,7 @@ module _ (promise : Promise) (gs hs : List Pauli) (honest : Honest promise hs) w
   pub modulo_law : ModuloLaw promise gs hs
   modulo_law = record {
     count = ap length modulo_is ∙ length-map (standard gs) returned;
-    cosets = λ i l. rw (modulo_is, get_d_over returned (standard gs) i I I l) (returned_coset (get_or (standard gs) i I));
+    cosets = λ i l. rw (modulo_is, get_or_over returned (standard gs) i I I l) (returned_coset (get_or (standard gs) i I));
     clear = rw modulo_is (all_over _ returned (standard gs) (all_of returned_clear (standard gs)));
     generates = record { there = modulo_there; back = modulo_back };
     on_support = all_map (generated_on (gs ++ hs)) (modulo promise gs hs) modulo_in;

@@ -269,11 +269,11 @@ module _ (n : ℕ) where
   unfolding times
   times_places p q a b = (xor_lt n p.x q.x a.0 b.0, xor_lt n p.z q.z a.1 b.1)
 
-  pub multiplied_places_lem : (isX : Bool) (j : ℕ) (other g : Pauli) → PlacedBelow n other → PlacedBelow n g
-      → PlacedBelow n (multiplied_at isX j other g)
+  pub multiplied_places_lem : (is_x : Bool) (j : ℕ) (other g : Pauli) → PlacedBelow n other → PlacedBelow n g
+      → PlacedBelow n (multiplied_at is_x j other g)
   unfolding multiplied_at
-  multiplied_places_lem isX j other g a b =
-      if_bit_case (PlacedBelow n) (cond isX (bit g.x j) (bit g.z j)) (λ _. b) (λ _. times_places g other b a)
+  multiplied_places_lem is_x j other g a b =
+      if_bit_case (PlacedBelow n) (cond is_x (bit g.x j) (bit g.z j)) (λ _. b) (λ _. times_places g other b a)
 
   pub over_places_lem : (own qs : List ℕ) (c : ℕ) (other : Pauli) (gs : List Pauli) → PlacedBelow n other → OnPlaces n gs
       → OnPlaces n (map (multiplied_over own qs c other) gs)

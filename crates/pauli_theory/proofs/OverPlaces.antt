@@ -26,7 +26,7 @@ use Rattle.pauli.proofs.condense.MoreBits.{ext_below}
 use Rattle.pauli.proofs.support.SupportLaws.{rising_ext}
 use Rattle.pauli.proofs.condense.Sets.{members_rise, members_has, members_only}
 use Rattle.pauli.proofs.condense.Places.{condense_bit, condense_lt, condense_or}
-use Rattle.pauli_theory.specs.Group.{Promise, none, abelian, notAbelian}
+use Rattle.pauli_theory.specs.Group.{Promise, none, abelian, not_abelian}
 use Rattle.pauli_theory.specs.Standard.{used_by, support_of, form_of, rank, if_zero, modulus_of, some_order_four, some_anticommute, exponent_mod, standard, nonabelian, some_imaginary, some_minus, step_of, phase_step, log2_size, stabilizer}
 use Rattle.pauli_theory.specs.Membership.{Factorization, outside, exponent_left, with_phase, factorization_of}
 use Rattle.pauli_theory.proofs.IfZero.{if_zero_zero}
@@ -239,7 +239,7 @@ module _ (gs : List Pauli) where
   unfolding nonabelian
   places_nonabelian none = by_standard some_anticommute condensed_some_anticommute
   places_nonabelian abelian = refl
-  places_nonabelian notAbelian = refl
+  places_nonabelian not_abelian = refl
 
   places_order_four : some_order_four (standard (placed gs)) ≡ some_order_four (standard gs)
   places_order_four = by_standard some_order_four condensed_some_order_four

@@ -56,20 +56,20 @@ module _ (promise : Promise) (gs : List Pauli) (honest : Honest promise gs) wher
       ⊎_elim (λ a. ⊎_elim (λ b. inl (a, b)) (λ w. inr (suc w.0, omega (arith, w.1), w.2)) (first_outside hs))
       (λ n. inr (0, omega arith, n)) (member h)
 
-pub quotient_law : (promise divisorPromise : Promise) (gs hs : List Pauli) → Honest promise gs → Honest divisorPromise hs
-    → QuotientLaw promise divisorPromise gs hs
+pub quotient_law : (promise divisor_promise : Promise) (gs hs : List Pauli) → Honest promise gs → Honest divisor_promise hs
+    → QuotientLaw promise divisor_promise gs hs
 unfolding try_quotient
-quotient_law promise divisorPromise gs hs hp hd =
-    let o = partial_cmp divisorPromise promise hs gs in
-    let c = compared divisorPromise promise hs gs hd hp in
-    let ms = modulo divisorPromise gs hs in
+quotient_law promise divisor_promise gs hs hp hd =
+    let o = partial_cmp divisor_promise promise hs gs in
+    let c = compared divisor_promise promise hs gs hd hp in
+    let ms = modulo divisor_promise gs hs in
     record {
       none_right = below_none ms gs hs o c;
       none_only = not_below ms gs hs o c;
       outside = λ e. ⊎_elim (λ a. absurd (below_none ms gs hs o c e (inside_by hs gs a))) (λ w. w) (first_outside promise gs hp hs);
       some_only = below_some ms gs hs o c;
       generates = λ f.
-          let M = (modulo_law divisorPromise gs hs hd).generates in
+          let M = (modulo_law divisor_promise gs hs hd).generates in
           let J = joined_left gs hs f in
           record {
             there = inside_join (ms ++ hs) (gs ++ hs) gs M.there J.back;

@@ -1,4 +1,4 @@
--- What the tests of a list say: `someOrderFour`, `someAnticommute`, `someImaginary` and `someMinus`.
+-- What the tests of a list say: `some_order_four`, `some_anticommute`, `some_imaginary` and `some_minus`.
 use mathlib.Core.Path.{◌≡◌, refl, sym, ap, ap₂, ◌∙◌}
 use mathlib.Core.List.{List, [], ◌∷◌, ◌++◌, map}
 use Prim.Native.Nat.{ℕ, zero, suc, ◌/◌, ◌%◌, ◌<◌, max}

@@ -34,10 +34,10 @@ pub record NotAbelian (gs : List Pauli) : Type 0 where
 
 -- "A promise (none, abelian, not abelian)"
 pub data Promise : Type 0 where
-  none abelian notAbelian : Promise
+  none abelian not_abelian : Promise
 
 -- a promise that is absent, or true of the list
 unfoldable pub Honest : Promise → List Pauli → Type 0
 Honest none gs = Unit {0}
 Honest abelian gs = Abelian gs
-Honest notAbelian gs = NotAbelian gs
+Honest not_abelian gs = NotAbelian gs

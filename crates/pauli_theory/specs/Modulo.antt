@@ -25,7 +25,7 @@ multiplied_by_all support (other ∷ others) [] gs = gs
 multiplied_by_all support (other ∷ others) (pivot ∷ pivots) gs = multiplied_by_all support others pivots (map (multiplied support pivot other) gs)
 
 -- `modulo` of the list gs by the other, hs, whose promise is given. The exponents at the end go mod the least of 4 - e over the
--- other's phases e: these are the multiples, below 4, of `phaseStep`, so that it is `phaseStep`
+-- other's phases e: these are the multiples, below 4, of `phase_step`, so that it is `phase_step`
 unfoldable pub modulo : Promise → List Pauli → List Pauli → List Pauli
 modulo promise gs hs =
     let modulus = phase_step promise hs in
@@ -40,4 +40,4 @@ if_below no_order x = Option.none
 
 -- `try_quotient` of the list gs by the divisor hs
 unfoldable pub try_quotient : Promise → Promise → List Pauli → List Pauli → Option (List Pauli)
-try_quotient promise divisorPromise gs hs = if_below (partial_cmp divisorPromise promise hs gs) (modulo divisorPromise gs hs)
+try_quotient promise divisor_promise gs hs = if_below (partial_cmp divisor_promise promise hs gs) (modulo divisor_promise gs hs)

@@ -4,7 +4,7 @@ use Rattle.std.specs.Int.Bits.{bit_or}
 use Rattle.binar.specs.Echelon.{Row, EchelonForm, echelon, rank as echelon_rank}
 use Rattle.pauli.specs.Pauli.{Pauli, phase, anticommute, order_four, indexed_product}
 use Rattle.pauli.specs.Sets.{members, row_of, pauli_of_row}
-use Rattle.pauli_theory.specs.Group.{Promise, none, abelian, notAbelian}
+use Rattle.pauli_theory.specs.Group.{Promise, none, abelian, not_abelian}
 
 -- the qubits that a list uses, as a set and as the rising list, its support
 unfoldable pub used_by : List Pauli → ℕ
@@ -89,7 +89,7 @@ standard gs =
 unfoldable pub nonabelian : Promise → List Pauli → ℕ
 nonabelian none gs = some_anticommute (standard gs)
 nonabelian abelian gs = 0
-nonabelian notAbelian gs = 1
+nonabelian not_abelian gs = 1
 
 -- e if p has weight 0, else 0
 unfoldable pub bare : Pauli → ℕ → ℕ

@@ -134,13 +134,13 @@ pub record ModuloLaw (promise : Promise) (gs hs : List Pauli) : Type 0 where
 
 -- 11. Quotient, with absent or true promises: none exactly when the divisor's group is not inside, which a generator of it shows;
 -- else modulo
-pub record QuotientLaw (promise divisorPromise : Promise) (gs hs : List Pauli) : Type 0 where
-  pub none_right : try_quotient promise divisorPromise gs hs ≡ none → Inside hs gs → ⊥
-  pub none_only : (Inside hs gs → ⊥) → try_quotient promise divisorPromise gs hs ≡ none
-  pub outside : try_quotient promise divisorPromise gs hs ≡ none → (i : ℕ) × (i < length hs) × (Generated gs (get_or hs i I) → ⊥)
-  pub some_only : Inside hs gs → try_quotient promise divisorPromise gs hs ≡ some (modulo divisorPromise gs hs)
+pub record QuotientLaw (promise divisor_promise : Promise) (gs hs : List Pauli) : Type 0 where
+  pub none_right : try_quotient promise divisor_promise gs hs ≡ none → Inside hs gs → ⊥
+  pub none_only : (Inside hs gs → ⊥) → try_quotient promise divisor_promise gs hs ≡ none
+  pub outside : try_quotient promise divisor_promise gs hs ≡ none → (i : ℕ) × (i < length hs) × (Generated gs (get_or hs i I) → ⊥)
+  pub some_only : Inside hs gs → try_quotient promise divisor_promise gs hs ≡ some (modulo divisor_promise gs hs)
   -- the quotient and the divisor generate the list's group
-  pub generates : Inside hs gs → SameGroup (modulo divisorPromise gs hs ++ hs) gs
+  pub generates : Inside hs gs → SameGroup (modulo divisor_promise gs hs ++ hs) gs
 
 -- 12. Symplectic pairing: "pairs anticommute, all else commutes, and the same group is generated"
 pub record SymplecticLaw (gs : List Pauli) : Type 0 where
@@ -213,8 +213,8 @@ pub record GroupLaws : Type 0 where
   pub promise_law : (promise : Promise) (gs : List Pauli) → Honest promise gs → PromiseLaw promise gs
   pub promises_law : (left right : Promise) (gs hs : List Pauli) → Honest left gs → Honest right hs → PromisesLaw left right gs hs
   pub modulo_law : (promise : Promise) (gs hs : List Pauli) → Honest promise hs → ModuloLaw promise gs hs
-  pub quotient_law : (promise divisorPromise : Promise) (gs hs : List Pauli) → Honest promise gs → Honest divisorPromise hs
-      → QuotientLaw promise divisorPromise gs hs
+  pub quotient_law : (promise divisor_promise : Promise) (gs hs : List Pauli) → Honest promise gs → Honest divisor_promise hs
+      → QuotientLaw promise divisor_promise gs hs
   pub symplectic_law : (gs : List Pauli) → SymplecticLaw gs
   pub common_rows_law : (c : ℕ) (A B : List ℕ) → All (λ v. v < 2 ^ c) A → All (λ v. v < 2 ^ c) B → CommonRowsLaw c A B
   pub common_basis_law : (gs hs : List Pauli) → CommonBasisLaw gs hs

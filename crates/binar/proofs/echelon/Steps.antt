@@ -17,7 +17,7 @@ use Rattle.binar.proofs.Lists.{All, all_of, all_zip, all_join, all_left, all_rig
 use Rattle.binar.proofs.echelon.Span.{if_bit_case}
 
 -- ---- the search
--- what `inColumn` gives
+-- what `in_column` gives
 data InColumn (c i : ℕ) (vs : List ℕ) (later : Found) : Found → Type 0 where
   first_in : (row : ℕ) (pre : List ℕ) (p : ℕ) (post : List ℕ) → vs ≡ pre ++ p ∷ post → row ≡ i + length pre → bit p c ≡ 1
       → InColumn c i vs later (At (record { row = row; col = c }))

@@ -1,4 +1,4 @@
--- R and T, and what the identity beside A comes to: T-as-A = R, and the row spaces of A and of the identity are kept.
+-- R and T, and what the identity beside A comes to: T·A = R, and the row spaces of A and of the identity are kept.
 use mathlib.Core.Path.{◌≡◌, refl, sym, ap, ap₂, ◌∙◌}
 use mathlib.Core.List.{List, [], ◌∷◌, map, map-map}
 use Prim.Native.Nat.{ℕ, zero, suc, ◌+◌, ◌/◌, ◌%◌, ◌^◌, ◌<◌}

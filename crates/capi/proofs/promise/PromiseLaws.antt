@@ -1,14 +1,14 @@
 -- The promise of each number.
 use mathlib.Core.Path.{◌≡◌, refl}
 use Prim.Native.Nat.{ℕ, zero, suc}
-use Rattle.pauli_theory.specs.Group.{none, abelian, notAbelian}
+use Rattle.pauli_theory.specs.Group.{none, abelian, not_abelian}
 use Rattle.capi.specs.Code.{promise_numbered}
 
 pub numbered_abelian : (n : ℕ) → n ≡ 1 → promise_numbered n ≡ abelian
 unfolding promise_numbered
 numbered_abelian n e = rw e
 
-pub numbered_not_abelian : (n : ℕ) → n ≡ 2 → promise_numbered n ≡ notAbelian
+pub numbered_not_abelian : (n : ℕ) → n ≡ 2 → promise_numbered n ≡ not_abelian
 unfolding promise_numbered
 numbered_not_abelian n e = rw e
 

@@ -1,4 +1,4 @@
--- The laws of specs/PauliTheorems.antt that no other module puts together; `place-law` and `condense-law` are in Places, `row-law` in Rows.
+-- The laws of specs/PauliTheorems.antt that no other module puts together; `place_law` and `condense_law` are in Places, `row_law` in Rows.
 use Rattle.std.proofs.Common.{List, refl}
 use mathlib.Core.List.Memᴰ
 use mathlib.Core.List.{Memᴰ as Mem}

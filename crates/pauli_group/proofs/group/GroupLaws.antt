@@ -16,7 +16,7 @@ use Rattle.pauli.specs.Writing.{OnPlaces}
 use Rattle.pauli.proofs.joined.JoinLaws.{accepted, accepted_joined}
 use Rattle.pauli.proofs.join.ProductLaws.{count_accepted, readable}
 use Rattle.pauli.proofs.roll.RollLaws.{answer_parts}
-use Rattle.pauli_theory.specs.Group.{Promise, none, abelian, notAbelian}
+use Rattle.pauli_theory.specs.Group.{Promise, none, abelian, not_abelian}
 use Rattle.pauli_theory.specs.Standard.{support_of, form_of, standard, rank, nonabelian, phase_step, stabilizer, step_of}
 use Rattle.pauli_theory.proofs.Theorems.{group_laws}
 use Rattle.pauli_theory.proofs.ByProducts.{standard_by_products}
@@ -114,7 +114,7 @@ clash_standard : (promise : Promise) (gs : List Pauli) → clash_of promise (sta
 unfolding clash_of nonabelian
 clash_standard none gs = refl
 clash_standard abelian gs = refl
-clash_standard notAbelian gs = refl
+clash_standard not_abelian gs = refl
 
 -- rank, step, clash and stabilizer' are those of the group of gs
 pub record Described (promise : Promise) (gs : List Pauli) (rank' step clash stabilizer' : ℕ) : Type 0 where

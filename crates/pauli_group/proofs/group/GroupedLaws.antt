@@ -12,7 +12,7 @@ use Rattle.pauli.specs.Told.{answer}
 use Rattle.pauli.specs.Writing.{OnPlaces}
 use Rattle.pauli.proofs.joined.JoinLaws.{accepted, accepted_few}
 use Rattle.pauli.proofs.roll.RollLaws.{answer_parts}
-use Rattle.pauli_theory.specs.Group.{Promise, none, abelian, notAbelian}
+use Rattle.pauli_theory.specs.Group.{Promise, none, abelian, not_abelian}
 use Rattle.pauli_theory.specs.Standard.{support_of, standard, rank, some_order_four, some_minus, nonabelian, phase_step, stabilizer}
 use Rattle.pauli_theory.proofs.Phases.{phases_cases}
 use Rattle.pauli_theory.proofs.ByProducts.{rank_le}
@@ -71,7 +71,7 @@ pub nonabelian_le : (promise : Promise) (gs : List Pauli) → nonabelian promise
 unfolding nonabelian
 nonabelian_le none gs = omega (arith, search_lt two_anticommute (standard gs))
 nonabelian_le abelian gs = omega arith
-nonabelian_le notAbelian gs = omega arith
+nonabelian_le not_abelian gs = omega arith
 
 -- ---- the list of an accepted roll
 

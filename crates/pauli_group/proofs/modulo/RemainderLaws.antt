@@ -26,38 +26,38 @@ use Rattle.pauli_group.proofs.moved.MoveLaws.{loaded_movable, moved_value}
 
 -- the bit that decides
 abbrev pub one_at : Bool → ℕ → Pauli → ℕ
-one_at isX place g = cond isX (bit g.x place) (bit g.z place)
+one_at is_x place g = cond is_x (bit g.x place) (bit g.z place)
 
-pub one_x : (isX : Bool) (place : ℕ) (g : Pauli) (s b : ℕ) → isX ≡ true → s ≡ g.x → b ≡ bit s place → b ≡ one_at isX place g
-one_x isX place g s b t e h = h ∙ rw (t, e)
+pub one_x : (is_x : Bool) (place : ℕ) (g : Pauli) (s b : ℕ) → is_x ≡ true → s ≡ g.x → b ≡ bit s place → b ≡ one_at is_x place g
+one_x is_x place g s b t e h = h ∙ rw (t, e)
 
-pub one_z : (isX : Bool) (place : ℕ) (g : Pauli) (s b : ℕ) → isX ≡ false → s ≡ g.z → b ≡ bit s place → b ≡ one_at isX place g
-one_z isX place g s b t e h = h ∙ rw (t, e)
+pub one_z : (is_x : Bool) (place : ℕ) (g : Pauli) (s b : ℕ) → is_x ≡ false → s ≡ g.z → b ≡ bit s place → b ≡ one_at is_x place g
+one_z is_x place g s b t e h = h ∙ rw (t, e)
 
-one_lt : (isX : Bool) (place : ℕ) (g : Pauli) → one_at isX place g < 2
+one_lt : (is_x : Bool) (place : ℕ) (g : Pauli) → one_at is_x place g < 2
 one_lt true place g = bit_lt g.x place
 one_lt false place g = bit_lt g.z place
 
-module _ (isX : Bool) (place : ℕ) (other g : Pauli) where
-  pub multiplied_hit : (b : ℕ) → b ≡ one_at isX place g → b ≡ 1 → (r : Pauli) → normal r ≡ times g other
-      → normal r ≡ normal (multiplied_at isX place other g)
+module _ (is_x : Bool) (place : ℕ) (other g : Pauli) where
+  pub multiplied_hit : (b : ℕ) → b ≡ one_at is_x place g → b ≡ 1 → (r : Pauli) → normal r ≡ times g other
+      → normal r ≡ normal (multiplied_at is_x place other g)
   unfolding multiplied_at if_bit
-  multiplied_hit b e h r t = let o : one_at isX place g ≡ 1 = sym e ∙ h in rw o (t ∙ sym (normal_times g other))
+  multiplied_hit b e h r t = let o : one_at is_x place g ≡ 1 = sym e ∙ h in rw o (t ∙ sym (normal_times g other))
 
-  pub multiplied_miss : (b : ℕ) → b ≡ one_at isX place g → (b ≡ 1 → ⊥) → normal g ≡ normal (multiplied_at isX place other g)
+  pub multiplied_miss : (b : ℕ) → b ≡ one_at is_x place g → (b ≡ 1 → ⊥) → normal g ≡ normal (multiplied_at is_x place other g)
   unfolding multiplied_at if_bit
   multiplied_miss b e h =
-      let o : one_at isX place g ≡ 0 = zero_bit (one_at isX place g) (one_lt isX place g) (λ q. h (e ∙ q)) in rw o
+      let o : one_at is_x place g ≡ 0 = zero_bit (one_at is_x place g) (one_lt is_x place g) (λ q. h (e ∙ q)) in rw o
 
 -- the product's value goes by the values of its factors
-pub multiplied_value : (isX : Bool) (place : ℕ) (other g h : Pauli) → normal g ≡ normal h
-    → normal (multiplied_at isX place other g) ≡ normal (multiplied_at isX place other h)
+pub multiplied_value : (is_x : Bool) (place : ℕ) (other g h : Pauli) → normal g ≡ normal h
+    → normal (multiplied_at is_x place other g) ≡ normal (multiplied_at is_x place other h)
 unfolding multiplied_at if_bit normal
-multiplied_value isX place other g h e =
+multiplied_value is_x place other g h e =
     let x : g.x ≡ h.x = same_x e in
     let z : g.z ≡ h.z = same_z e in
-    let b : one_at isX place g ≡ one_at isX place h = rw (x, z) in
-    rw b (go (one_at isX place h))
+    let b : one_at is_x place g ≡ one_at is_x place h = rw (x, z) in
+    rw b (go (one_at is_x place h))
   where
     same_x : normal g ≡ normal h → g.x ≡ h.x
     same_x f = ap (λ (r : Pauli). r.x) f
@@ -70,10 +70,10 @@ multiplied_value isX place other g h e =
     go (suc k) = ap normal (sym (times_normal_l g other) ∙ ap (λ (r : Pauli). times r other) e ∙ times_normal_l h other)
 
 -- of a Pauli whose exponent is a value, by a factor that is the same by value
-module _ (isX : Bool) (place : ℕ) (other other' g : Pauli) (e : normal other ≡ normal other') (low : g.e < 4) where
-  pub multiplied_plain : normal (multiplied_at isX place other g) ≡ multiplied_at isX place other' g
+module _ (is_x : Bool) (place : ℕ) (other other' g : Pauli) (e : normal other ≡ normal other') (low : g.e < 4) where
+  pub multiplied_plain : normal (multiplied_at is_x place other g) ≡ multiplied_at is_x place other' g
   unfolding multiplied_at if_bit
-  multiplied_plain = go (one_at isX place g)
+  multiplied_plain = go (one_at is_x place g)
     where
       go : (k : ℕ) → normal (if_bit k (times g other) g) ≡ if_bit k (times g other') g
       go zero = normal_lt g low
@@ -143,8 +143,8 @@ module _ (own qs x : List ℕ) (n rank total m : ℕ) where
               loaded_movable other (pauli_in x (standard_at + 5 * k)) other_is own qs (length own)
               (on_places_at (length own) x standard_at total k o.on (omega (arith, o.fits))) (other_movable o _, other_movable o _)
 
-          module _ (moved : Held) (made : held moved ≡ moved_pauli own qs (held other)) (place : ℕ) (isX : Bool)
-              (test : isX ≡ ltb pivot (length own)) (at : place ≡ place_of qs (get_or own (pivot % length own) 0)) where
+          module _ (moved : Held) (made : held moved ≡ moved_pauli own qs (held other)) (place : ℕ) (is_x : Bool)
+              (test : is_x ≡ ltb pivot (length own)) (at : place ≡ place_of qs (get_or own (pivot % length own) 0)) where
             pub place_low : length qs ≤ 128 → place < 128
             unfolding pivot_place
             place_low few = let l : place < length qs = rw at pivot_in_place in omega (arith, l)
@@ -152,21 +152,21 @@ module _ (own qs x : List ℕ) (n rank total m : ℕ) where
                 pivot_in_place : place_of qs (get_or own (pivot % length own) 0) < length qs
                 pivot_in_place = pivot_place_lem own qs o.inside pivot pivot_low
 
-            placed : (p : Pauli) → multiplied_at isX place (moved_pauli own qs (pauli_in x (standard_at + 5 * k))) p
+            placed : (p : Pauli) → multiplied_at is_x place (moved_pauli own qs (pauli_in x (standard_at + 5 * k))) p
                 ≡ multiplied_over own qs (get_or cs k 0) (get_or hs k I) p
             unfolding multiplied_over pivot_place
             placed p =
                 rw (← pivot_is, list_map_at (moved_pauli own qs) x standard_at total k I (omega (arith, o.fits)), test, at) refl
 
-            step_map : map (λ p. normal (multiplied_at isX place (held moved) p)) (list_in w further_at m)
+            step_map : map (λ p. normal (multiplied_at is_x place (held moved) p)) (list_in w further_at m)
                 ≡ map (multiplied_over own qs (get_or cs k 0) (get_or hs k I)) (list_in w further_at m)
             step_map =
                 let q = pauli_in x (standard_at + 5 * k) in
                 let value : normal (held moved) ≡ normal (moved_pauli own qs q) = moved_value other q other_is own qs moved made in
-                map_same (λ p. normal (multiplied_at isX place (held moved) p)) (multiplied_over own qs (get_or cs k 0) (get_or hs k I)) (list_in w further_at m)
-                (all_map (λ p low. multiplied_plain isX place (held moved) (moved_pauli own qs q) p value low ∙ placed p) (list_in w further_at m) u.low)
+                map_same (λ p. normal (multiplied_at is_x place (held moved) p)) (multiplied_over own qs (get_or cs k 0) (get_or hs k I)) (list_in w further_at m)
+                (all_map (λ p low. multiplied_plain is_x place (held moved) (moved_pauli own qs q) p value low ∙ placed p) (list_in w further_at m) u.low)
 
-            pub multiplied_step : (v : List ℕ) → list_in v further_at m ≡ map (λ p. normal (multiplied_at isX place (held moved) p)) (list_in w further_at m)
+            pub multiplied_step : (v : List ℕ) → list_in v further_at m ≡ map (λ p. normal (multiplied_at is_x place (held moved) p)) (list_in w further_at m)
                 → Outside further_at (5 * m) w v → MultipliedUpTo (k + 1) v
             multiplied_step v list rest = record {
               within = omega arith;
@@ -174,8 +174,8 @@ module _ (own qs x : List ℕ) (n rank total m : ℕ) where
               same =
                   rw (add-one k, list, step_map)
                   (sym (over_next own qs hs cs k (omega (arith, hs_length, o.fits)) (omega (arith, cs_length)) (list_in w further_at m)) ∙ u.same);
-              low = rw list (all_over (λ p. p.e < 4) (λ p. normal (multiplied_at isX place (held moved) p)) (list_in w further_at m)
-                  (all_map (λ p _. normal_low (multiplied_at isX place (held moved) p)) (list_in w further_at m) u.low));
+              low = rw list (all_over (λ p. p.e < 4) (λ p. normal (multiplied_at is_x place (held moved) p)) (list_in w further_at m)
+                  (all_map (λ p _. normal_low (multiplied_at is_x place (held moved) p)) (list_in w further_at m) u.low));
             }
 
 -- the same where own is the first numbers of a slice, as many as there are places

@@ -8,7 +8,7 @@ use Rattle.pauli.specs.Roll.{Sparse, support, count_of}
 use Rattle.pauli.specs.Sets.{pauli_of}
 use Rattle.pauli.specs.Support.{most_qubits}
 use Rattle.pauli.specs.Told.{answer}
-use Rattle.pauli_theory.specs.Group.{Promise, none, abelian, notAbelian}
+use Rattle.pauli_theory.specs.Group.{Promise, none, abelian, not_abelian}
 use Rattle.pauli_theory.specs.Standard.{if_zero, modulus_of, exponent_mod, some_order_four, some_anticommute, appended, some_minus}
 use Rattle.pauli_group.specs.declared.answers.Phases.{Phases}
 use Rattle.pauli_group.specs.declared.answers.Phases.TheVariants.{Zero, ZeroTwo, All}
@@ -55,7 +55,7 @@ from_products r qs =
 unfoldable pub clash_of : Promise → List Pauli → ℕ
 clash_of none ps = some_anticommute ps
 clash_of abelian ps = 0
-clash_of notAbelian ps = 1
+clash_of not_abelian ps = 1
 
 -- the step between the phases that an answer has
 abbrev pub step_told : Phases → ℕ

@@ -18,13 +18,13 @@ pivot_place own qs pivot = place_of qs (get_or own (pivot % length own) 0)
 
 -- `multiplied` by a place: true for its X, false for its Z
 unfoldable pub multiplied_at : Bool → ℕ → Pauli → Pauli → Pauli
-multiplied_at isX place other g = if_bit (cond isX (bit g.x place) (bit g.z place)) (times g other) g
+multiplied_at is_x place other g = if_bit (cond is_x (bit g.x place) (bit g.z place)) (times g other) g
 
 -- the same of a pivot's column over the first list, where the Paulis are over the places of the second
 unfoldable pub multiplied_over : List ℕ → List ℕ → ℕ → Pauli → Pauli → Pauli
 multiplied_over own qs pivot other g = multiplied_at (ltb pivot (length own)) (pivot_place own qs pivot) other g
 
--- `multipliedByAll` over places
+-- `multiplied_by_all` over places
 unfoldable pub multiplied_by_all_over : List ℕ → List ℕ → List Pauli → List ℕ → List Pauli → List Pauli
 multiplied_by_all_over own qs [] pivots gs = gs
 multiplied_by_all_over own qs (other ∷ others) [] gs = gs
