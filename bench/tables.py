@@ -9,6 +9,7 @@ import datetime
 import os
 import re
 import statistics
+import subprocess
 import sys
 from pathlib import Path
 
@@ -57,7 +58,8 @@ def size(row):
 def measured(_rows):
     model = re.search(r"model name\s*: (.*)", Path("/proc/cpuinfo").read_text())
     machine = model.group(1) if model else "an unnamed processor"
-    return f"Measured on {datetime.date.today()} on {machine}, {os.cpu_count()} cores, Linux."
+    kit = subprocess.run(["rt", "version"], capture_output=True, text=True).stdout.split()[0]
+    return f"Measured on {datetime.date.today()} on {machine}, {os.cpu_count()} cores, Linux, with {kit}."
 
 
 def bars(rows):
