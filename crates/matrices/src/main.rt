@@ -13,7 +13,7 @@ use binar::matrix_form::{Formation, Solution, echelon_form, transpose_solve};
 use binar::row::{clear_bits, index};
 use binar::sum::bitxor_assign;
 use std::io;
-use std::io::{BufWriter, Write};
+use std::io::Write;
 
 // ---- lines. A line that is longer than its buffer is cut.
 
@@ -348,7 +348,7 @@ fn repeated<W: Write>(out: &mut W, seed: u64) -> io::Result<()>
 }
 
 fn main(rt: HostRuntime) -> io::Result<()> {
-    let mut out = BufWriter::new(rt.alloc(), io::writer(&rt))?;
+    let mut out = io::writer(&rt);
     given(&mut out, 0, 0, 0, b"")?;
     given(&mut out, 1, 0, 5, b"")?;
     given(&mut out, 0, 3, 0, b"")?;
@@ -369,5 +369,5 @@ fn main(rt: HostRuntime) -> io::Result<()> {
     random(&mut out, 4, 40, 256, 2)?;
     random(&mut out, 4, 128, 256, 3)?;
     repeated(&mut out, 4)?;
-    out.flush()
+    Ok(())
 }

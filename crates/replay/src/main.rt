@@ -12,7 +12,7 @@ use crate::lines::{text, word_of};
 use crate::runs::{promise_of, run_group, run_rolls};
 use pauli::bytes::u32_at;
 use std::io;
-use std::io::{BufReader, BufWriter, Read, Write};
+use std::io::{Read, Write};
 
 // The line of a request.
 mod lines;
@@ -151,8 +151,8 @@ fn answer<R: Read, W: Write>(
 }
 
 fn main(rt: HostRuntime) -> io::Result<()> {
-    let mut from = BufReader::new(rt.alloc(), rt.reader())?;
-    let mut to = BufWriter::new(rt.alloc(), io::writer(&rt))?;
+    let mut from = rt.reader();
+    let mut to = io::writer(&rt);
     let mut request = [0u8; 28];
     let mut first = [0u8; MOST_BYTES];
     let mut second = [0u8; MOST_BYTES];
@@ -178,5 +178,5 @@ fn main(rt: HostRuntime) -> io::Result<()> {
             break;
         }
     }
-    to.flush()
+    Ok(())
 }
