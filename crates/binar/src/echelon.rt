@@ -34,12 +34,10 @@ fn pivot_of(w: &[u64], stride: usize, rows: usize, cols: usize, r0: usize, c0: u
         if c >= cols {
             break 'search Found::Nothing;
         }
-        let mut i = r0;
-        while i < rows {
+        for i in r0..rows {
             if index(w, i * stride, c) == 1 {
                 break 'search Found::At(Cell { row: i, col: c });
             }
-            i += 1;
         }
         c += 1;
     };
@@ -51,13 +49,11 @@ fn reduce(w: &mut [u64], stride: usize, rows: usize, r: usize, c: usize)
     requires { (rows * stride ≤ length w.old) × (r < rows) × (c < 64 * stride) }
     ensures { w.new ≡ image stride (add_to_others c (row_at w.old (r * stride) stride) r 0 (matrix stride rows w.old)) (drop (rows * stride) w.old) }
 {
-    let mut i = 0;
-    while i < rows {
+    for i in 0..rows {
         if i != r {
             let bit = index(w, i * stride, c);
             add_if(w, i * stride, r * stride, stride, bit);
         }
-        i += 1;
     }
 }
 

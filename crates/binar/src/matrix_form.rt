@@ -37,10 +37,8 @@ fn write_identity(w: &mut [u64], width: usize, stride: usize, rows: usize)
     requires { (rows * stride ≤ length w.old) × (width + (rows + 63) / 64 ≤ stride) }
     ensures { w.new ≡ image stride (beside_identity (64 * width) 0 (matrix stride rows w.old)) (drop (rows * stride) w.old) }
 {
-    let mut i = 0;
-    while i < rows {
+    for i in 0..rows {
         unit_row(w, i * stride, width, stride, i);
-        i += 1;
     }
 }
 
@@ -90,13 +88,11 @@ pub fn transpose_solve(
     requires { FormLeft w.old stride rows cols rank at }
     ensures { SolutionIs w.old stride rows cols rank at result w.new }
 {
-    let mut k = 0;
-    while k < rank {
+    for k in 0..rank {
         let pivot = w[rows * stride + k] as usize;
         if index(w, at, pivot) == 1 {
             bitxor_assign(w, at, k * stride, stride);
         }
-        k += 1;
     }
     if is_zero(w, at, cols) {
         return Solution::Set;

@@ -35,10 +35,8 @@ pub fn weight(w: &[u64], at: usize, n: usize) -> usize
     ensures { result ≡ weight_of (row_at w.now at n) }
 {
     let mut total: usize = 0;
-    let mut k = 0;
-    while k < n {
+    for k in 0..n {
         total += u64::count_ones(w[at + k]) as usize;
-        k += 1;
     }
     total
 }
@@ -49,10 +47,8 @@ pub fn dot(w: &[u64], i: usize, j: usize, n: usize) -> u64
     ensures { result ≡ dot_of (row_at w.now i n) (row_at w.now j n) }
 {
     let mut shared: u64 = 0;
-    let mut k = 0;
-    while k < n {
+    for k in 0..n {
         shared = shared ^ (w[i + k] & w[j + k]);
-        k += 1;
     }
     (u64::count_ones(shared) % 2) as u64
 }
@@ -62,10 +58,8 @@ pub fn clear_bits(w: &mut [u64], at: usize, n: usize)
     requires { at + n ≤ length w.old }
     ensures { w.new ≡ put_row w.old at n 0 }
 {
-    let mut k = 0;
-    while k < n {
+    for k in 0..n {
         w[at + k] = 0;
-        k += 1;
     }
 }
 
@@ -74,10 +68,8 @@ pub fn assign(w: &mut [u64], to: usize, from: usize, n: usize)
     requires { TwoRows w.old to from n }
     ensures { w.new ≡ put_row w.old to n (row_at w.old from n) }
 {
-    let mut k = 0;
-    while k < n {
+    for k in 0..n {
         w[to + k] = w[from + k];
-        k += 1;
     }
 }
 
@@ -86,11 +78,9 @@ pub(crate) fn swap_rows(w: &mut [u64], i: usize, j: usize, n: usize)
     requires { TwoRows w.old i j n }
     ensures { w.new ≡ put_row (put_row w.old i n (row_at w.old j n)) j n (row_at w.old i n) }
 {
-    let mut k = 0;
-    while k < n {
+    for k in 0..n {
         let x = w[i + k];
         w[i + k] = w[j + k];
         w[j + k] = x;
-        k += 1;
     }
 }

@@ -27,10 +27,8 @@ fn add_words(w: &mut [u64], to: usize, from: usize, n: usize, bit: u64)
     requires { TwoRows w.old to from n × (bit ≤ 1) }
     ensures { w.new ≡ put_row w.old to n (row_at w.old to n ⊕ bit * row_at w.old from n) }
 {
-    let mut k = 0;
-    while k < n {
+    for k in 0..n {
         w[to + k] = added_word(w[to + k], w[from + k], bit);
-        k += 1;
     }
 }
 

@@ -64,10 +64,8 @@ pub(crate) fn lines_length(w: &[u64], base: usize, m: usize) -> usize
     ensures { (result ≡ length (member_lines 0 (stored_in w.now base m))) × (result ≤ 2743 * m) }
 {
     let mut total = 0;
-    let mut i = 0;
-    while i < m {
+    for i in 0..m {
         total += line_length(w, base + 5 * i, i);
-        i += 1;
     }
     total
 }
@@ -77,10 +75,8 @@ pub(crate) fn put_lines(out: &mut [u8], at: usize, w: &[u64], base: usize, m: us
     ensures { Put out.old at (member_lines 0 (stored_in w.now base m)) out.new result }
 {
     let mut next = at;
-    let mut i = 0;
-    while i < m {
+    for i in 0..m {
         next = put_line(out, next, w, base + 5 * i, i);
-        i += 1;
     }
     next
 }

@@ -86,10 +86,8 @@ fn records_length(w: &[u64], base: usize, m: usize) -> usize
     ensures { (result ≡ length (results_bytes (stored_in w.now base m))) × (result ≤ 260 * m) }
 {
     let mut total = 0;
-    let mut i = 0;
-    while i < m {
+    for i in 0..m {
         total += record_length(result_at(w, base + 5 * i));
-        i += 1;
     }
     total
 }
@@ -99,10 +97,8 @@ fn put_records(out: &mut [u8], w: &[u64], base: usize, m: usize) -> usize
     ensures { Put out.old 0 (results_bytes (stored_in w.now base m)) out.new result }
 {
     let mut next = 0;
-    let mut i = 0;
-    while i < m {
+    for i in 0..m {
         next = put_record(out, next, result_at(w, base + 5 * i));
-        i += 1;
     }
     next
 }

@@ -75,11 +75,9 @@ fn factor_all(b: &[u8], m: usize, known: &[u32], n: usize, group: Group, step: u
     requires { (count_of b.now ≡ answer m) × (n ≤ 128) × (length w.old ≡ 4096) × (group.places ≤ 128) × Asked known.now w.old n group.places group.rank group.total step }
     ensures { (g : Asked known.now w.old n group.places group.rank group.total step) → stored_in w.new further_at m ≡ map (factorization_of g.promise g.list) (paulis (list_of b.now)) }
 {
-    let mut k = 0;
-    while k < m {
+    for k in 0..m {
         let factoring = factor(b, m, k, known, n, group, step, w);
         store_result(w, FURTHER + 5 * k, factoring);
-        k += 1;
     }
 }
 

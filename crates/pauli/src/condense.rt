@@ -37,13 +37,11 @@ fn places_of(b: &[u8], at: usize, total: usize, support: &[u32], count: usize) -
 {
     let mut set = Places::none();
     let mut from = Place(0);
-    let mut k = 0;
-    while k < total {
+    for k in 0..total {
         let q = Qubit(u32_at(b, at + 4 * k));
         let place = place_from(support, count, from, q);
         set = with_place(set, place);
         from = Place(place.0 + 1);
-        k += 1;
     }
     set
 }

@@ -17,8 +17,7 @@ fn copy_entries(out: &mut [u8], at: usize, b: &[u8], n: usize, before: usize)
     ensures { out.new ≡ put_bytes out.old at (table before (map by_value (list_of b.now))) }
 {
     let mut start = before;
-    let mut i = 0;
-    while i < n {
+    for i in 0..n {
         let e = entry_at(b, i);
         put_entry(
             out,
@@ -29,7 +28,6 @@ fn copy_entries(out: &mut [u8], at: usize, b: &[u8], n: usize, before: usize)
             e.zcount,
         );
         start += e.xcount + e.zcount;
-        i += 1;
     }
 }
 
@@ -41,11 +39,9 @@ fn copy_bodies(out: &mut [u8], at: usize, b: &[u8], n: usize)
     let start = 2 + 10 * n;
     let end = start + 4 * numbers_of(b, n);
     let mut to = at;
-    let mut k = start;
-    while k < end {
+    for k in start..end {
         out[to] = b[k];
         to += 1;
-        k += 1;
     }
 }
 

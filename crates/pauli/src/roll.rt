@@ -74,8 +74,7 @@ fn check_entries(b: &[u8], n: usize) -> EntriesChecked
     ensures { told_numbers result ≡ check_entries_spec 0 0 (entries_at b.now 2 n) }
 {
     let mut before: usize = 0;
-    let mut i = 0;
-    while i < n {
+    for i in 0..n {
         let e = entry_at(b, i);
         if e.given > 1 {
             return EntriesChecked::Refused(Refusal {
@@ -96,7 +95,6 @@ fn check_entries(b: &[u8], n: usize) -> EntriesChecked
             });
         }
         before = before + e.xcount + e.zcount;
-        i += 1;
     }
     EntriesChecked::Numbers(before)
 }
@@ -107,8 +105,7 @@ fn check_set(b: &[u8], i: usize, at: usize, total: usize) -> SetsChecked
     ensures { told_passed result ≡ check_set_spec i 0 (numbers_at b.now at total) }
 {
     let mut least: u32 = 0;
-    let mut k = 0;
-    while k < total {
+    for k in 0..total {
         let number = u32_at(b, at + 4 * k);
         if number > HIGHEST_QUBIT {
             return SetsChecked::Refused(Refusal {
@@ -123,7 +120,6 @@ fn check_set(b: &[u8], i: usize, at: usize, total: usize) -> SetsChecked
             });
         }
         least = number + 1;
-        k += 1;
     }
     SetsChecked::Passed
 }
@@ -134,8 +130,7 @@ fn check_sets(b: &[u8], n: usize) -> SetsChecked
     ensures { told_passed result ≡ check_sets_spec 0 (paulis_at b.now (2 + 10 * n) (entries_at b.now 2 n)) }
 {
     let mut at = 2 + 10 * n;
-    let mut i = 0;
-    while i < n {
+    for i in 0..n {
         let e = entry_at(b, i);
         let x = check_set(b, i, at, e.xcount);
         match x {
@@ -152,7 +147,6 @@ fn check_sets(b: &[u8], n: usize) -> SetsChecked
             SetsChecked::Passed => {}
         }
         at = at + 4 * (e.xcount + e.zcount);
-        i += 1;
     }
     SetsChecked::Passed
 }

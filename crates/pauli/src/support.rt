@@ -39,12 +39,10 @@ pub fn place_of(known: &[u32], count: usize, q: Qubit) -> Place
     ensures { result.0 ≡ place_of (take count known.now) q.0 }
 {
     let wanted = q.0;
-    let mut i = 0;
-    while i < count {
+    for i in 0..count {
         if known[i] == wanted {
             return Place(i);
         }
-        i += 1;
     }
     Place(count)
 }
@@ -81,12 +79,10 @@ pub fn place_from(known: &[u32], count: usize, from: Place, q: Qubit) -> Place
         return guess;
     }
     let number = q.0;
-    let mut i = from.0;
-    while i < count {
+    for i in from.0..count {
         if known[i] >= number {
             return Place(i);
         }
-        i += 1;
     }
     Place(count)
 }
@@ -96,13 +92,11 @@ fn insert_at(known: &mut [u32], count: usize, at: Place, q: Qubit)
     requires { (at.0 ≤ count) × (count < length known.old) }
     ensures { known.new ≡ inserted_at known.old count at.0 q.0 }
 {
-    let mut i = at.0;
     let mut next = q.0;
-    while i < count {
+    for i in at.0..count {
         let moved = known[i];
         known[i] = next;
         next = moved;
-        i += 1;
     }
     known[count] = next;
 }
@@ -149,8 +143,7 @@ pub fn gather(b: &[u8], at: usize, total: usize, known: &mut [u32], count: usize
     let mut n = count;
     let mut from = Place(0);
     let mut last = Qubit(0);
-    let mut i = 0;
-    while i < total {
+    for i in 0..total {
         if n > MOST_QUBITS {
             return n;
         }
@@ -159,7 +152,6 @@ pub fn gather(b: &[u8], at: usize, total: usize, known: &mut [u32], count: usize
         n = met.count;
         from = met.next;
         last = q;
-        i += 1;
     }
     n
 }

@@ -83,13 +83,11 @@ fn numbers_in(w: &[u64], base: usize, n: usize) -> usize
     ensures { (result ≡ numbers_of (list_in w.now base n)) × (result ≤ 256 * n) }
 {
     let mut total = 0;
-    let mut i = 0;
-    while i < n {
+    for i in 0..n {
         let p = load(w, base + 5 * i);
         let x = p.x;
         let z = p.z;
         total += x.weight() + z.weight();
-        i += 1;
     }
     total
 }
@@ -100,8 +98,7 @@ fn put_table(out: &mut [u8], w: &[u64], base: usize, n: usize)
     ensures { out.new ≡ put_bytes out.old 2 (table_of 0 (list_in w.now base n)) }
 {
     let mut before = 0;
-    let mut i = 0;
-    while i < n {
+    for i in 0..n {
         let p = load(w, base + 5 * i);
         let x = p.x;
         let z = p.z;
@@ -109,7 +106,6 @@ fn put_table(out: &mut [u8], w: &[u64], base: usize, n: usize)
         let zcount = z.weight();
         put_entry(out, 2 + 10 * i, p.exponent, before as u32, xcount, zcount);
         before += xcount + zcount;
-        i += 1;
     }
 }
 
@@ -127,14 +123,12 @@ fn put_bodies(
     ensures { out.new ≡ put_bytes out.old at (le32s (numbers (map (sparse_over (take count support.now)) (list_in w.now base n)))) }
 {
     let mut next = at;
-    let mut i = 0;
-    while i < n {
+    for i in 0..n {
         let p = load(w, base + 5 * i);
         let x = p.x;
         let z = p.z;
         let middle = put_set(out, next, x, support, count);
         next = put_set(out, middle, z, support, count);
-        i += 1;
     }
 }
 

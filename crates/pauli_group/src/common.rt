@@ -78,12 +78,10 @@ fn note_exponents(
     requires { (length w.old ≡ 4096) × (m ≤ 128) × Solving w.old n group.places group.rank × (group.places ≤ length own.now) × (size ≤ 128) × (size ≤ length joint.now) × OnPlaces size (list_in w.old further_at m) × All (MovablePauli (take size joint.now) (take group.places own.now)) (list_in w.old further_at m) }
     ensures { list_in w.new further_at m ≡ map (λ p. noted (exponent_over (take size joint.now) (take group.places own.now) n group.places w.old p) p) (list_in w.old further_at m) }
 {
-    let mut i = 0;
-    while i < m {
+    for i in 0..m {
         let at = FURTHER + 5 * i;
         let e = exponent_of(w, at, n, group, own, joint, size);
         w[at] = w[at] % 4 * 4 + e;
-        i += 1;
     }
 }
 
@@ -114,12 +112,10 @@ fn shared_exponent(a: u64, b: u64, u: u64, v: u64) -> u64
     requires { (0 < a) × (0 < b) × (u < 4) × (v < 4) }
     ensures { exponent_found result ≡ shared_exponent_spec a b u v }
 {
-    let mut e = 0;
-    while e < 4 {
+    for e in 0..4 {
         if (e + 4 - u) % 4 % a + (e + 4 - v) % 4 % b == 0 {
             return e;
         }
-        e += 1;
     }
     4
 }
@@ -144,8 +140,7 @@ fn keep_shared(w: &mut [u64], m: usize, a: u64, b: u64) -> usize
     ensures list { list_in w.new further_at result ≡ shared_with (shared_noted a b) (list_in w.old further_at m) }
 {
     let mut kept = 0;
-    let mut i = 0;
-    while i < m {
+    for i in 0..m {
         let at = FURTHER + 5 * i;
         let e = shared_exponent(a, b, w[at] / 4 % 4, w[at] % 4);
         if e < 4 {
@@ -153,7 +148,6 @@ fn keep_shared(w: &mut [u64], m: usize, a: u64, b: u64) -> usize
             store(w, FURTHER + 5 * kept, with_exponent(e as u8, p));
             kept += 1;
         }
-        i += 1;
     }
     kept
 }
@@ -166,13 +160,11 @@ fn append_phases(w: &mut [u64], n: usize, a: u64, b: u64) -> usize
     ensures list { list_in w.new further_at result ≡ list_in w.old further_at n ++ phases_from a b 4 0 }
 {
     let mut total = n;
-    let mut k = 0;
-    while k < 4 {
+    for k in 0..4 {
         if k % a + k % b == 0 {
             put_phase(w, FURTHER + 5 * total, k as u8);
             total += 1;
         }
-        k += 1;
     }
     total
 }

@@ -74,10 +74,8 @@ pub(crate) fn put_products(
     ensures rest { Outside to (5 * count) w.old w.new }
 {
     let stride = stride_of(n);
-    let mut i = 0;
-    while i < count {
+    for i in 0..count {
         let set = named_by(w, (first + i) * stride, n);
         store(w, to + 5 * i, indexed_product(w, base, m, set));
-        i += 1;
     }
 }

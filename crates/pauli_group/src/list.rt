@@ -21,9 +21,7 @@ pub(crate) fn read_list(
     ensures list { list_in w.new base n ≡ map (over_places (take count support.now)) (list_of b.now) }
     ensures rest { Outside base (5 * n) w.old w.new }
 {
-    let mut i = 0;
-    while i < n {
+    for i in 0..n {
         store(w, base + 5 * i, condense_from(b, n, i, support, count));
-        i += 1;
     }
 }

@@ -55,10 +55,8 @@ fn binomial(n: usize, k: usize) -> u64
 {
     let mut row = [0u64; 17];
     row[0] = 1;
-    let mut i = 0;
-    while i < n {
+    for i in 0..n {
         next_row(&mut row, i);
-        i += 1;
     }
     row[k]
 }
@@ -108,10 +106,8 @@ fn chosen_at(n: usize, k: usize, i: u64) -> Places
         size: k,
         number: i,
     };
-    let mut p = 0;
-    while p < n {
+    for p in 0..n {
         c = choose(p, n - p - 1, c);
-        p += 1;
     }
     Places {
         low: c.bits,
@@ -125,14 +121,12 @@ fn subset_at(n: usize, i: u64) -> Places
     ensures { set_in result ≡ subset_at_spec n i }
 {
     let mut number = i;
-    let mut k = 0;
-    while k < n {
+    for k in 0..n {
         let of_size = binomial(n, k);
         if number < of_size {
             return chosen_at(n, k, number);
         }
         number -= of_size;
-        k += 1;
     }
     chosen_at(n, n, number)
 }
@@ -144,8 +138,7 @@ fn put_elements(w: &mut [u64], rank: usize, step: u64, start: u64, n: usize)
     ensures rest { Outside further_at (5 * n) w.old w.new }
 {
     let phases = 4 / step;
-    let mut i = 0;
-    while i < n {
+    for i in 0..n {
         let number = start + (i as u64);
         let set = subset_at(rank, number / phases);
         let product = indexed_product(w, STANDARD, rank, set);
@@ -154,7 +147,6 @@ fn put_elements(w: &mut [u64], rank: usize, step: u64, start: u64, n: usize)
         let x = product.x;
         let z = product.z;
         store(w, FURTHER + 5 * i, Pauli { exponent, x, z });
-        i += 1;
     }
 }
 

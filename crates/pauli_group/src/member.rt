@@ -59,8 +59,7 @@ fn covers(b: &[u8], at: usize, total: usize, support: &[u32], count: usize) -> b
 {
     let mut from = Place(0);
     let mut last = Qubit(0);
-    let mut k = 0;
-    while k < total {
+    for k in 0..total {
         let q = Qubit(u32_at(b, at + 4 * k));
         let place = place_from(support, count, walk_start(last, from, q), q);
         let i = place.0;
@@ -73,7 +72,6 @@ fn covers(b: &[u8], at: usize, total: usize, support: &[u32], count: usize) -> b
         }
         from = Place(i + 1);
         last = q;
-        k += 1;
     }
     true
 }

@@ -54,11 +54,9 @@ fn multiply_at(w: &mut [u64], base: usize, n: usize, is_x: bool, place: Place, o
     ensures list { list_in w.new base n ≡ map (λ p. normal (multiplied_at is_x place.0 (held other) p)) (list_in w.old base n) }
     ensures rest { Outside base (5 * n) w.old w.new }
 {
-    let mut i = 0;
-    while i < n {
+    for i in 0..n {
         let p = load(w, base + 5 * i);
         store(w, base + 5 * i, multiplied(p, is_x, place, other));
-        i += 1;
     }
 }
 
@@ -79,14 +77,12 @@ fn multiply_all(
 {
     let places = group.places;
     let at = n * stride_of(n);
-    let mut k = 0;
-    while k < group.rank {
+    for k in 0..group.rank {
         let pivot = w[at + k] as usize;
         let other = load(w, STANDARD + 5 * k);
         let moved = move_pauli(other, own, places, joined, size);
         let place = place_of(joined, size, qubit_at(own, Place(pivot % places)));
         multiply_at(w, FURTHER, m, pivot < places, place, moved);
-        k += 1;
     }
 }
 

@@ -58,10 +58,8 @@ pub(crate) fn move_list(
     ensures list { list_in w.new to n ≡ map (λ p. normal (moved_pauli (take count own.now) (take size joined.now) p)) (list_in w.old base n) }
     ensures rest { Outside to (5 * n) w.old w.new }
 {
-    let mut i = 0;
-    while i < n {
+    for i in 0..n {
         let p = load(w, base + 5 * i);
         store(w, to + 5 * i, move_pauli(p, own, count, joined, size));
-        i += 1;
     }
 }

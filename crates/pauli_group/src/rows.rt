@@ -62,11 +62,9 @@ pub(crate) fn put_rows(w: &mut [u64], base: usize, n: usize, s: usize, stride: u
     requires { (base + 5 * n ≤ length w.old) × (n * stride ≤ base) × (4 ≤ stride) × (s ≤ 128) × OnPlaces s (list_in w.old base n) }
     ensures { w.new ≡ image stride (map (row_over s) (list_in w.old base n)) (drop (n * stride) w.old) }
 {
-    let mut i = 0;
-    while i < n {
+    for i in 0..n {
         let at = i * stride;
         clear_bits(w, at + ROW_WORDS, stride - ROW_WORDS);
         put_row(w, at, load(w, base + 5 * i), s);
-        i += 1;
     }
 }

@@ -14,8 +14,7 @@ pub(crate) fn modulus_of(w: &[u64], base: usize, n: usize) -> u64
     ensures { result ≡ modulus_of_spec (map (λ (p : PauliOf). p.e) (list_in w.now base n)) }
 {
     let mut m = 4;
-    let mut i = 0;
-    while i < n {
+    for i in 0..n {
         let e = w[base + 5 * i];
         if e % 2 == 1 {
             return 1;
@@ -23,7 +22,6 @@ pub(crate) fn modulus_of(w: &[u64], base: usize, n: usize) -> u64
         if e / 2 % 2 == 1 {
             m = 2;
         }
-        i += 1;
     }
     m
 }
@@ -34,10 +32,8 @@ pub(crate) fn take_mod(w: &mut [u64], base: usize, n: usize, m: u64)
     ensures list { list_in w.new base n ≡ map (exponent_mod m) (list_in w.old base n) }
     ensures rest { Outside base (5 * n) w.old w.new }
 {
-    let mut i = 0;
-    while i < n {
+    for i in 0..n {
         w[base + 5 * i] = w[base + 5 * i] % m;
-        i += 1;
     }
 }
 
@@ -46,12 +42,10 @@ pub(crate) fn some_order_four(w: &[u64], base: usize, n: usize) -> u64
     requires { base + 5 * n ≤ length w.now }
     ensures { result ≡ some_order_four_spec (list_in w.now base n) }
 {
-    let mut i = 0;
-    while i < n {
+    for i in 0..n {
         if !load(w, base + 5 * i).is_order_two() {
             return 1;
         }
-        i += 1;
     }
     0
 }
@@ -61,12 +55,10 @@ fn anticommutes_with_some(w: &[u64], base: usize, n: usize, p: Pauli) -> u64
     requires { base + 5 * n ≤ length w.now }
     ensures { result ≡ anticommutes_with_some_spec (held p) (list_in w.now base n) }
 {
-    let mut i = 0;
-    while i < n {
+    for i in 0..n {
         if p.anticommutes(load(w, base + 5 * i)) == 1 {
             return 1;
         }
-        i += 1;
     }
     0
 }
@@ -76,13 +68,11 @@ pub(crate) fn some_anticommute(w: &[u64], base: usize, n: usize) -> u64
     requires { base + 5 * n ≤ length w.now }
     ensures { result ≡ some_anticommute_spec (list_in w.now base n) }
 {
-    let mut i = 0;
-    while i < n {
+    for i in 0..n {
         let at = base + 5 * i;
         if anticommutes_with_some(w, at + 5, n - i - 1, load(w, at)) == 1 {
             return 1;
         }
-        i += 1;
     }
     0
 }
@@ -130,15 +120,13 @@ pub(crate) fn some_imaginary(w: &[u64], base: usize, n: usize) -> u64
     requires { base + 5 * n ≤ length w.now }
     ensures { result ≡ some_imaginary_spec (list_in w.now base n) }
 {
-    let mut i = 0;
-    while i < n {
+    for i in 0..n {
         let p = load(w, base + 5 * i);
         if p.weight() == 0 {
             if p.exponent % 2 == 1 {
                 return 1;
             }
         }
-        i += 1;
     }
     0
 }
@@ -148,15 +136,13 @@ pub(crate) fn some_minus(w: &[u64], base: usize, n: usize) -> u64
     requires { base + 5 * n ≤ length w.now }
     ensures { result ≡ some_minus_spec (list_in w.now base n) }
 {
-    let mut i = 0;
-    while i < n {
+    for i in 0..n {
         let p = load(w, base + 5 * i);
         if p.weight() == 0 {
             if p.exponent % 4 == 2 {
                 return 1;
             }
         }
-        i += 1;
     }
     0
 }

@@ -38,12 +38,10 @@ fn first_anticommuting(w: &[u64], base: usize, n: usize, x: Pauli) -> usize
     requires { base + 5 * n ≤ length w.now }
     ensures { (result ≤ n) × (on_position (position (held x) 0 (list_in w.now base n)) n (λ k. k) ≡ result) }
 {
-    let mut i = 0;
-    while i < n {
+    for i in 0..n {
         if x.anticommutes(load(w, base + 5 * i)) == 1 {
             return i;
         }
-        i += 1;
     }
     n
 }
@@ -65,14 +63,12 @@ fn clear_pair(w: &mut [u64], base: usize, n: usize, k: usize, x: Pauli, z: Pauli
     ensures list { list_in w.new base n ≡ map normal (cleared_by k (held x) (held z) (list_in w.old base n)) }
     ensures rest { Outside base (5 * n) w.old w.new }
 {
-    let mut i = 0;
-    while i < n {
+    for i in 0..n {
         let mut g = load(w, base + 5 * i);
         if i >= k {
             g = times_if(x, z, g);
         }
         store(w, base + 5 * i, times_if(z, x, g));
-        i += 1;
     }
 }
 
@@ -111,10 +107,8 @@ fn copy_list(w: &mut [u64], from: usize, n: usize, to: usize)
     ensures list { list_in w.new to n ≡ map normal (list_in w.old from n) }
     ensures rest { Outside to (5 * n) w.old w.new }
 {
-    let mut i = 0;
-    while i < n {
+    for i in 0..n {
         store(w, to + 5 * i, load(w, from + 5 * i));
-        i += 1;
     }
 }
 

@@ -18,12 +18,6 @@ overflow_mul-i c = omega (arith, row_in c.loop-i.i c.args.rows c.args.stride c.l
 pub index-requires : goal.index-requires
 index-requires c = omega (arith, row_in c.loop-i.i c.args.rows c.args.stride c.loop-i-test.true, c.requires)
 
-pub overflow_add-i : goal.overflow_add-i
-overflow_add-i c = omega arith
-
-pub loop-i-smaller : goal.loop-i-smaller
-loop-i-smaller c = omega arith
-
 pub loop-i-preserved : goal.loop-i-preserved
 loop-i-preserved c = (omega arith, c.loop-i.invariant.1 ∙ row_miss _ _ _ _ (rw (length_matrix _ _ _) c.loop-i-test.true) (λ e. c.if-index-eq1.false (c.index.ensures ∙ cell_bit _ _ _ _ _ (λ q. (c.shared_slice_known-1.given q).fits) c.requires.0 c.loop-i-test.true (omega arith) ∙ e)))
 

@@ -9,9 +9,6 @@ use Rattle.binar.proofs.echelon.pivot_of.Given as goal
 abbrev pub invariant-loop-i : goal.invariant-loop-i
 invariant-loop-i l = (l.r0 ≤ l.i) × (pivot_of l.cols l.r0 l.c0 (matrix l.stride l.rows l.w) ≡ in_column l.c l.i (drop l.i (matrix l.stride l.rows l.w)) (by_columns (l.cols - (l.c + 1)) (l.c + 1) l.r0 (drop l.r0 (matrix l.stride l.rows l.w))))
 
-abbrev pub decreases-loop-i : goal.decreases-loop-i
-decreases-loop-i l = l.rows - l.i
-
 abbrev pub invariant-search : goal.invariant-search
 invariant-search l = pivot_of l.cols l.r0 l.c0 (matrix l.stride l.rows l.w) ≡ by_columns (l.cols - l.c) l.c l.r0 (drop l.r0 (matrix l.stride l.rows l.w))
 

@@ -30,12 +30,6 @@ overflow_mul-r c = omega (arith, row_in c.args.r c.args.rows c.args.stride c.req
 pub add_if-requires : goal.add_if-requires
 add_if-requires c = (two_rows _ _ _ _ _ (omega (arith, c.requires.0, c.loop-i.invariant.1)) c.loop-i-test.true c.requires.1, omega (arith, c.index-bit.ensures, bit_lt (value (drop (c.loop-i.i * c.args.stride) c.loop-i.w)) c.args.c))
 
-pub overflow_add-i : goal.overflow_add-i
-overflow_add-i c = omega arith
-
-pub loop-i-smaller : goal.loop-i-smaller
-loop-i-smaller c = omega arith
-
 pub loop-i-preserved : goal.loop-i-preserved
 loop-i-preserved c =
     let known : AreWords c.args.w.now = λ q. (c.slice_known-1.given q).fits in

@@ -8,6 +8,3 @@ use Rattle.binar.proofs.echelon.reduce.Given as goal
 
 abbrev pub invariant-loop-i : goal.invariant-loop-i
 invariant-loop-i l = (l.i ≤ l.rows) × (length l.w ≡ length l.initial.w) × (l.w ≡ rewritten l.initial.w l.stride l.rows (cleared l.initial.w l.stride l.rows l.r l.c) l.i)
-
-abbrev pub decreases-loop-i : goal.decreases-loop-i
-decreases-loop-i l = l.rows - l.i

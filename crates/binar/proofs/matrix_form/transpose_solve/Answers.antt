@@ -34,12 +34,6 @@ overflow_mul-k c = omega (arith, row_in c.loop-k.k c.args.rows c.args.stride (om
 pub bitxor_assign-requires : goal.bitxor_assign-requires
 bitxor_assign-requires c = target_rows _ _ _ _ _ _ (λ q. (c.slice_known-1.given q).fits) c.requires _ c.loop-k-test.true _ c.loop-k.invariant.1 c.loop-k.invariant.2
 
-pub overflow_add-k : goal.overflow_add-k
-overflow_add-k c = omega arith
-
-pub loop-k-smaller : goal.loop-k-smaller
-loop-k-smaller c = omega arith
-
 pub loop-k-preserved : goal.loop-k-preserved
 loop-k-preserved c =
     let known : AreWords c.args.w.now = λ q. (c.slice_known-1.given q).fits in

@@ -9,6 +9,3 @@ use Rattle.binar.proofs.matrix_form.transpose_solve.Given as goal
 
 abbrev pub invariant-loop-k : goal.invariant-loop-k
 invariant-loop-k l = (l.k ≤ l.rank) × (length l.w ≡ length l.initial.w) × (l.w ≡ put_row l.initial.w l.at l.stride (row_at l.w l.at l.stride)) × (swept l.stride l.rows l.rank l.at l.initial.w ≡ swept_from l.initial.w l.stride l.rows l.rank l.k (row_at l.w l.at l.stride))
-
-abbrev pub decreases-loop-k : goal.decreases-loop-k
-decreases-loop-k l = l.rank - l.k

@@ -15,12 +15,6 @@ overflow_mul-i c = omega (arith, row_in c.loop-i.i c.args.rows c.args.stride c.l
 pub unit_row-requires : goal.unit_row-requires
 unit_row-requires c = (omega (arith, row_in c.loop-i.i c.args.rows c.args.stride c.loop-i-test.true, c.requires.0, c.loop-i.invariant.1), omega arith)
 
-pub overflow_add-i : goal.overflow_add-i
-overflow_add-i c = omega arith
-
-pub loop-i-smaller : goal.loop-i-smaller
-loop-i-smaller c = omega arith
-
 pub loop-i-preserved : goal.loop-i-preserved
 loop-i-preserved c = (omega arith, c.unit_row.auto.w ∙ c.loop-i.invariant.1, c.unit_row.ensures ∙ rewritten_row _ _ _ _ (λ q. (c.slice_known-1.given q).fits) c.requires.0 (beside_length _ 0 _ ∙ length_matrix _ _ _) _ c.loop-i-test.true _ c.loop-i.invariant.2 _ (beside_eq c.loop-i.i c.args.width c.args.stride c.args.rows c.args.w.now _ c.loop-i-test.true (row_here _ _ _ _ (λ q. (c.slice_known-1.given q).fits) c.requires.0 (beside_length _ 0 _ ∙ length_matrix _ _ _) _ c.loop-i-test.true _ c.loop-i.invariant.2)))
 

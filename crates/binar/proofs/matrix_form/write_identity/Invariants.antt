@@ -9,6 +9,3 @@ use Rattle.binar.proofs.matrix_form.write_identity.Given as goal
 
 abbrev pub invariant-loop-i : goal.invariant-loop-i
 invariant-loop-i l = (l.i ≤ l.rows) × (length l.w ≡ length l.initial.w) × (l.w ≡ rewritten l.initial.w l.stride l.rows (beside_identity (64 * l.width) 0 (matrix l.stride l.rows l.initial.w)) l.i)
-
-abbrev pub decreases-loop-i : goal.decreases-loop-i
-decreases-loop-i l = l.rows - l.i

@@ -25,12 +25,6 @@ offset_bounds-w-to c = omega arith
 pub bounds-w-to : goal.bounds-w-to
 bounds-w-to c = omega arith
 
-pub overflow_add-k : goal.overflow_add-k
-overflow_add-k c = omega arith
-
-pub loop-k-smaller : goal.loop-k-smaller
-loop-k-smaller c = omega arith
-
 pub loop-k-preserved : goal.loop-k-preserved
 loop-k-preserved c = (omega arith, simp length-set c.loop-k.invariant.1, two_step _ _ _ _ _ c.loop-k-test.true c.loop-k.invariant.2 _, c.loop-k.invariant.3 ∙ copied_step _ _ _ _ _ c.loop-k-test.true c.loop-k.invariant.2 (λ q. (c.slice_known-1.given q).fits))
 

@@ -8,6 +8,3 @@ use Rattle.binar.proofs.row.assign.Given as goal
 
 abbrev pub invariant-loop-k : goal.invariant-loop-k
 invariant-loop-k l = (l.k ≤ l.n) × (length l.w ≡ length l.initial.w) × TwoRows l.w (l.to + l.k) (l.from + l.k) (l.n - l.k) × (copied l.initial.w l.to l.from l.n ≡ copied l.w (l.to + l.k) (l.from + l.k) (l.n - l.k))
-
-abbrev pub decreases-loop-k : goal.decreases-loop-k
-decreases-loop-k l = l.n - l.k

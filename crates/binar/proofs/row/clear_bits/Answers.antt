@@ -16,12 +16,6 @@ offset_bounds-w-at c = omega arith
 pub bounds-w-at : goal.bounds-w-at
 bounds-w-at c = omega arith
 
-pub overflow_add-k : goal.overflow_add-k
-overflow_add-k c = omega arith
-
-pub loop-k-smaller : goal.loop-k-smaller
-loop-k-smaller c = omega arith
-
 pub loop-k-preserved : goal.loop-k-preserved
 loop-k-preserved c = (omega arith, simp length-set c.loop-k.invariant.1, c.loop-k.invariant.2 ∙ cleared_step _ _ _ _ c.loop-k-test.true (omega arith))
 

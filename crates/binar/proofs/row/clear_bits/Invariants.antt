@@ -7,6 +7,3 @@ use Rattle.binar.proofs.row.clear_bits.Given as goal
 
 abbrev pub invariant-loop-k : goal.invariant-loop-k
 invariant-loop-k l = (l.k ≤ l.n) × (length l.w ≡ length l.initial.w) × (put_row l.initial.w l.at l.n 0 ≡ put_row l.w (l.at + l.k) (l.n - l.k) 0)
-
-abbrev pub decreases-loop-k : goal.decreases-loop-k
-decreases-loop-k l = l.n - l.k

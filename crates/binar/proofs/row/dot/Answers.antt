@@ -24,12 +24,6 @@ offset_bounds-w-j c = omega arith
 pub bounds-w-j : goal.bounds-w-j
 bounds-w-j c = omega arith
 
-pub overflow_add-k : goal.overflow_add-k
-overflow_add-k c = omega arith
-
-pub loop-k-smaller : goal.loop-k-smaller
-loop-k-smaller c = omega arith
-
 pub loop-k-preserved : goal.loop-k-preserved
 loop-k-preserved c = (omega arith, c.loop-k.invariant.1 ∙ dot_step _ _ _ _ _ _ c.loop-k-test.true (omega arith) (omega arith) (λ q. (c.shared_slice_known-in-loop-k-1.given q).fits))
 

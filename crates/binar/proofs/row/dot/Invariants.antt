@@ -8,6 +8,3 @@ use Rattle.binar.proofs.row.dot.Given as goal
 
 abbrev pub invariant-loop-k : goal.invariant-loop-k
 invariant-loop-k l = (l.k ≤ l.n) × (dot (row_at l.w l.i l.n) (row_at l.w l.j l.n) ≡ (ones l.shared + dot (row_at l.w (l.i + l.k) (l.n - l.k)) (row_at l.w (l.j + l.k) (l.n - l.k))) % 2)
-
-abbrev pub decreases-loop-k : goal.decreases-loop-k
-decreases-loop-k l = l.n - l.k

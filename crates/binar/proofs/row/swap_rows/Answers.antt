@@ -43,12 +43,6 @@ offset_bounds-w-j-in-loop-k c = omega arith
 pub bounds-w-j-in-loop-k : goal.bounds-w-j-in-loop-k
 bounds-w-j-in-loop-k c = simp length-set (omega arith)
 
-pub overflow_add-k : goal.overflow_add-k
-overflow_add-k c = omega arith
-
-pub loop-k-smaller : goal.loop-k-smaller
-loop-k-smaller c = omega arith
-
 pub loop-k-preserved : goal.loop-k-preserved
 loop-k-preserved c = (omega arith, simp length-set c.loop-k.invariant.1, two_step_both _ _ _ _ _ c.loop-k-test.true c.loop-k.invariant.2 _ _, c.loop-k.invariant.3 ∙ exchanged_step _ _ _ _ _ c.loop-k-test.true c.loop-k.invariant.2 (λ q. (c.slice_known-in-loop-k-1.given q).fits))
 

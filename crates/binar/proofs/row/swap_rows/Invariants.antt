@@ -8,6 +8,3 @@ use Rattle.binar.proofs.row.swap_rows.Given as goal
 
 abbrev pub invariant-loop-k : goal.invariant-loop-k
 invariant-loop-k l = (l.k ≤ l.n) × (length l.w ≡ length l.initial.w) × TwoRows l.w (l.i + l.k) (l.j + l.k) (l.n - l.k) × (exchanged l.initial.w l.i l.j l.n ≡ exchanged l.w (l.i + l.k) (l.j + l.k) (l.n - l.k))
-
-abbrev pub decreases-loop-k : goal.decreases-loop-k
-decreases-loop-k l = l.n - l.k

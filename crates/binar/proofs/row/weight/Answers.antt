@@ -23,12 +23,6 @@ overflow_cast-total c = omega (arith, ones-le 64 _ (c.shared_slice_known-1.given
 pub overflow_add-total-in-loop-k : goal.overflow_add-total-in-loop-k
 overflow_add-total-in-loop-k c = omega (arith, ones-le 64 _ (c.shared_slice_known-1.given (c.args.at + c.loop-k.k)).fits)
 
-pub overflow_add-k : goal.overflow_add-k
-overflow_add-k c = omega arith
-
-pub loop-k-smaller : goal.loop-k-smaller
-loop-k-smaller c = omega arith
-
 pub loop-k-preserved : goal.loop-k-preserved
 loop-k-preserved c = (omega arith, omega (arith, ones-le 64 _ (c.shared_slice_known-1.given (c.args.at + c.loop-k.k)).fits), c.loop-k.invariant.2 ∙ weight_step _ _ _ _ _ c.loop-k-test.true (omega arith) (λ q. (c.shared_slice_known-1.given q).fits))
 

@@ -7,6 +7,3 @@ use Rattle.binar.proofs.row.weight.Given as goal
 
 abbrev pub invariant-loop-k : goal.invariant-loop-k
 invariant-loop-k l = (l.k ≤ l.n) × (l.total ≤ 64 * l.k) × (weight (row_at l.w l.at l.n) ≡ l.total + weight (row_at l.w (l.at + l.k) (l.n - l.k)))
-
-abbrev pub decreases-loop-k : goal.decreases-loop-k
-decreases-loop-k l = l.n - l.k

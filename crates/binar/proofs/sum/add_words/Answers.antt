@@ -38,12 +38,6 @@ offset_bounds-w-to-in-loop-k c = omega arith
 pub bounds-w-to-in-loop-k : goal.bounds-w-to-in-loop-k
 bounds-w-to-in-loop-k c = omega arith
 
-pub overflow_add-k : goal.overflow_add-k
-overflow_add-k c = omega arith
-
-pub loop-k-smaller : goal.loop-k-smaller
-loop-k-smaller c = omega arith
-
 pub loop-k-preserved : goal.loop-k-preserved
 unfolding ◌⊕◌
 loop-k-preserved c =

@@ -8,6 +8,3 @@ use Rattle.binar.proofs.sum.add_words.Given as goal
 
 abbrev pub invariant-loop-k : goal.invariant-loop-k
 invariant-loop-k l = (l.k ≤ l.n) × (length l.w ≡ length l.initial.w) × TwoRows l.w (l.to + l.k) (l.from + l.k) (l.n - l.k) × (added l.bit l.initial.w l.to l.from l.n ≡ added l.bit l.w (l.to + l.k) (l.from + l.k) (l.n - l.k))
-
-abbrev pub decreases-loop-k : goal.decreases-loop-k
-decreases-loop-k l = l.n - l.k

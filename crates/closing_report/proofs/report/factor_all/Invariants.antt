@@ -11,6 +11,3 @@ abbrev pub invariant-loop-k : goal.invariant-loop-k
 invariant-loop-k l =
     (l.k ≤ l.m) × (length l.w ≡ 4096)
     × ((g : Asked l.known l.initial.w l.n l.group.places l.group.rank l.group.total l.step) → Factored g (list_of l.b) l.k l.w)
-
-abbrev pub decreases-loop-k : goal.decreases-loop-k
-decreases-loop-k l = l.m - l.k

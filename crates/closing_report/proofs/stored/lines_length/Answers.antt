@@ -17,12 +17,6 @@ line_length-total-requires c = omega arith
 pub overflow_add-total : goal.overflow_add-total
 overflow_add-total c = omega (arith, c.line_length-total.ensures.1)
 
-pub overflow_add-i : goal.overflow_add-i
-overflow_add-i c = omega arith
-
-pub loop-i-smaller : goal.loop-i-smaller
-loop-i-smaller c = omega arith
-
 pub loop-i-preserved : goal.loop-i-preserved
 loop-i-preserved c = measured_next _ _ _ c.loop-i.invariant c.loop-i-test.true _ c.line_length-total.ensures.0 c.line_length-total.ensures.1
 

@@ -5,6 +5,3 @@ use Rattle.closing_report.proofs.stored.lines_length.Given as goal
 
 abbrev pub invariant-loop-i : goal.invariant-loop-i
 invariant-loop-i l = Measured l.w l.base l.m l.i l.total
-
-abbrev pub decreases-loop-i : goal.decreases-loop-i
-decreases-loop-i l = l.m - l.i

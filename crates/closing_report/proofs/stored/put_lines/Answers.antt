@@ -15,12 +15,6 @@ overflow_add-base c = omega arith
 pub put_line-next-requires : goal.put_line-next-requires
 put_line-next-requires c = (omega arith, line_fits _ _ _ _ c.loop-i.invariant.1 c.loop-i-test.true)
 
-pub overflow_add-i : goal.overflow_add-i
-overflow_add-i c = omega arith
-
-pub loop-i-smaller : goal.loop-i-smaller
-loop-i-smaller c = omega arith
-
 pub loop-i-preserved : goal.loop-i-preserved
 loop-i-preserved c =
     let put = c.put_line-next in

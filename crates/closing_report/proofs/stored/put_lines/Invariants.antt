@@ -8,6 +8,3 @@ use Rattle.closing_report.proofs.stored.put_lines.Given as goal
 
 abbrev pub invariant-loop-i : goal.invariant-loop-i
 invariant-loop-i l = (l.i ≤ l.m) × Left l.initial.out l.at (member_lines 0 (stored_in l.w l.base l.m)) l.out l.next (lines_from l.w l.base l.m l.i)
-
-abbrev pub decreases-loop-i : goal.decreases-loop-i
-decreases-loop-i l = l.m - l.i

@@ -20,12 +20,6 @@ pub put_record-next-requires : goal.put_record-next-requires
 put_record-next-requires c =
     rw c.result_at.ensures (piece_fits records _ _ _ _ c.loop-i.invariant.1 c.loop-i-test.true)
 
-pub overflow_add-i : goal.overflow_add-i
-overflow_add-i c = omega arith
-
-pub loop-i-smaller : goal.loop-i-smaller
-loop-i-smaller c = omega arith
-
 pub loop-i-preserved : goal.loop-i-preserved
 loop-i-preserved c =
     let written = rw c.result_at.ensures at c.put_record-next.ensures in

@@ -10,6 +10,3 @@ use Rattle.factorizations.proofs.records.put_records.Given as goal
 abbrev pub invariant-loop-i : goal.invariant-loop-i
 invariant-loop-i l =
     (l.i ≤ l.m) × Left l.initial.out 0 (results_bytes (stored_in l.w l.base l.m)) l.out l.next (pieces_from records l.w l.base l.m l.i)
-
-abbrev pub decreases-loop-i : goal.decreases-loop-i
-decreases-loop-i l = l.m - l.i

@@ -21,12 +21,6 @@ record_length-total-requires c = tt
 pub overflow_add-total : goal.overflow_add-total
 overflow_add-total c = omega (arith, c.record_length-total.ensures.1)
 
-pub overflow_add-i : goal.overflow_add-i
-overflow_add-i c = omega arith
-
-pub loop-i-smaller : goal.loop-i-smaller
-loop-i-smaller c = omega arith
-
 pub loop-i-preserved : goal.loop-i-preserved
 loop-i-preserved c =
     let counted = c.record_length-total.ensures in

@@ -6,6 +6,3 @@ use Rattle.factorizations.proofs.records.records_length.Given as goal
 
 abbrev pub invariant-loop-i : goal.invariant-loop-i
 invariant-loop-i l = Measured records l.w l.base l.m l.i l.total
-
-abbrev pub decreases-loop-i : goal.decreases-loop-i
-decreases-loop-i l = l.m - l.i

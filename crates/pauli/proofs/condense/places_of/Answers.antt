@@ -26,12 +26,6 @@ with_place-set-requires c = omega (arith, c.place_from-place.ensures, bytes_in c
 pub overflow_add-from : goal.overflow_add-from
 overflow_add-from c = omega (arith, c.place_from-place.ensures, bytes_in c.args.b.now c.args.at c.args.total (take c.args.count c.args.support.now) (condense (take c.args.count c.args.support.now) (set_of (numbers_at c.args.b.now c.args.at c.args.total))) (set_in c.loop-k.set) c.loop-k.from.0 c.loop-k.k c.loop-k.invariant.1 c.loop-k-test.true c.u32_at.result c.u32_at.ensures, length-take-le c.args.count c.args.support.now c.requires.2, c.requires.1)
 
-pub overflow_add-k : goal.overflow_add-k
-overflow_add-k c = omega arith
-
-pub loop-k-smaller : goal.loop-k-smaller
-loop-k-smaller c = omega arith
-
 pub loop-k-preserved : goal.loop-k-preserved
 loop-k-preserved c = (omega arith, bytes_next c.args.b.now c.args.at c.args.total (take c.args.count c.args.support.now) (condense (take c.args.count c.args.support.now) (set_of (numbers_at c.args.b.now c.args.at c.args.total))) (set_in c.loop-k.set) c.loop-k.from.0 c.loop-k.k c.loop-k.invariant.1 c.loop-k-test.true c.u32_at.result c.u32_at.ensures c.place_from-place.result.0 (set_in c.with_place-set.result) c.place_from-place.ensures c.with_place-set.ensures)
 

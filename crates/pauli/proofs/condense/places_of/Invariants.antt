@@ -8,6 +8,3 @@ use Rattle.pauli.proofs.condense.places_of.Given as goal
 
 abbrev pub invariant-loop-k : goal.invariant-loop-k
 invariant-loop-k l = (l.k ≤ l.total) × Placing (numbers_at l.b (l.at + 4 * l.k) (l.total - l.k)) (take l.count l.support) (condense (take l.count l.support) (set_of (numbers_at l.b l.at l.total))) (set_in l.set) l.from.0
-
-abbrev pub decreases-loop-k : goal.decreases-loop-k
-decreases-loop-k l = l.total - l.k

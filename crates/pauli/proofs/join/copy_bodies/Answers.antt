@@ -33,12 +33,6 @@ bounds-out-to c = omega (arith, byte_fits c.args.b.now c.loop-k.k (omega (arith,
 pub overflow_add-to : goal.overflow_add-to
 overflow_add-to c = omega (arith, byte_fits c.args.b.now c.loop-k.k (omega (arith, accepted_length c.args.b.now c.args.n c.requires.0, c.numbers_of.ensures, c.loop-k-test.true)) c.loop-k.invariant.1, c.loop-k.invariant.1.size)
 
-pub overflow_add-k : goal.overflow_add-k
-overflow_add-k c = omega (arith, accepted_length c.args.b.now c.args.n c.requires.0, c.numbers_of.ensures, c.loop-k-test.true)
-
-pub loop-k-smaller : goal.loop-k-smaller
-loop-k-smaller c = omega (arith, c.loop-k-test.true)
-
 pub loop-k-preserved : goal.loop-k-preserved
 loop-k-preserved c = (omega (arith, c.loop-k-test.true), byte_copied c.args.b.now c.loop-k.k (omega (arith, accepted_length c.args.b.now c.args.n c.requires.0, c.numbers_of.ensures, c.loop-k-test.true)) c.loop-k.invariant.1)
 

@@ -31,12 +31,6 @@ pub overflow_add-start-in-loop-i : goal.overflow_add-start-in-loop-i
 unfolding most_paulis
 overflow_add-start-in-loop-i c = omega (arith, accepted_few c.args.b.now c.args.n c.requires.0, c.requires.2, c.loop-i.invariant.1, c.loop-i-test.true, c.entry_at-e.ensures.1, c.entry_at-e.ensures.2)
 
-pub overflow_add-i : goal.overflow_add-i
-overflow_add-i c = omega (arith, c.loop-i-test.true)
-
-pub loop-i-smaller : goal.loop-i-smaller
-loop-i-smaller c = omega (arith, c.loop-i-test.true)
-
 pub loop-i-preserved : goal.loop-i-preserved
 unfolding most_paulis
 loop-i-preserved c = (omega (arith, c.loop-i-test.true), omega (arith, accepted_few c.args.b.now c.args.n c.requires.0, c.requires.2, c.loop-i.invariant.1, c.loop-i-test.true, c.entry_at-e.ensures.1, c.entry_at-e.ensures.2), entry_copied c.args.at c.args.b.now c.args.n c.requires.0 c.loop-i.i c.loop-i-test.true c.entry_at-e.result c.entry_at-e.ensures.0 c.loop-i.start c.loop-i.invariant.2 _ c.put_entry.ensures c.put_entry.auto.out)

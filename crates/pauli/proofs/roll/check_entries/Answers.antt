@@ -27,13 +27,6 @@ pub overflow_add-before-in-loop-i : goal.overflow_add-before-in-loop-i
 unfolding most_paulis
 overflow_add-before-in-loop-i c = omega arith
 
-pub overflow_add-i : goal.overflow_add-i
-unfolding most_paulis
-overflow_add-i c = omega arith
-
-pub loop-i-smaller : goal.loop-i-smaller
-loop-i-smaller c = omega arith
-
 pub loop-i-preserved : goal.loop-i-preserved
 unfolding most_paulis
 loop-i-preserved c = (omega arith, omega arith, c.loop-i.invariant.2 ∙ entry_passes _ _ _ c.loop-i-test.true _ c.entry_at-e.ensures.0 _ c.if-e-gt1.false c.if-e-before.false c.if-e-eq0.false)

@@ -26,12 +26,6 @@ returns-then-number-least c = sym (c.loop-k.invariant.1 ∙ set_falls _ _ _ _ _ 
 pub overflow_add-least : goal.overflow_add-least
 overflow_add-least c = omega arith
 
-pub overflow_add-k : goal.overflow_add-k
-overflow_add-k c = omega arith
-
-pub loop-k-smaller : goal.loop-k-smaller
-loop-k-smaller c = omega arith
-
 pub loop-k-preserved : goal.loop-k-preserved
 unfolding highest_qubit
 loop-k-preserved c = (omega arith, c.loop-k.invariant.1 ∙ set_rises _ _ _ _ _ c.loop-k-test.true _ _ c.u32_at-number.ensures c.if-number-gt-HIGHEST_QUBIT.false c.if-number-least.false)

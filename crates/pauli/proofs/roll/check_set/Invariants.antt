@@ -6,6 +6,3 @@ use Rattle.pauli.proofs.roll.check_set.Given as goal
 
 abbrev pub invariant-loop-k : goal.invariant-loop-k
 invariant-loop-k l = (l.k ≤ l.total) × (check_set l.i 0 (numbers_at l.b l.at l.total) ≡ check_set l.i l.least (numbers_at l.b (l.at + 4 * l.k) (l.total - l.k)))
-
-abbrev pub decreases-loop-k : goal.decreases-loop-k
-decreases-loop-k l = l.total - l.k

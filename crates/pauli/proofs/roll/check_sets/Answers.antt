@@ -42,12 +42,6 @@ overflow_mul-at-in-loop-i c = omega (arith, c.requires, c.loop-i.invariant.0.tab
 pub overflow_add-at-in-loop-i-3 : goal.overflow_add-at-in-loop-i-3
 overflow_add-at-in-loop-i-3 c = omega (arith, c.requires, c.loop-i.invariant.0.table, c.loop-i.invariant.0.bodies, bodies_next c.args.b.now c.args.n c.loop-i.at c.loop-i.i c.loop-i-test.true c.entry_at-e.result c.entry_at-e.ensures.0)
 
-pub overflow_add-i : goal.overflow_add-i
-overflow_add-i c = omega (arith, c.loop-i-test.true)
-
-pub loop-i-smaller : goal.loop-i-smaller
-loop-i-smaller c = omega (arith, c.loop-i-test.true)
-
 pub loop-i-preserved : goal.loop-i-preserved
 loop-i-preserved c = (filled_next _ _ _ _ c.loop-i-test.true _ c.entry_at-e.ensures.0 c.loop-i.invariant.0, c.loop-i.invariant.1 ∙ sets_next _ _ _ _ c.loop-i-test.true _ c.entry_at-e.ensures.0 _ (sym c.check_set-x.ensures ∙ ap told_passed c.in-Passed.is) _ (sym c.check_set-z.ensures ∙ ap told_passed c.in-Passed-z.is))
 

@@ -26,12 +26,6 @@ pub note-met-requires : goal.note-met-requires
 unfolding most_qubits
 note-met-requires c = (omega arith, omega (arith, c.requires.2, c.loop-i.invariant.size), rw c.walk_start.ensures (walk_from _ _ _ c.loop-i.invariant.walk _), c.loop-i.invariant.rises)
 
-pub overflow_add-i : goal.overflow_add-i
-overflow_add-i c = omega (arith, c.loop-i-test.true)
-
-pub loop-i-smaller : goal.loop-i-smaller
-loop-i-smaller c = omega (arith, c.loop-i-test.true)
-
 pub loop-i-preserved : goal.loop-i-preserved
 unfolding most_qubits
 loop-i-preserved c = walking_next _ _ _ _ _ c.requires.2 _ _ _ _ _ c.loop-i.invariant c.loop-i-test.true _ c.u32_at.ensures _ _ _ (omega (arith, c.if-n-gt-MOST_QUBITS.false)) c.note-met.auto.known c.note-met.ensures

@@ -17,12 +17,6 @@ offset_bounds-known-i-in-loop-i c = omega arith
 pub bounds-known-i-in-loop-i : goal.bounds-known-i-in-loop-i
 bounds-known-i-in-loop-i c = omega arith
 
-pub overflow_add-i : goal.overflow_add-i
-overflow_add-i c = omega arith
-
-pub loop-i-smaller : goal.loop-i-smaller
-loop-i-smaller c = omega arith
-
 pub loop-i-preserved : goal.loop-i-preserved
 loop-i-preserved c = (omega arith, simp length-set c.loop-i.invariant.1, c.loop-i.invariant.2 ∙ inserted_step c.loop-i.known c.args.count (omega arith) c.loop-i.i c.loop-i.next c.loop-i-test.true)
 

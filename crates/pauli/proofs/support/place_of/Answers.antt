@@ -14,12 +14,6 @@ bounds-known-i c = omega arith
 pub returns-then-known-i : goal.returns-then-known-i
 returns-then-known-i c = omega (arith, place_hit c.args.known.now c.args.count c.args.q.0 c.requires c.loop-i.i c.loop-i-test.true c.if-known-i.true)
 
-pub overflow_add-i : goal.overflow_add-i
-overflow_add-i c = omega arith
-
-pub loop-i-smaller : goal.loop-i-smaller
-loop-i-smaller c = omega arith
-
 pub loop-i-preserved : goal.loop-i-preserved
 loop-i-preserved c = (omega arith, place_miss c.args.known.now c.args.count c.args.q.0 c.requires c.loop-i.i c.loop-i-test.true c.loop-i.invariant.1 c.if-known-i.false)
 

@@ -21,12 +21,6 @@ overflow_add-total c = omega (arith, c.weight.ensures.1, c.weight-in-loop-i.ensu
 pub overflow_add-total-in-loop-i : goal.overflow_add-total-in-loop-i
 overflow_add-total-in-loop-i c = omega (arith, c.weight.ensures.1, c.weight-in-loop-i.ensures.1)
 
-pub overflow_add-i : goal.overflow_add-i
-overflow_add-i c = omega arith
-
-pub loop-i-smaller : goal.loop-i-smaller
-loop-i-smaller c = omega arith
-
 pub loop-i-preserved : goal.loop-i-preserved
 loop-i-preserved c = (omega arith, omega (arith, c.weight.ensures.1, c.weight-in-loop-i.ensures.1), c.loop-i.invariant.2 ∙ numbers_step c.args.w.now c.args.base c.args.n c.loop-i.i c.loop-i-test.true c.load-p.result (loaded c.load-p.result (pauli_in c.args.w.now (c.args.base + 5 * c.loop-i.i)) c.load-p.ensures) c.weight.result c.weight-in-loop-i.result c.loop-i.total c.weight.ensures.0 c.weight-in-loop-i.ensures.0)
 

@@ -24,12 +24,6 @@ put_set-middle-requires c = (c.requires.1, c.requires.2, body_room c.args.w.now 
 pub put_set-next-requires : goal.put_set-next-requires
 put_set-next-requires c = (c.requires.1, c.requires.2, rw c.put_set-middle.ensures.next (body_room_z c.args.w.now c.args.base c.args.n (take c.args.count c.args.support.now) c.loop-i.i c.loop-i-test.true c.load-p.result (loaded c.load-p.result (pauli_in c.args.w.now (c.args.base + 5 * c.loop-i.i)) c.load-p.ensures) c.loop-i.invariant.1 _ c.put_set-middle.ensures.left c.put_set-middle.auto.out))
 
-pub overflow_add-i : goal.overflow_add-i
-overflow_add-i c = omega arith
-
-pub loop-i-smaller : goal.loop-i-smaller
-loop-i-smaller c = omega arith
-
 pub loop-i-preserved : goal.loop-i-preserved
 loop-i-preserved c = (omega arith, body_step c.args.w.now c.args.base c.args.n (take c.args.count c.args.support.now) c.loop-i.i c.loop-i-test.true c.load-p.result (loaded c.load-p.result (pauli_in c.args.w.now (c.args.base + 5 * c.loop-i.i)) c.load-p.ensures) c.loop-i.invariant.1 _ c.put_set-middle.ensures.left c.put_set-middle.auto.out _ c.put_set-middle.ensures.next _ c.put_set-next.ensures.left c.put_set-next.auto.out _ c.put_set-next.ensures.next)
 

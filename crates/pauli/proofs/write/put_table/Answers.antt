@@ -35,12 +35,6 @@ overflow_add-before c = omega (arith, c.weight-xcount.ensures.1, c.weight-zcount
 pub overflow_add-before-in-loop-i : goal.overflow_add-before-in-loop-i
 overflow_add-before-in-loop-i c = omega (arith, c.weight-xcount.ensures.1, c.weight-zcount.ensures.1)
 
-pub overflow_add-i-in-loop-i : goal.overflow_add-i-in-loop-i
-overflow_add-i-in-loop-i c = omega arith
-
-pub loop-i-smaller : goal.loop-i-smaller
-loop-i-smaller c = omega arith
-
 pub loop-i-preserved : goal.loop-i-preserved
 loop-i-preserved c = (omega arith, omega (arith, c.weight-xcount.ensures.1, c.weight-zcount.ensures.1), table_step c.args.w.now c.args.base c.args.n c.loop-i.i c.loop-i.before c.loop-i-test.true c.load-p.result (loaded c.load-p.result (pauli_in c.args.w.now (c.args.base + 5 * c.loop-i.i)) c.load-p.ensures) c.weight-xcount.result c.weight-zcount.result c.weight-xcount.ensures.0 c.weight-zcount.ensures.0 c.loop-i.invariant.2 _ c.put_entry.ensures c.put_entry.auto.out)
 

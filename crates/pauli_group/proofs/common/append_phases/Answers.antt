@@ -30,12 +30,6 @@ put_phase-requires c = omega (arith, c.loop-k.invariant.few, c.loop-k.invariant.
 pub overflow_add-total-then-k-a-eq0 : goal.overflow_add-total-then-k-a-eq0
 overflow_add-total-then-k-a-eq0 c = omega (arith, c.loop-k.invariant.few, c.loop-k.invariant.within, c.requires.1)
 
-pub overflow_add-k-in-loop-k : goal.overflow_add-k-in-loop-k
-overflow_add-k-in-loop-k c = omega arith
-
-pub loop-k-smaller : goal.loop-k-smaller
-loop-k-smaller c = omega arith
-
 pub loop-k-preserved : goal.loop-k-preserved
 loop-k-preserved c = let l = c.loop-k in
     elim c.if-k-a-eq0.branch [

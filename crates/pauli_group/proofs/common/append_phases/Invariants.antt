@@ -5,6 +5,3 @@ use Rattle.pauli_group.proofs.common.append_phases.Given as goal
 
 abbrev pub invariant-loop-k : goal.invariant-loop-k
 invariant-loop-k l = PhasesUpTo l.a l.b l.n l.initial.w l.k l.total l.w
-
-abbrev pub decreases-loop-k : goal.decreases-loop-k
-decreases-loop-k l = 4 - l.k

@@ -42,12 +42,6 @@ store-requires c = omega (arith, c.requires.0, c.requires.1, c.loop-i.invariant.
 pub overflow_add-kept-then-e-lt4 : goal.overflow_add-kept-then-e-lt4
 overflow_add-kept-then-e-lt4 c = omega (arith, c.requires.1, c.loop-i.invariant.low, c.loop-i.invariant.within)
 
-pub overflow_add-i : goal.overflow_add-i
-overflow_add-i c = omega arith
-
-pub loop-i-smaller : goal.loop-i-smaller
-loop-i-smaller c = omega arith
-
 pub loop-i-preserved : goal.loop-i-preserved
 loop-i-preserved c = let l = c.loop-i in
     let found = found_noted c.args.a c.args.b c.args.m c.args.w.now l.w (2368 + 5 * l.i) _ c.shared_exponent-e.ensures in

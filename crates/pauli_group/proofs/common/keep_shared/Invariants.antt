@@ -5,6 +5,3 @@ use Rattle.pauli_group.proofs.common.keep_shared.Given as goal
 
 abbrev pub invariant-loop-i : goal.invariant-loop-i
 invariant-loop-i l = KeptUpTo l.a l.b l.m l.initial.w l.i l.kept l.w
-
-abbrev pub decreases-loop-i : goal.decreases-loop-i
-decreases-loop-i l = l.m - l.i

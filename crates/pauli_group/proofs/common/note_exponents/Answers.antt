@@ -35,12 +35,6 @@ offset_bounds-w-at-in-loop-i c = omega arith
 pub bounds-w-at-in-loop-i : goal.bounds-w-at-in-loop-i
 bounds-w-at-in-loop-i c = omega (arith, c.requires.0, c.requires.1, c.exponent_of-e.ensures.rest.size, c.loop-i.invariant.1.size, c.loop-i-test.true)
 
-pub overflow_add-i : goal.overflow_add-i
-overflow_add-i c = omega arith
-
-pub loop-i-smaller : goal.loop-i-smaller
-loop-i-smaller c = omega arith
-
 pub loop-i-preserved : goal.loop-i-preserved
 loop-i-preserved c =
     let l = c.loop-i in

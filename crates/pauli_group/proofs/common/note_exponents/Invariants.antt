@@ -6,6 +6,3 @@ use Rattle.pauli_group.proofs.common.note_exponents.Given as goal
 
 abbrev pub invariant-loop-i : goal.invariant-loop-i
 invariant-loop-i l = (l.i ≤ l.m) × NotedUpTo (λ p. noted (exponent_over (take l.size l.joint) (take l.group.places l.own) l.n l.group.places l.initial.w p) p) l.initial.w l.i l.w
-
-abbrev pub decreases-loop-i : goal.decreases-loop-i
-decreases-loop-i l = l.m - l.i

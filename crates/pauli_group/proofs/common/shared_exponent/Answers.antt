@@ -29,12 +29,6 @@ overflow_add-e-in-loop-e-2 c = let l = c.loop-e in omega (arith, mod_le ((l.e + 
 pub returns-then-e-u-eq0 : goal.returns-then-e-u-eq0
 returns-then-e-u-eq0 c = shared_hit _ _ _ _ _ c.loop-e-test.true c.loop-e.invariant.1 c.if-e-u-eq0.true
 
-pub overflow_add-e-in-loop-e-3 : goal.overflow_add-e-in-loop-e-3
-overflow_add-e-in-loop-e-3 c = omega arith
-
-pub loop-e-smaller : goal.loop-e-smaller
-loop-e-smaller c = omega arith
-
 pub loop-e-preserved : goal.loop-e-preserved
 loop-e-preserved c = (omega arith, shared_miss _ _ _ _ _ c.loop-e-test.true c.loop-e.invariant.1 c.if-e-u-eq0.false)
 

@@ -5,6 +5,3 @@ use Rattle.pauli_group.proofs.common.shared_exponent.Given as goal
 
 abbrev pub invariant-loop-e : goal.invariant-loop-e
 invariant-loop-e l = (l.e ≤ 4) × SharedFrom l.a l.b l.u l.v l.e
-
-abbrev pub decreases-loop-e : goal.decreases-loop-e
-decreases-loop-e l = 4 - l.e

@@ -33,12 +33,6 @@ indexed_product-requires c = (omega (arith, c.requires.5, c.loop-i.invariant.1.r
 pub store-requires : goal.store-requires
 store-requires c = omega (arith, c.requires.6, c.loop-i.invariant.1.rest.size)
 
-pub overflow_add-i : goal.overflow_add-i
-overflow_add-i c = omega arith
-
-pub loop-i-smaller : goal.loop-i-smaller
-loop-i-smaller c = omega arith
-
 pub loop-i-preserved : goal.loop-i-preserved
 loop-i-preserved c =
     let l = c.loop-i in

@@ -9,6 +9,3 @@ use Rattle.pauli_group.proofs.form.put_products.Given as goal
 
 abbrev pub invariant-loop-i : goal.invariant-loop-i
 invariant-loop-i l = (l.i ≤ l.count) × StoredUpTo (λ v. indexed_product (v / 2 ^ (64 * row_words)) (list_in l.initial.w l.base l.m)) (take l.count (drop l.first (matrix (stride_of l.n) l.n l.initial.w))) l.to l.count l.initial.w l.i l.w
-
-abbrev pub decreases-loop-i : goal.decreases-loop-i
-decreases-loop-i l = l.count - l.i

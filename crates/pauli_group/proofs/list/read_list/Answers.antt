@@ -21,12 +21,6 @@ condense_from-requires c =
 pub store-requires : goal.store-requires
 store-requires c = omega (arith, c.loop-i.invariant.1.rest.size)
 
-pub overflow_add-i : goal.overflow_add-i
-overflow_add-i c = omega arith
-
-pub loop-i-smaller : goal.loop-i-smaller
-loop-i-smaller c = omega arith
-
 pub loop-i-preserved : goal.loop-i-preserved
 unfolding over_places
 loop-i-preserved c =

@@ -7,6 +7,3 @@ use Rattle.pauli_group.proofs.list.read_list.Given as goal
 
 abbrev pub invariant-loop-i : goal.invariant-loop-i
 invariant-loop-i l = (l.i ≤ l.n) × StoredUpTo (over_places (take l.count l.support)) (list_of l.b) l.base l.n l.initial.w l.i l.w
-
-abbrev pub decreases-loop-i : goal.decreases-loop-i
-decreases-loop-i l = l.n - l.i

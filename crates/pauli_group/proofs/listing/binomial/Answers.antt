@@ -15,12 +15,6 @@ slice_bounds-next_row-end c = sym c.loop-i.invariant.1.size
 pub next_row-requires : goal.next_row-requires
 next_row-requires c = (c.loop-i.invariant.1, omega arith)
 
-pub overflow_add-i : goal.overflow_add-i
-overflow_add-i c = omega arith
-
-pub loop-i-smaller : goal.loop-i-smaller
-loop-i-smaller c = omega arith
-
 pub loop-i-preserved : goal.loop-i-preserved
 loop-i-preserved c = (omega arith, c.next_row.ensures)
 

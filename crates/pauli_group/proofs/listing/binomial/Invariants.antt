@@ -5,6 +5,3 @@ use Rattle.pauli_group.proofs.listing.binomial.Given as goal
 
 abbrev pub invariant-loop-i : goal.invariant-loop-i
 invariant-loop-i l = (l.i ≤ l.n) × RowOf l.i l.row
-
-abbrev pub decreases-loop-i : goal.decreases-loop-i
-decreases-loop-i l = l.n - l.i

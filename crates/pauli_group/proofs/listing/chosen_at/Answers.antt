@@ -15,12 +15,6 @@ overflow_sub-n-in-loop-p c = omega arith
 pub choose-c-requires : goal.choose-c-requires
 choose-c-requires c = (omega arith, c.loop-p.invariant.1, c.loop-p.invariant.2)
 
-pub overflow_add-p : goal.overflow_add-p
-overflow_add-p c = omega arith
-
-pub loop-p-smaller : goal.loop-p-smaller
-loop-p-smaller c = omega arith
-
 pub loop-p-preserved : goal.loop-p-preserved
 loop-p-preserved c = let e : c.args.n - (c.loop-p.p + 1) ≡ c.args.n - c.loop-p.p - 1 = omega arith in (omega arith, c.choose-c.ensures.small.0, c.choose-c.ensures.small.1, rw e (c.choose-c.ensures.same ∙ ap (λ (v : ℕ). c.loop-p.c.bits + 2 ^ c.loop-p.p * v) (choice_next _ _ _ _ c.loop-p-test.true) ∙ c.loop-p.invariant.3))
 

@@ -5,6 +5,3 @@ use Rattle.pauli_group.proofs.listing.chosen_at.Given as goal
 
 abbrev pub invariant-loop-p : goal.invariant-loop-p
 invariant-loop-p l = (l.p ≤ l.n) × (l.c.size ≤ 16) × (l.c.bits < 2 ^ l.p) × (l.c.bits + 2 ^ l.p * chosen_at (l.n - l.p) l.c.size l.c.number ≡ chosen_at l.n l.k l.i)
-
-abbrev pub decreases-loop-p : goal.decreases-loop-p
-decreases-loop-p l = l.n - l.p

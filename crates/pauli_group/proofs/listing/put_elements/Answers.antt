@@ -41,12 +41,6 @@ overflow_add-i c = omega arith
 pub store-requires : goal.store-requires
 store-requires c = omega (arith, c.loop-i.invariant.1.rest.size)
 
-pub overflow_add-i-in-loop-i : goal.overflow_add-i-in-loop-i
-overflow_add-i-in-loop-i c = omega arith
-
-pub loop-i-smaller : goal.loop-i-smaller
-loop-i-smaller c = omega arith
-
 pub loop-i-preserved : goal.loop-i-preserved
 loop-i-preserved c = (omega arith, listed_next _ _ _ _ _ _ _ c.loop-i.invariant.1 c.requires.0 c.requires.1 c.requires.4 c.loop-i-test.true _ c.subset_at-set.ensures _ c.indexed_product-product.ensures _ c.wrapping_add_u8-exponent.ensures.value _ c.store.ensures)
 

@@ -14,12 +14,6 @@ chosen_at-requires c = omega arith
 pub returns-then-number-of_size : goal.returns-then-number-of_size
 returns-then-number-of_size c = c.chosen_at.ensures ∙ sym (c.loop-k.invariant.1 ∙ size_hit _ _ _ c.loop-k-test.true (rw (← c.binomial-of_size.ensures) c.if-number-of_size.true))
 
-pub overflow_add-k : goal.overflow_add-k
-overflow_add-k c = omega arith
-
-pub loop-k-smaller : goal.loop-k-smaller
-loop-k-smaller c = omega arith
-
 pub loop-k-preserved : goal.loop-k-preserved
 loop-k-preserved c = (omega arith, c.loop-k.invariant.1 ∙ rw c.binomial-of_size.ensures (size_miss _ _ _ c.loop-k-test.true (rw (← c.binomial-of_size.ensures) c.if-number-of_size.false)))
 

@@ -5,6 +5,3 @@ use Rattle.pauli_group.proofs.listing.subset_at.Given as goal
 
 abbrev pub invariant-loop-k : goal.invariant-loop-k
 invariant-loop-k l = (l.k ≤ l.n) × (subset_at l.n l.i ≡ of_sizes_at (l.n - l.k) l.n l.k l.number)
-
-abbrev pub decreases-loop-k : goal.decreases-loop-k
-decreases-loop-k l = l.n - l.k

@@ -37,12 +37,6 @@ returns-then-met-q c =
 pub overflow_add-from : goal.overflow_add-from
 overflow_add-from c = omega arith
 
-pub overflow_add-k : goal.overflow_add-k
-overflow_add-k c = omega arith
-
-pub loop-k-smaller : goal.loop-k-smaller
-loop-k-smaller c = omega arith
-
 pub loop-k-preserved : goal.loop-k-preserved
 loop-k-preserved c =
     let size = length-take-le c.args.count c.args.support.now c.requires.1 in

@@ -5,6 +5,3 @@ use Rattle.pauli_group.proofs.member.covers.Given as goal
 
 abbrev pub invariant-loop-k : goal.invariant-loop-k
 invariant-loop-k l = CoveredFrom (take l.count l.support) l.b l.at l.total l.from.0 l.last.0 l.k
-
-abbrev pub decreases-loop-k : goal.decreases-loop-k
-decreases-loop-k l = l.total - l.k

@@ -63,12 +63,6 @@ multiply_at-requires c =
       place_few _ _ _ _ _ _ _ _ c.requires.3 c.requires.6 c.requires.0 _ _ c.loop-k.invariant c.loop-k-test.true _ _ at refl _ c.load-other.ensures _ c.move_pauli-moved.ensures _ _ c.place_of-place.ensures c.qubit_at.ensures (omega (arith, size, c.requires.4)),
     )
 
-pub overflow_add-k-in-loop-k : goal.overflow_add-k-in-loop-k
-overflow_add-k-in-loop-k c = omega (arith, c.requires.6.fits, c.requires.6.few, c.loop-k-test.true)
-
-pub loop-k-smaller : goal.loop-k-smaller
-loop-k-smaller c = omega arith
-
 pub loop-k-preserved : goal.loop-k-preserved
 loop-k-preserved c =
     let at = ap (c.args.n *◌) c.stride_of.ensures in

@@ -4,7 +4,4 @@ use Rattle.pauli_group.proofs.modulo.RemainderLaws.{MultipliedUpTo}
 use Rattle.pauli_group.proofs.modulo.multiply_all.Given as goal
 
 abbrev pub invariant-loop-k : goal.invariant-loop-k
-invariant-loop-k l = MultipliedUpTo (take l.places l.own) (take l.size l.joined) l.initial.w l.n l.group.rank l.group.total l.m l.k l.w
-
-abbrev pub decreases-loop-k : goal.decreases-loop-k
-decreases-loop-k l = l.group.rank - l.k
+invariant-loop-k l = MultipliedUpTo (take l.places l.own) (take l.size l.joined) l.initial.w l.n l.fn.group.rank l.fn.group.total l.m l.k l.w

@@ -26,12 +26,6 @@ overflow_add-base-in-loop-i c = omega arith
 pub store-requires : goal.store-requires
 store-requires c = omega (arith, c.loop-i.invariant.2.size, c.requires.0)
 
-pub overflow_add-i : goal.overflow_add-i
-overflow_add-i c = omega arith
-
-pub loop-i-smaller : goal.loop-i-smaller
-loop-i-smaller c = omega arith
-
 pub loop-i-preserved : goal.loop-i-preserved
 loop-i-preserved c =
     let l = c.loop-i in

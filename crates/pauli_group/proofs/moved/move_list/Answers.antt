@@ -32,12 +32,6 @@ move_pauli-requires c =
 pub store-requires : goal.store-requires
 store-requires c = omega (arith, c.loop-i.invariant.1.rest.size, c.requires.1)
 
-pub overflow_add-i : goal.overflow_add-i
-overflow_add-i c = omega arith
-
-pub loop-i-smaller : goal.loop-i-smaller
-loop-i-smaller c = omega arith
-
 pub loop-i-preserved : goal.loop-i-preserved
 loop-i-preserved c =
     let l = c.loop-i in

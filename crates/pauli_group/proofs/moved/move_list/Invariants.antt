@@ -8,6 +8,3 @@ use Rattle.pauli_group.proofs.moved.move_list.Given as goal
 
 abbrev pub invariant-loop-i : goal.invariant-loop-i
 invariant-loop-i l = (l.i ≤ l.n) × StoredUpTo (λ p. normal (moved_pauli (take l.count l.own) (take l.size l.joined) p)) (list_in l.initial.w l.base l.n) l.to l.n l.initial.w l.i l.w
-
-abbrev pub decreases-loop-i : goal.decreases-loop-i
-decreases-loop-i l = l.n - l.i

@@ -50,12 +50,6 @@ put_row-requires c =
     _ c.load.ensures in
     (omega (arith, in_rows, c.requires.0, c.requires.1, rest.size), c.requires.3, on.0, on.1)
 
-pub overflow_add-i : goal.overflow_add-i
-overflow_add-i c = omega arith
-
-pub loop-i-smaller : goal.loop-i-smaller
-loop-i-smaller c = omega arith
-
 pub loop-i-preserved : goal.loop-i-preserved
 loop-i-preserved c =
     let next =

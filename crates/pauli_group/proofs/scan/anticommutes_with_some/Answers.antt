@@ -24,12 +24,6 @@ returns-then-anticommutes-eq1 c =
     from_hit (with_some_lem (held c.args.p)) c.loop-i.invariant c.loop-i-test.true load.result load.ensures
     (omega (arith, c.anticommutes.ensures, c.if-anticommutes-eq1.true))
 
-pub overflow_add-i : goal.overflow_add-i
-overflow_add-i c = omega arith
-
-pub loop-i-smaller : goal.loop-i-smaller
-loop-i-smaller c = omega arith
-
 pub loop-i-preserved : goal.loop-i-preserved
 loop-i-preserved c =
     let load = c.load in

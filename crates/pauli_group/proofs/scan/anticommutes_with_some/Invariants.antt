@@ -7,6 +7,3 @@ use Rattle.pauli_group.proofs.scan.anticommutes_with_some.Given as goal
 
 abbrev pub invariant-loop-i : goal.invariant-loop-i
 invariant-loop-i l = From (anticommutes_with_some (held l.p)) l.w l.base l.n l.i
-
-abbrev pub decreases-loop-i : goal.decreases-loop-i
-decreases-loop-i l = l.n - l.i

@@ -21,12 +21,6 @@ bounds-w-base c = omega arith
 pub returns-then-e-eq1 : goal.returns-then-e-eq1
 returns-then-e-eq1 c = lowered_odd c.loop-i.invariant c.loop-i-test.true c.if-e-eq1.true
 
-pub overflow_add-i : goal.overflow_add-i
-overflow_add-i c = omega arith
-
-pub loop-i-smaller : goal.loop-i-smaller
-loop-i-smaller c = omega arith
-
 pub loop-i-preserved : goal.loop-i-preserved
 loop-i-preserved c = let inside = c.loop-i-test.true in
     let even = c.if-e-eq1.false in

@@ -5,6 +5,3 @@ use Rattle.pauli_group.proofs.scan.modulus_of.Given as goal
 
 abbrev pub invariant-loop-i : goal.invariant-loop-i
 invariant-loop-i l = Lowered l.w l.base l.n l.m l.i
-
-abbrev pub decreases-loop-i : goal.decreases-loop-i
-decreases-loop-i l = l.n - l.i

@@ -36,12 +36,6 @@ returns-then-anticommutes_with_some-eq1 c = let load = c.load in
     from_hit two_anticommute c.loop-i.invariant c.loop-i-test.true load.result load.ensures
     (omega (arith, behind, c.if-anticommutes_with_some-eq1.true))
 
-pub overflow_add-i : goal.overflow_add-i
-overflow_add-i c = omega arith
-
-pub loop-i-smaller : goal.loop-i-smaller
-loop-i-smaller c = omega arith
-
 pub loop-i-preserved : goal.loop-i-preserved
 loop-i-preserved c = let load = c.load in
     let behind : c.anticommutes_with_some.result ≡ anticommutes_with_some (held load.result) (list_from c.args.w.now c.args.base c.args.n (c.loop-i.i + 1)) = c.anticommutes_with_some.ensures ∙ ap (anticommutes_with_some (held c.load.result)) (list_behind c.args.w.now c.args.base c.args.n c.loop-i.i) in

@@ -23,12 +23,6 @@ returns-then-p-eq1 c =
     from_hit search_imaginary c.loop-i.invariant c.loop-i-test.true load.result load.ensures
     (odd_hit load.result (sym c.weight.ensures ∙ c.if-weight-eq0.true) c.if-p-eq1.true)
 
-pub overflow_add-i : goal.overflow_add-i
-overflow_add-i c = omega arith
-
-pub loop-i-smaller : goal.loop-i-smaller
-loop-i-smaller c = omega arith
-
 pub loop-i-preserved : goal.loop-i-preserved
 loop-i-preserved c = let load = c.load-p in
     from_miss search_imaginary c.loop-i.invariant c.loop-i-test.true load.result load.ensures

@@ -6,6 +6,3 @@ use Rattle.pauli_group.proofs.scan.some_minus.Given as goal
 
 abbrev pub invariant-loop-i : goal.invariant-loop-i
 invariant-loop-i l = From some_minus l.w l.base l.n l.i
-
-abbrev pub decreases-loop-i : goal.decreases-loop-i
-decreases-loop-i l = l.n - l.i

@@ -22,12 +22,6 @@ returns-then-not-is_order_two c =
     from_hit order_four_lem c.loop-i.invariant c.loop-i-test.true load.result load.ensures
     (more_than _ (eqb-false _ 0 (sym c.is_order_two.ensures ∙ c.if-not-is_order_two.true)))
 
-pub overflow_add-i : goal.overflow_add-i
-overflow_add-i c = omega arith
-
-pub loop-i-smaller : goal.loop-i-smaller
-loop-i-smaller c = omega arith
-
 pub loop-i-preserved : goal.loop-i-preserved
 loop-i-preserved c =
     let load = c.load in

@@ -6,6 +6,3 @@ use Rattle.pauli_group.proofs.scan.some_order_four.Given as goal
 
 abbrev pub invariant-loop-i : goal.invariant-loop-i
 invariant-loop-i l = From some_order_four l.w l.base l.n l.i
-
-abbrev pub decreases-loop-i : goal.decreases-loop-i
-decreases-loop-i l = l.n - l.i

@@ -32,12 +32,6 @@ offset_bounds-w-base-in-loop-i c = omega arith
 pub bounds-w-base-in-loop-i : goal.bounds-w-base-in-loop-i
 bounds-w-base-in-loop-i c = omega (arith, c.loop-i.invariant.rest.size)
 
-pub overflow_add-i : goal.overflow_add-i
-overflow_add-i c = omega arith
-
-pub loop-i-smaller : goal.loop-i-smaller
-loop-i-smaller c = omega arith
-
 pub loop-i-preserved : goal.loop-i-preserved
 loop-i-preserved c = taken_step c.loop-i.invariant c.loop-i-test.true c.requires.0
 

@@ -5,6 +5,3 @@ use Rattle.pauli_group.proofs.scan.take_mod.Given as goal
 
 abbrev pub invariant-loop-i : goal.invariant-loop-i
 invariant-loop-i l = Taken l.initial.w l.base l.n l.m l.w l.i
-
-abbrev pub decreases-loop-i : goal.decreases-loop-i
-decreases-loop-i l = l.n - l.i

@@ -36,12 +36,6 @@ times_if-requires c = omega arith
 pub store-requires : goal.store-requires
 store-requires c = omega (arith, c.loop-i.invariant.2.size)
 
-pub overflow_add-i : goal.overflow_add-i
-overflow_add-i c = omega arith
-
-pub loop-i-smaller : goal.loop-i-smaller
-loop-i-smaller c = omega arith
-
 pub loop-i-preserved : goal.loop-i-preserved
 loop-i-preserved c = let loop = c.loop-i in
     let load = c.load-g in

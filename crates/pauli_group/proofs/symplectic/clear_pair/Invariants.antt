@@ -9,6 +9,3 @@ use Rattle.pauli_group.proofs.symplectic.clear_pair.Given as goal
 
 abbrev pub invariant-loop-i : goal.invariant-loop-i
 invariant-loop-i l = (l.i ≤ l.n) × StoredUpTo normal (cleared l.k (held l.x) (held l.z) (list_in l.initial.w l.base l.n)) l.base l.n l.initial.w l.i l.w × Outside l.base (5 * l.i) l.initial.w l.w
-
-abbrev pub decreases-loop-i : goal.decreases-loop-i
-decreases-loop-i l = l.n - l.i

@@ -26,12 +26,6 @@ load-requires c = omega (arith, c.loop-i.invariant.1.rest.size)
 pub store-requires : goal.store-requires
 store-requires c = omega (arith, c.loop-i.invariant.1.rest.size)
 
-pub overflow_add-i : goal.overflow_add-i
-overflow_add-i c = omega arith
-
-pub loop-i-smaller : goal.loop-i-smaller
-loop-i-smaller c = omega arith
-
 pub loop-i-preserved : goal.loop-i-preserved
 loop-i-preserved c = let loop = c.loop-i in
     let w = c.args.w.now in let from = c.args.from in let n = c.args.n in (

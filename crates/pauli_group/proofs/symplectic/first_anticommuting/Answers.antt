@@ -23,12 +23,6 @@ pub returns-then-anticommutes-eq1 : goal.returns-then-anticommutes-eq1
 returns-then-anticommutes-eq1 c = let load = c.load in
     first_hit c.loop-i.invariant c.loop-i-test.true load.result load.ensures (sym c.anticommutes.ensures ∙ c.if-anticommutes-eq1.true)
 
-pub overflow_add-i : goal.overflow_add-i
-overflow_add-i c = omega arith
-
-pub loop-i-smaller : goal.loop-i-smaller
-loop-i-smaller c = omega arith
-
 pub loop-i-preserved : goal.loop-i-preserved
 loop-i-preserved c = let load = c.load in
     first_miss c.loop-i.invariant c.loop-i-test.true load.result load.ensures
