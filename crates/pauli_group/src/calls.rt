@@ -10,7 +10,7 @@ ghost use Rattle.pauli_group.specs.Answers.{told_decided};
 ghost use Rattle.pauli_group.specs.WorkArea.{cleared};
 ghost use Rattle.pauli_group.specs.Calls.{paulis, standard_bytes};
 ghost use Rattle.pauli_group.specs.Inner.Groups.{DescriptionCall};
-ghost use Rattle.pauli_group.specs.Inner.Lists.{step_told};
+ghost use Rattle.pauli_group.specs.Inner.Lists.{one_if, step_told};
 ghost use Rattle.pauli_group.specs.CallContracts.{StandardCall, RankCall, PhasesCall, AbelianCall, StabilizerCall, SizeCall};
 
 use crate::answers::{Decided, Phases, PhasesFound, RankFound, SizeFound};
@@ -110,12 +110,11 @@ pub fn phases(b: &[u8], promise: Promise, work: &mut [u64]) -> PhasesFound
     }
 }
 
-// Yes for 1.
-fn decided(n: u64) -> Decided
-    requires { n ≤ 1 }
-    ensures { told_decided result ≡ answer n }
+// Yes where it holds.
+fn decided(holds: bool) -> Decided
+    ensures { told_decided result ≡ answer (one_if holds) }
 {
-    if n == 1 {
+    if holds {
         return Decided::Yes;
     }
     Decided::No
@@ -128,7 +127,7 @@ pub fn is_abelian(b: &[u8], promise: Promise, work: &mut [u64]) -> Decided
     let found = describe_list(b, promise, work);
     match found {
         DescriptionFound::Refused(r) => Decided::Refused(r),
-        DescriptionFound::Description(d) => decided(1 - d.clash),
+        DescriptionFound::Description(d) => decided(!d.clash),
     }
 }
 

@@ -31,13 +31,14 @@ pub struct Group {
     pub total: usize,
 }
 
-// What the calls tell of a group: its rank, the step between its phases, and 1 or 0 for not abelian and for a stabilizer group.
+// What the calls tell of a group: its rank, the step between its phases, whether it is not abelian, and whether it is
+// a stabilizer group.
 #[derive(Clone, Copy)]
 pub struct Description {
     pub rank: usize,
     pub step: u64,
-    pub clash: u64,
-    pub stabilizer: u64,
+    pub clash: bool,
+    pub stabilizer: bool,
 }
 
 // Makes the form and the standard generators of the n generators over s places.

@@ -1,5 +1,5 @@
 -- Laws of the calls on one list: what they pick from the description, and the standard generators written.
-use Rattle.std.proofs.Common.{◌≡◌, ℕ, zero, suc, ◌+◌, ◌-◌, ◌/◌, ◌≤◌, List, [], ◌∷◌, length, take, sym, refl, ap, ◌∙◌, ap₂, arith}
+use Rattle.std.proofs.Common.{◌≡◌, Bool, not, ℕ, ◌+◌, ◌-◌, ◌/◌, List, [], ◌∷◌, length, take, sym, refl, ap, ◌∙◌, ap₂, arith}
 use Rattle.pauli.specs.Pauli.{Pauli}
 use Rattle.pauli.specs.Signed.{list_in}
 use Rattle.pauli.specs.declared.refusal.Refusal.{Refusal}
@@ -17,7 +17,7 @@ use Rattle.pauli_group.specs.Inner.Area.{standard_at}
 use Rattle.pauli_group.specs.declared.answers.Phases.{Phases}
 use Rattle.pauli_group.specs.declared.answers.Phases.TheVariants.{Zero, ZeroTwo, All}
 use Rattle.pauli_group.specs.Answers.{phases_told}
-use Rattle.pauli_group.specs.Inner.Lists.{step_told}
+use Rattle.pauli_group.specs.Inner.Lists.{one_if, step_told}
 use Rattle.pauli_group.specs.declared.group.Description.{Description}
 use Rattle.pauli_group.specs.declared.calls.DescriptionFound.{DescriptionFound}
 use Rattle.pauli_group.specs.declared.calls.DescriptionFound.TheVariants.{Description as DescriptionTold, Refused as DescriptionRefused}
@@ -25,17 +25,12 @@ use Rattle.pauli_group.specs.Inner.Groups.{facts_of, facts_in, told_facts, over_
 use Rattle.pauli_group.specs.Calls.{paulis, one_list, standard_bytes}
 use Rattle.pauli_group.proofs.checks.OneList.{Given, given}
 use Rattle.pauli_group.proofs.group.GroupLaws.{Described, facts_told}
-use Rattle.pauli_group.proofs.group.GroupedLaws.{nonabelian_le}
+use Rattle.pauli_group.proofs.standard.StandardLaws.{one_if_not}
 
 -- what the code makes of the description
-pub abelian_told : (promise : Promise) (gs : List Pauli) (clash : ℕ) → clash ≡ nonabelian promise gs
-    → 1 - clash ≡ if_zero (nonabelian promise gs) 1 0
-unfolding if_zero
-abelian_told promise gs clash e = ap (1 -◌) e ∙ other (nonabelian promise gs) (nonabelian_le promise gs)
-  where
-    other : (k : ℕ) → k ≤ 1 → 1 - k ≡ if_zero k 1 0
-    other zero h = refl
-    other (suc k) h = omega arith
+pub abelian_told : (promise : Promise) (gs : List Pauli) (clash : Bool) → one_if clash ≡ nonabelian promise gs
+    → one_if (not clash) ≡ if_zero (nonabelian promise gs) 1 0
+abelian_told promise gs clash e = one_if_not clash ∙ ap (λ (k : ℕ). if_zero k 1 0) e
 
 -- the phases by their step
 pub phases_told_lem : (promise : Promise) (gs : List Pauli) (p : Phases) → step_told p ≡ phase_step promise gs → phases_told p ≡ phases_of promise gs
@@ -66,7 +61,7 @@ module _ (gs : List Pauli) {known x : List ℕ} {places r total : ℕ} (g : Grou
 pub record ListDescribed (promise : Promise) (b : List ℕ) (size : ℕ) (d : Description) : Type 0 where
   pub count : ℕ
   pub given : Given b size count
-  pub facts : Described promise (paulis (list_of b)) d.rank d.step d.clash d.stabilizer
+  pub facts : Described promise (paulis (list_of b)) d.rank d.step (one_if d.clash) (one_if d.stabilizer)
 
 module _ (promise : Promise) (b : List ℕ) (size : ℕ) {r : DescriptionFound} (e : told_facts r ≡ map_told (facts_of promise) (one_list b size)) where
   pub facts_none : (q : Refusal) → r ≡ DescriptionRefused q → one_list b size ≡ told_refusal q

@@ -37,7 +37,7 @@ use Rattle.pauli_theory.proofs.Written.{written_over}
 use Rattle.pauli_group.specs.Inner.Area.{standard_at, further_at}
 use Rattle.pauli_group.specs.Calls.{one_list, most_listed, page_bytes, elements_call}
 use Rattle.pauli_group.specs.Inner.Groups.{over_support, Grouped}
-use Rattle.pauli_group.specs.Inner.Lists.{clash_of, stabilizer_of}
+use Rattle.pauli_group.specs.Inner.Lists.{one_if, clash_of, stabilizer_of}
 use Rattle.pauli_group.specs.declared.standard.Signs.{Signs}
 use Rattle.pauli_group.specs.Inner.Listed.{element_at, elements_from}
 use Rattle.pauli_group.proofs.listing.ListingLaws.{pow_small, one_shifted}
@@ -250,11 +250,11 @@ module _ (promise : Promise) (gs : List Pauli) where
 -- ---- the step, by what the standard generators tell
 
 module _ (promise : Promise) {gs : List Pauli} {known x : List ℕ} {places r total : ℕ} (g : Grouped gs known x places r total) (s : Signs)
-    (clash : s.clash ≡ clash_of promise (list_in x standard_at total))
+    (clash : one_if s.clash ≡ clash_of promise (list_in x standard_at total))
     (step : s.step ≡ step_of (clash_of promise (list_in x standard_at total)) (list_in x standard_at total))
-    (stable : s.stabilizer ≡ stabilizer_of (clash_of promise (list_in x standard_at total)) (list_in x standard_at total)) where
+    (stable : one_if s.stabilizer ≡ stabilizer_of (clash_of promise (list_in x standard_at total)) (list_in x standard_at total)) where
   pub signs_step : s.step ≡ phase_step promise gs
-  signs_step = (described g promise s.step s.clash s.stabilizer clash step stable).step_is
+  signs_step = (described g promise s.step (one_if s.clash) (one_if s.stabilizer) clash step stable).step_is
 
   pub signs_some : 0 < s.step
   signs_some = rw signs_step (step_kinds promise gs).0

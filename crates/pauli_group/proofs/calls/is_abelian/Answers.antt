@@ -1,20 +1,11 @@
 -- The refusal of the description is told on; else the other of 0 and 1 than its clash is told.
 use Rattle.std.proofs.Common.{◌∙◌}
-use Rattle.pauli.specs.Condense.{list_of}
 use Rattle.pauli_theory.specs.Standard.{if_zero, nonabelian}
 use Rattle.pauli_group.specs.Promises.{promise_of}
-use Rattle.pauli_group.specs.Calls.{paulis, abelian_call}
+use Rattle.pauli_group.specs.Calls.{abelian_call}
 use Rattle.pauli_group.proofs.calls.CallLaws.{facts_none, facts_given, abelian_told}
-use Rattle.pauli_group.proofs.group.GroupedLaws.{nonabelian_le}
 use Rattle.pauli_group.proofs.checks.OneList.{answers, refuses}
 use Rattle.pauli_group.proofs.calls.is_abelian.Goals as goal
-
-pub overflow_sub-d : goal.overflow_sub-d
-overflow_sub-d c =
-    let promise = promise_of c.args.promise in
-    let e = c.describe_list-found.ensures in
-    let found = facts_given promise _ _ e.told _ c.in-Description.is in
-    rw found.facts.clash_is (nonabelian_le promise (paulis (list_of c.args.b.now)))
 
 pub returns-in-Refused : goal.returns-in-Refused
 unfolding abelian_call

@@ -1,20 +1,11 @@
 -- The refusal of the description is told on; else its number for a stabilizer group is told.
 use Rattle.std.proofs.Common.{◌∙◌}
-use Rattle.pauli.specs.Condense.{list_of}
 use Rattle.pauli_theory.specs.Standard.{stabilizer}
 use Rattle.pauli_group.specs.Promises.{promise_of}
-use Rattle.pauli_group.specs.Calls.{paulis, stabilizer_call}
+use Rattle.pauli_group.specs.Calls.{stabilizer_call}
 use Rattle.pauli_group.proofs.calls.CallLaws.{facts_none, facts_given}
-use Rattle.pauli_group.proofs.group.GroupedLaws.{stabilizer_le}
 use Rattle.pauli_group.proofs.checks.OneList.{answers, refuses}
 use Rattle.pauli_group.proofs.calls.is_stabilizer_group.Goals as goal
-
-pub decided-requires : goal.decided-requires
-decided-requires c =
-    let promise = promise_of c.args.promise in
-    let e = c.describe_list-found.ensures in
-    let found = facts_given promise _ _ e.told _ c.in-Description.is in
-    rw found.facts.stabilizer_is (stabilizer_le promise (paulis (list_of c.args.b.now)))
 
 pub returns-in-Refused : goal.returns-in-Refused
 unfolding stabilizer_call
