@@ -10,10 +10,10 @@ ghost use Rattle.pauli_group.specs.Answers.{told_decided};
 ghost use Rattle.pauli_group.specs.WorkArea.{cleared};
 ghost use Rattle.pauli_group.specs.Calls.{paulis, standard_bytes};
 ghost use Rattle.pauli_group.specs.Inner.Groups.{DescriptionCall};
-ghost use Rattle.pauli_group.specs.Inner.Lists.{one_if, step_told};
+ghost use Rattle.pauli_group.specs.Inner.Lists.{one_if};
 ghost use Rattle.pauli_group.specs.CallContracts.{StandardCall, RankCall, PhasesCall, AbelianCall, StabilizerCall, SizeCall};
 
-use crate::answers::{Decided, Phases, PhasesFound, RankFound, SizeFound};
+use crate::answers::{Decided, PhasesFound, RankFound, SizeFound};
 use crate::area::{STANDARD, WORK_WORDS};
 use crate::checks::check_list;
 use crate::group::{Description, describe_once, group_of};
@@ -85,20 +85,6 @@ pub fn rank(b: &[u8], work: &mut [u64]) -> RankFound
     }
 }
 
-// The phases with this step.
-fn phases_by(step: u64) -> Phases
-    requires { (0 < step) × (step ≤ 4) × (step ≢ 3) }
-    ensures { step_told result ≡ step }
-{
-    if step == 4 {
-        return Phases::Zero;
-    }
-    if step == 2 {
-        return Phases::ZeroTwo;
-    }
-    Phases::All
-}
-
 // The phases of the group: the powers of i in it.
 pub fn phases(b: &[u8], promise: Promise, work: &mut [u64]) -> PhasesFound
     ensures { PhasesCall (promise_of promise) b.now work.old result work.new }
@@ -106,7 +92,7 @@ pub fn phases(b: &[u8], promise: Promise, work: &mut [u64]) -> PhasesFound
     let found = describe_list(b, promise, work);
     match found {
         DescriptionFound::Refused(r) => PhasesFound::Refused(r),
-        DescriptionFound::Description(d) => PhasesFound::Phases(phases_by(d.step)),
+        DescriptionFound::Description(d) => PhasesFound::Phases(d.signs.phases),
     }
 }
 
@@ -127,7 +113,7 @@ pub fn is_abelian(b: &[u8], promise: Promise, work: &mut [u64]) -> Decided
     let found = describe_list(b, promise, work);
     match found {
         DescriptionFound::Refused(r) => Decided::Refused(r),
-        DescriptionFound::Description(d) => decided(!d.clash),
+        DescriptionFound::Description(d) => decided(!d.signs.clash),
     }
 }
 
@@ -138,7 +124,7 @@ pub fn is_stabilizer_group(b: &[u8], promise: Promise, work: &mut [u64]) -> Deci
     let found = describe_list(b, promise, work);
     match found {
         DescriptionFound::Refused(r) => Decided::Refused(r),
-        DescriptionFound::Description(d) => decided(d.stabilizer),
+        DescriptionFound::Description(d) => decided(d.signs.stabilizer),
     }
 }
 
@@ -149,6 +135,6 @@ pub fn log2_size(b: &[u8], promise: Promise, work: &mut [u64]) -> SizeFound
     let found = describe_list(b, promise, work);
     match found {
         DescriptionFound::Refused(r) => SizeFound::Refused(r),
-        DescriptionFound::Description(d) => SizeFound::Log2(d.rank + (2 - (d.step / 2) as usize)),
+        DescriptionFound::Description(d) => SizeFound::Log2(d.rank + d.signs.phases.log2_count()),
     }
 }

@@ -15,7 +15,7 @@ use crate::answers::{Factors, MemberFound};
 use crate::area::WORK_WORDS;
 use crate::checks::check_question;
 use crate::group::group_of;
-use crate::member::{Factoring, factor, put_indexes};
+use crate::member::{IndexSet, factor, put_indexes};
 use crate::promise::Promise;
 use crate::standard::signs_of;
 use binar::row::clear_bits;
@@ -32,7 +32,7 @@ fn factor_once(
     number: usize,
     promise: Promise,
     w: &mut [u64],
-) -> Factoring
+) -> Option<IndexSet>
     requires { (count_of b.now ≡ answer n) × (count_of elements.now ≡ answer m) × (number < m) × (length w.old ≡ 4096) }
     ensures told { factoring_told result ≡ factorization_of (promise_of promise) (paulis (list_of b.now)) (pauli_of (slice_index_or (list_of elements.now) number nothing)) }
     ensures area { w.new ≡ cleared w.old }
@@ -40,7 +40,7 @@ fn factor_once(
     let mut known = [0u32; MOST_QUBITS + 1];
     let g = group_of(b, n, &mut known, w);
     let signs = signs_of(w, g.total, promise);
-    let factoring = factor(elements, m, number, &known, n, g, signs.step, w);
+    let factoring = factor(elements, m, number, &known, n, g, signs.phases, w);
     clear_bits(w, 0, WORK_WORDS);
     factoring
 }
@@ -74,10 +74,10 @@ pub fn indexed_factorization_of(
         &mut work[..WORK_WORDS],
     );
     let found = match factoring {
-        Factoring::NotFound => {
+        None => {
             return MemberFound::NotMember;
         }
-        Factoring::Found(found) => found,
+        Some(found) => found,
     };
     let set = found.set;
     let count = set.weight();

@@ -8,7 +8,7 @@ ghost use Rattle.pauli_theory.specs.Order.{partial_cmp, and, same_ranks as same_
 ghost use Rattle.pauli_group.specs.Promises.{promise_of};
 ghost use Rattle.pauli_group.specs.Answers.{order_of};
 ghost use Rattle.pauli_group.specs.WorkArea.{cleared};
-ghost use Rattle.pauli_group.specs.Inner.Lists.{Joinable};
+ghost use Rattle.pauli_group.specs.Inner.Lists.{Joinable, step_told};
 ghost use Rattle.pauli_group.specs.Calls.{paulis};
 ghost use Rattle.pauli_group.specs.Inner.Compare.{ranks_in, order_by};
 ghost use Rattle.pauli_group.specs.CallContracts.{OrderCall};
@@ -29,11 +29,10 @@ pub(crate) struct GroupRanks {
 }
 
 fn ranks_of(d: Description) -> GroupRanks
-    requires { 0 < d.step }
-    ensures { (result.phases ≡ 4 / d.step) × (result.rank ≡ d.rank) }
+    ensures { (result.phases ≡ 4 / step_told d.signs.phases) × (result.rank ≡ d.rank) }
 {
     GroupRanks {
-        phases: 4 / d.step,
+        phases: d.signs.phases.count(),
         rank: d.rank,
     }
 }

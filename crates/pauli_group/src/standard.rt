@@ -4,8 +4,9 @@ ghost use Rattle.pauli.specs.Signed.{list_in};
 ghost use Rattle.pauli_theory.specs.Standard.{if_zero, step_of};
 ghost use Rattle.pauli_group.specs.Inner.Area.{standard_at, Outside};
 ghost use Rattle.pauli_group.specs.Promises.{promise_of};
-ghost use Rattle.pauli_group.specs.Inner.Lists.{one_if, from_products, clash_of as clash_of_spec, stabilizer_of};
+ghost use Rattle.pauli_group.specs.Inner.Lists.{step_told, one_if, from_products, clash_of as clash_of_spec, stabilizer_of};
 
+use crate::answers::Phases;
 use crate::area::STANDARD;
 use crate::promise::Promise;
 use crate::scan::{
@@ -13,11 +14,10 @@ use crate::scan::{
     take_mod,
 };
 
-// What the standard generators tell: the step between the phases, whether the group is not abelian, and whether it is a
-// stabilizer group.
+// What the standard generators tell: the phases, whether the group is not abelian, and whether it is a stabilizer group.
 #[derive(Clone, Copy)]
 pub struct Signs {
-    pub step: u64,
+    pub phases: Phases,
     pub clash: bool,
     pub stabilizer: bool,
 }
@@ -51,21 +51,25 @@ fn clash_of(w: &[u64], n: usize, promise: Promise) -> bool
     }
 }
 
-// The step between the phases, by whether a phase is odd, and else by whether -I is missing.
-fn step_for(imaginary: bool, stabilizer: bool) -> u64
-    ensures { result ≡ if_zero (one_if imaginary) (if_zero (one_if stabilizer) 2 4) 1 }
+// The phases, by whether one is odd, and else by whether -I is missing.
+fn phases_for(imaginary: bool, stabilizer: bool) -> Phases
+    ensures { step_told result ≡ if_zero (one_if imaginary) (if_zero (one_if stabilizer) 2 4) 1 }
 {
     if imaginary {
-        return 1;
+        return Phases::All;
     }
-    if stabilizer { 4 } else { 2 }
+    if stabilizer {
+        Phases::Zero
+    } else {
+        Phases::ZeroTwo
+    }
 }
 
 // What the n standard generators tell.
 pub fn signs_of(w: &[u64], n: usize, promise: Promise) -> Signs
     requires { standard_at + 5 * n ≤ length w.now }
     ensures clash { one_if result.clash ≡ clash_of_spec (promise_of promise) (list_in w.now standard_at n) }
-    ensures step { result.step ≡ step_of (clash_of_spec (promise_of promise) (list_in w.now standard_at n)) (list_in w.now standard_at n) }
+    ensures step { step_told result.phases ≡ step_of (clash_of_spec (promise_of promise) (list_in w.now standard_at n)) (list_in w.now standard_at n) }
     ensures stabilizer { one_if result.stabilizer ≡ stabilizer_of (clash_of_spec (promise_of promise) (list_in w.now standard_at n)) (list_in w.now standard_at n) }
 {
     let clash = clash_of(w, n, promise);
@@ -73,7 +77,7 @@ pub fn signs_of(w: &[u64], n: usize, promise: Promise) -> Signs
     let minus = some_minus(w, STANDARD, n);
     let stabilizer = !clash && !order_four && !minus;
     Signs {
-        step: step_for(some_imaginary(w, STANDARD, n), stabilizer),
+        phases: phases_for(some_imaginary(w, STANDARD, n), stabilizer),
         clash,
         stabilizer,
     }

@@ -61,7 +61,7 @@ module _ (gs : List Pauli) {known x : List ℕ} {places r total : ℕ} (g : Grou
 pub record ListDescribed (promise : Promise) (b : List ℕ) (size : ℕ) (d : Description) : Type 0 where
   pub count : ℕ
   pub given : Given b size count
-  pub facts : Described promise (paulis (list_of b)) d.rank d.step (one_if d.clash) (one_if d.stabilizer)
+  pub facts : Described promise (paulis (list_of b)) d.rank (step_told d.signs.phases) (one_if d.signs.clash) (one_if d.signs.stabilizer)
 
 module _ (promise : Promise) (b : List ℕ) (size : ℕ) {r : DescriptionFound} (e : told_facts r ≡ map_told (facts_of promise) (one_list b size)) where
   pub facts_none : (q : Refusal) → r ≡ DescriptionRefused q → one_list b size ≡ told_refusal q

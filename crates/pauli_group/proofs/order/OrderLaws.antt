@@ -1,5 +1,5 @@
 -- Laws of comparison: by numbers of phases and ranks, and what the call tells.
-use Rattle.std.proofs.Common.{◌≡◌, ℕ, ◌/◌, ◌<◌, ◌≤◌, Bool, true, false, eqb, leb, List, ◌++◌, length, sym, ap, ◌∙◌, ap₂, arith, eq-eqb, ne_eqb, le-leb}
+use Rattle.std.proofs.Common.{◌≡◌, ℕ, ◌/◌, ◌<◌, ◌≤◌, Bool, true, false, eqb, leb, List, ◌++◌, length, sym, ap, ◌∙◌, ap₂, eq-eqb, ne_eqb, le-leb}
 use borrow.Author.Tests.{lt-leb}
 use Rattle.pauli.specs.Condense.{list_of}
 use Rattle.pauli.specs.Pauli.{Pauli}
@@ -12,9 +12,9 @@ use Rattle.pauli_group.specs.declared.group.Description.{Description}
 use Rattle.pauli_group.specs.Inner.Groups.{facts_in, facts_of}
 use Rattle.pauli_group.specs.Calls.{paulis, Pair, two_lists, order_call}
 use Rattle.pauli_group.specs.Inner.Compare.{order_by}
+use Rattle.pauli_group.specs.Inner.Lists.{step_told}
 use Rattle.pauli_group.proofs.checks.TwoLists.{pair_long}
 use Rattle.pauli_group.proofs.group.GroupLaws.{facts_told}
-use Rattle.pauli_group.proofs.group.GroupedLaws.{step_kinds}
 
 -- ---- tests on two pairs of numbers
 
@@ -66,10 +66,7 @@ module _ (a b both : Ranks) where
 -- ---- the numbers of a described group
 
 module _ (promise : Promise) (gs : List Pauli) (d : Description) (e : facts_in d ≡ facts_of promise gs) where
-  pub step_positive : 0 < d.step
-  step_positive = omega (arith, (facts_told promise gs d e).step_is, (step_kinds promise gs).0)
-
-  pub ranks_are : (phases k : ℕ) → phases ≡ 4 / d.step → k ≡ d.rank → record { phases = phases; rank = k } ≡ ranks_of promise gs
+  pub ranks_are : (phases k : ℕ) → phases ≡ 4 / step_told d.signs.phases → k ≡ d.rank → record { phases = phases; rank = k } ≡ ranks_of promise gs
   unfolding ranks_of
   ranks_are phases k ep ek =
       let f = facts_told promise gs d e in

@@ -62,8 +62,7 @@ module _ {T : List Pauli → ℕ} {t : Pauli → List Pauli → ℕ} (s : Search
   some_told answers same true (i, few, h) =
       omega (arith, ap T (list_start w base n), next i few, same i true h, from_less i (omega arith), search_lt s (list_in w base n))
   some_told answers same false h =
-      omega
-      (
+      omega (
         arith,
         ap T (list_start w base n),
         from_same (λ i few. sym (same i false (h i few))) n (omega arith),

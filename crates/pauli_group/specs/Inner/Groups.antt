@@ -15,7 +15,7 @@ use Rattle.pauli_group.specs.declared.calls.DescriptionFound.TheVariants.{Descri
 use Rattle.pauli_group.specs.WorkArea.{area_after}
 use Rattle.pauli_group.specs.Calls.{one_list}
 use Rattle.pauli_group.specs.Inner.Area.{list_at, standard_at, further_at, row_words, stride_of, Outside}
-use Rattle.pauli_group.specs.Inner.Lists.{one_if, form_over, from_products}
+use Rattle.pauli_group.specs.Inner.Lists.{one_if, step_told, form_over, from_products}
 
 -- the products of the Paulis ps that the rows of T name
 unfoldable pub products_named : EchelonForm → List Pauli → List Pauli
@@ -58,7 +58,7 @@ facts_of promise gs =
 
 -- the facts that the code holds
 abbrev pub facts_in : Description → Facts
-facts_in d = record { rank = d.rank; step = d.step; clash = one_if d.clash; stabilizer = one_if d.stabilizer }
+facts_in d = record { rank = d.rank; step = step_told d.signs.phases; clash = one_if d.signs.clash; stabilizer = one_if d.signs.stabilizer }
 
 abbrev pub told_facts : DescriptionFound → Told Facts
 told_facts (Described d) = answer (facts_in d)

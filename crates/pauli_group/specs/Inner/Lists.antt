@@ -1,5 +1,6 @@
 -- Lists of Paulis over the places of a support, in the work area.
-use Rattle.std.specs.Prelude.{◌≡◌, ℕ, ◌+◌, ◌*◌, ◌/◌, ◌%◌, ◌^◌, ◌<◌, ◌≤◌, max, Bool, true, false, MatchBool, List, ◌++◌, map, length, take, drop}
+use Rattle.std.specs.Prelude.{◌≡◌, ℕ, ◌+◌, ◌*◌, ◌/◌, ◌%◌, ◌^◌, ◌<◌, ◌≤◌, max, Option as CodeOption, Some, None, Bool, true, false, MatchBool, List, ◌++◌, map, length, take, drop}
+use Rattle.std.proofs.Math.Option.{Option, some, none as nothing}
 use Rattle.binar.specs.Echelon.{EchelonForm, echelon}
 use Rattle.binar.specs.Words.{matrix}
 use Rattle.pauli.specs.Condense.{Readable, list_of, condensed}
@@ -51,6 +52,11 @@ from_products r qs =
     let m = modulus_of (map (λ q. q.e) (drop r qs)) in
     let ps = map (exponent_mod m) (take r qs) in
     if_zero (max (some_order_four ps) (some_anticommute ps)) (ps ++ appended m ps) (map (exponent_mod 2) ps ++ appended (m % 2) ps)
+
+-- what the code has found
+abbrev pub found : CodeOption ℕ → Option ℕ
+found (Some n) = some n
+found None = nothing
 
 -- ---- tests of the Paulis in words
 

@@ -15,6 +15,6 @@ returns c =
     let stabilizer : one_if told ≡ stabilizer_of clash ps = ap one_if tests_are ∙ stabilizer_found clash ps _ _ _ c.clash_of-clash.ensures c.some_order_four-order_four.ensures c.some_minus-minus.ensures in
     record {
       clash = c.clash_of-clash.ensures;
-      step = c.step_for.ensures ∙ step_found clash ps told stabilizer _ c.some_imaginary.ensures;
+      step = c.phases_for.ensures ∙ step_found clash ps told stabilizer _ c.some_imaginary.ensures;
       stabilizer = stabilizer;
     }

@@ -19,8 +19,8 @@ load-requires c = omega arith
 pub anticommutes-requires : goal.anticommutes-requires
 anticommutes-requires c = omega arith
 
-pub returns-then-anticommutes-eq1 : goal.returns-then-anticommutes-eq1
-returns-then-anticommutes-eq1 c = let load = c.load in
+pub returns-then-anticommutes-eq1-clause-position : goal.returns-then-anticommutes-eq1-clause-position
+returns-then-anticommutes-eq1-clause-position c = let load = c.load in
     first_hit c.loop-i.invariant c.loop-i-test.true load.result load.ensures (sym c.anticommutes.ensures ∙ c.if-anticommutes-eq1.true)
 
 pub loop-i-preserved : goal.loop-i-preserved
@@ -28,5 +28,5 @@ loop-i-preserved c = let load = c.load in
     first_miss c.loop-i.invariant c.loop-i-test.true load.result load.ensures
     (zero_bit _ (anticommute_lt _ _) (λ e. c.if-anticommutes-eq1.false (c.anticommutes.ensures ∙ e)))
 
-pub returns : goal.returns
-returns c = first_end c.loop-i.invariant c.loop-i-test.false
+pub returns-clause-position : goal.returns-clause-position
+returns-clause-position c = first_end c.loop-i.invariant c.loop-i-test.false

@@ -1,6 +1,6 @@
 use Rattle.std.proofs.Common.{rules}
 use Rattle.pauli_theory.specs.Standard.{if_zero}
-use Rattle.pauli_group.proofs.standard.step_for.Goals as goal
+use Rattle.pauli_group.proofs.standard.phases_for.Goals as goal
 
 pub returns-then-imaginary : goal.returns-then-imaginary
 unfolding if_zero
