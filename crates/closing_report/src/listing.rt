@@ -4,6 +4,7 @@ ghost use Rattle.pauli.specs.Refusals.{number_of};
 ghost use Rattle.pauli.specs.WriteAnswers.{told_wrote};
 ghost use Rattle.pauli.specs.Told.{answer};
 ghost use Rattle.pauli.specs.Writing.{told_bytes, left_in};
+ghost use Rattle.pauli_group.specs.Inner.Lists.{one_if, step_told};
 ghost use Rattle.closing_report.specs.Lines.{first_line, member_lines, refused_line};
 ghost use Rattle.closing_report.specs.Stored.{stored_in};
 
@@ -11,29 +12,29 @@ use crate::lines::{first_line_length, put_first_line, put_refused_line, refused_
 use crate::stored::{lines_length, put_lines};
 use pauli::refusal::{Reason, Refusal};
 use pauli::write::Wrote;
+use pauli_group::standard::Signs;
 
 // Writes the first line and the lines of the m results from word base on.
 pub(crate) fn write_listing(
     rank: usize,
-    step: u64,
-    clash: u64,
+    signs: Signs,
     w: &[u64],
     base: usize,
     m: usize,
     out: &mut [u8],
 ) -> Wrote
     requires { (base + 5 * m ≤ length w.now) × (m ≤ 128) }
-    ensures told { told_wrote result ≡ told_bytes (answer (first_line rank step clash ++ member_lines 0 (stored_in w.now base m))) out.old }
-    ensures left { out.new ≡ left_in (answer (first_line rank step clash ++ member_lines 0 (stored_in w.now base m))) out.old }
+    ensures told { told_wrote result ≡ told_bytes (answer (first_line rank (step_told signs.phases) (one_if signs.clash) ++ member_lines 0 (stored_in w.now base m))) out.old }
+    ensures left { out.new ≡ left_in (answer (first_line rank (step_told signs.phases) (one_if signs.clash) ++ member_lines 0 (stored_in w.now base m))) out.old }
 {
-    let size = first_line_length(rank, step, clash) + lines_length(w, base, m);
+    let size = first_line_length(rank, signs) + lines_length(w, base, m);
     if out.len() < size {
         return Wrote::Refused(Refusal {
             reason: Reason::Output,
             place: 0,
         });
     }
-    let next = put_first_line(out, 0, rank, step, clash);
+    let next = put_first_line(out, 0, rank, signs);
     put_lines(out, next, w, base, m);
     Wrote::Bytes(size)
 }

@@ -4,19 +4,20 @@ ghost use Rattle.pauli.specs.Told.{answer, refuse_if};
 ghost use Rattle.pauli_theory.specs.Listing.{page_size as page_size_spec};
 ghost use Rattle.pauli_group.specs.Calls.{most_listed};
 ghost use Rattle.pauli_group.specs.Promises.{promise_of};
+ghost use Rattle.pauli_group.specs.Inner.Lists.{step_told};
 ghost use Rattle.sizes.specs.Answers.{told_page};
 ghost use Rattle.sizes.specs.SizeContracts.{PageSizeCall};
 
 use crate::answers::PageFound;
 use pauli::refusal::{Reason, Refusal};
+use pauli_group::answers::Phases;
 use pauli_group::calls::{DescriptionFound, describe_list};
 use pauli_group::listing::{MOST_LISTED, page_elements};
 use pauli_group::promise::Promise;
 
-// How many elements a page holds of a group of this rank, whose phases have this step.
-fn page_of(rank: usize, step: u64, start: u32, count: u32) -> PageFound
-    requires { (0 < step) × (step ≤ 4) }
-    ensures { told_page result ≡ refuse_if (nat_lt most_listed rank) 10 0 (answer (min (page_size_spec count) (2 ^ rank * (4 / step) - start))) }
+// How many elements a page holds of a group of this rank and these phases.
+fn page_of(rank: usize, phases: Phases, start: u32, count: u32) -> PageFound
+    ensures { told_page result ≡ refuse_if (nat_lt most_listed rank) 10 0 (answer (min (page_size_spec count) (2 ^ rank * (4 / step_told phases) - start))) }
 {
     if rank > MOST_LISTED {
         return PageFound::Refused(Refusal {
@@ -24,7 +25,7 @@ fn page_of(rank: usize, step: u64, start: u32, count: u32) -> PageFound
             place: 0,
         });
     }
-    PageFound::Elements(page_elements(rank, step, start, count))
+    PageFound::Elements(page_elements(rank, phases, start, count))
 }
 
 // How many elements a page of the listing of a list's group holds.
@@ -34,6 +35,6 @@ pub fn page_size(b: &[u8], promise: Promise, start: u32, count: u32, work: &mut 
     let found = describe_list(b, promise, work);
     match found {
         DescriptionFound::Refused(r) => PageFound::Refused(r),
-        DescriptionFound::Description(d) => page_of(d.rank, d.step, start, count),
+        DescriptionFound::Description(d) => page_of(d.rank, d.signs.phases, start, count),
     }
 }

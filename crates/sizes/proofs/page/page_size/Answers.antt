@@ -1,15 +1,8 @@
 -- The refusal of the description is told on; else the page is counted by the rank and the step.
 use Rattle.pauli_group.specs.Promises.{promise_of}
 use Rattle.pauli_group.proofs.calls.CallLaws.{facts_none, facts_given}
-use Rattle.pauli_group.proofs.group.GroupedLaws.{step_kinds}
 use Rattle.sizes.proofs.page.PageLaws.{page_refused, page_told_lem}
 use Rattle.sizes.proofs.page.page_size.Goals as goal
-
-pub page_of-requires : goal.page_of-requires
-page_of-requires c =
-    let e = c.describe_list-found.ensures in
-    let found = facts_given (promise_of c.args.promise) _ _ e.told _ c.in-Description.is in
-    (rw found.facts.step_is (step_kinds _ _).0, rw found.facts.step_is (step_kinds _ _).1)
 
 pub returns-in-Refused : goal.returns-in-Refused
 returns-in-Refused c =
