@@ -125,13 +125,7 @@ fn shared_exponent(first: Phases, second: Phases, u: u64, v: u64) -> Option<u8>
 fn with_exponent(e: u8, p: Pauli) -> Pauli
     ensures { held result ≡ with_exponent_spec e (held p) }
 {
-    let x = p.x;
-    let z = p.z;
-    Pauli {
-        exponent: e,
-        x: x,
-        z: z,
-    }
+    Pauli { exponent: e, ..p }
 }
 
 // Keeps those of the m Paulis of the further list that have a shared exponent, with it; tells how many.

@@ -147,9 +147,7 @@ fn put_elements(w: &mut [u64], rank: usize, phases: Phases, start: u64, n: usize
         let product = indexed_product(w, STANDARD, rank, set);
         let turn = (step * (number % count)) as u8;
         let exponent = std::num::wrapping_add_u8(product.exponent, turn);
-        let x = product.x;
-        let z = product.z;
-        store(w, FURTHER + 5 * i, Pauli { exponent, x, z });
+        store(w, FURTHER + 5 * i, Pauli { exponent, ..product });
     }
 }
 

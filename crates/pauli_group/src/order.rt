@@ -4,7 +4,7 @@ ghost use Rattle.pauli.specs.Condense.{list_of};
 ghost use Rattle.pauli.specs.Roll.{support, count_of};
 ghost use Rattle.pauli.specs.Support.{most_qubits};
 ghost use Rattle.pauli.specs.Told.{answer};
-ghost use Rattle.pauli_theory.specs.Order.{partial_cmp, and, same_ranks as same_ranks_spec, no_more};
+ghost use Rattle.pauli_theory.specs.Order.{partial_cmp, no_more};
 ghost use Rattle.pauli_group.specs.Promises.{promise_of};
 ghost use Rattle.pauli_group.specs.Answers.{order_of};
 ghost use Rattle.pauli_group.specs.WorkArea.{cleared};
@@ -22,7 +22,7 @@ use binar::row::clear_bits;
 use pauli::joined::CountsFound;
 
 // How many phases a group has, and its rank.
-#[derive(Clone, Copy)]
+#[derive(Clone, Copy, PartialEq, Eq)]
 pub(crate) struct GroupRanks {
     pub phases: u64,
     pub rank: usize,
@@ -37,45 +37,26 @@ fn ranks_of(d: Description) -> GroupRanks
     }
 }
 
-fn same_ranks(a: GroupRanks, b: GroupRanks) -> bool
-    ensures { result ≡ same_ranks_spec (ranks_in a) (ranks_in b) }
-{
-    if a.phases != b.phases {
-        return false;
-    }
-    a.rank == b.rank
-}
-
 // Whether neither number of a is above that of b.
+#[tactic(auto, unfolding(pauli_theory::specs::Order::no_more))]
 fn no_more(a: GroupRanks, b: GroupRanks) -> bool
     ensures { result ≡ no_more (ranks_in a) (ranks_in b) }
 {
-    if a.phases > b.phases {
-        return false;
-    }
-    a.rank <= b.rank
-}
-
-fn both_hold(a: bool, b: bool) -> bool
-    ensures { result ≡ and a b }
-{
-    if a {
-        return b;
-    }
-    false
+    a.phases <= b.phases && a.rank <= b.rank
 }
 
 // The order of two groups, by their numbers and those of the two joined.
+#[tactic(auto, unfolding(pauli_theory::specs::Order::same_ranks, pauli_theory::specs::Order::first_of, crate::specs::Inner::Compare::order_by))]
 fn order_by(a: GroupRanks, b: GroupRanks, both: GroupRanks) -> Order
     ensures { order_of result ≡ order_by (ranks_in a) (ranks_in b) (ranks_in both) }
 {
-    if both_hold(same_ranks(a, b), same_ranks(a, both)) {
+    if a == b && a == both {
         return Order::Equal;
     }
-    if both_hold(no_more(a, b), same_ranks(b, both)) {
+    if no_more(a, b) && b == both {
         return Order::Less;
     }
-    if same_ranks(a, both) {
+    if a == both {
         return Order::Greater;
     }
     Order::NoOrder

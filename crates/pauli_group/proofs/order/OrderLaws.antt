@@ -16,53 +16,6 @@ use Rattle.pauli_group.specs.Inner.Lists.{step_told}
 use Rattle.pauli_group.proofs.checks.TwoLists.{pair_long}
 use Rattle.pauli_group.proofs.group.GroupLaws.{facts_told}
 
--- ---- tests on two pairs of numbers
-
-module _ (a b : Ranks) where
-  pub phases_differ : (a.phases ≡ b.phases → ⊥) → false ≡ same_ranks a b
-  unfolding same_ranks
-  phases_differ d = rw (ne_eqb a.phases b.phases d)
-
-  pub phases_same : a.phases ≡ b.phases → eqb a.rank b.rank ≡ same_ranks a b
-  unfolding same_ranks
-  phases_same e = rw (eq-eqb a.phases b.phases e)
-
-  pub phases_more : b.phases < a.phases → false ≡ no_more a b
-  unfolding no_more
-  phases_more h = rw (lt-leb a.phases b.phases h)
-
-  pub phases_no_more : a.phases ≤ b.phases → leb a.rank b.rank ≡ no_more a b
-  unfolding no_more
-  phases_no_more h = rw (le-leb a.phases b.phases h)
-
--- ---- the order that the tests give
-
-module _ (a b both : Ranks) where
-  module _ (s t x : Bool) (es : s ≡ same_ranks a b) (et : t ≡ same_ranks a both) (ex : x ≡ and s t) where
-    equal_is : and (same_ranks a b) (same_ranks a both) ≡ x
-    equal_is = sym (ex ∙ ap₂ and es et)
-
-    pub order_equal : x ≡ true → equal ≡ order_by a b both
-    unfolding order_by first_of
-    order_equal e = rw (equal_is ∙ e)
-
-    module _ (n : x ≡ false) (u v y : Bool) (eu : u ≡ no_more a b) (ev : v ≡ same_ranks b both) (ey : y ≡ and u v) where
-      less_is : and (no_more a b) (same_ranks b both) ≡ y
-      less_is = sym (ey ∙ ap₂ and eu ev)
-
-      pub order_less : y ≡ true → less ≡ order_by a b both
-      unfolding order_by first_of
-      order_less e = rw (equal_is ∙ n, less_is ∙ e)
-
-      module _ (m : y ≡ false) (z : Bool) (ez : z ≡ same_ranks a both) where
-        pub order_greater : z ≡ true → greater ≡ order_by a b both
-        unfolding order_by first_of
-        order_greater e = rw (equal_is ∙ n, less_is ∙ m, sym ez ∙ e)
-
-        pub order_none : z ≡ false → no_order ≡ order_by a b both
-        unfolding order_by first_of
-        order_none e = rw (equal_is ∙ n, less_is ∙ m, sym ez ∙ e)
-
 -- ---- the numbers of a described group
 
 module _ (promise : Promise) (gs : List Pauli) (d : Description) (e : facts_in d ≡ facts_of promise gs) where
