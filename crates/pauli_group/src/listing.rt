@@ -43,10 +43,8 @@ fn next_row(row: &mut [u64], n: usize)
     requires { RowOf n row.old × (n < 16) }
     ensures { RowOf (n + 1) row.new }
 {
-    let mut k = 16;
-    while k > 0 {
-        row[k] = row[k] + row[k - 1];
-        k -= 1;
+    for k in (1..17).rev() {
+        row[k] += row[k - 1];
     }
 }
 
