@@ -38,6 +38,15 @@ pub struct Refusal {
     pub place: usize,
 }
 
+// A call is refused as a whole: its place is 0.
+impl From<Reason> for Refusal {
+    ghost from_gives = { λ reason refusal. refusal ≡ record { reason = reason; place = 0 } };
+
+    fn from(reason: Reason) -> Refusal {
+        Refusal { reason, place: 0 }
+    }
+}
+
 // Document 01's number of a reason.
 pub fn number_of(reason: Reason) -> usize
     ensures { result ≡ number_of reason }
