@@ -1,14 +1,12 @@
 // The answer of a call as five numbers, and what codes each kind of answer.
 ghost use Rattle.std.specs.Prelude.{◌≡◌, length};
-ghost use Rattle.pauli.specs.RollAnswers.{told_count};
-ghost use Rattle.pauli.specs.Refusals.{number_of};
-ghost use Rattle.pauli.specs.WriteAnswers.{told_wrote};
-ghost use Rattle.pauli.specs.Lookups.{told_looked};
-ghost use Rattle.pauli_group.specs.Answers.{phases_told, told_rank, told_phases, told_decided, told_size, told_factored};
-ghost use Rattle.pauli_group.specs.Answers.{order_of, told_order};
-ghost use Rattle.factorizations.specs.Answers.{told_factorizations};
-ghost use Rattle.sizes.specs.Answers.{told_sizes, told_bound, told_page};
+ghost use Rattle.pauli.specs.Refusals.{number_of, told_by, told_of};
+ghost use Rattle.pauli_group.specs.Answers.{phases_told, factored_in, yes_number};
+ghost use Rattle.pauli_group.specs.Answers.{order_of};
 ghost use Rattle.capi.specs.Code.{code_refusal as code_refusal_spec, code_values as code_values_spec, code_number, code_phases as code_phases_spec, code_looked as code_looked_spec, code_member as code_member_spec, code_results as code_results_spec, code_sizes as code_sizes_spec, order_number as order_number_spec, code_order as code_order_spec, code_form as code_form_spec};
+ghost use Rattle.pauli.specs.Lookups.{looked_in};
+ghost use Rattle.sizes.specs.Answers.{sizes_in};
+ghost use Rattle.factorizations.specs.Answers.{totals_in};
 
 use binar::matrix_form::Formation;
 use factorizations::answers::ResultsFound;
@@ -60,7 +58,7 @@ pub(crate) fn code_values(first: usize, second: usize, third: usize) -> Answer
 }
 
 pub(crate) fn code_count(checked: Checked) -> Answer
-    ensures { result ≡ code_number (told_count checked) }
+    ensures { result ≡ code_number (told_of checked) }
 {
     match checked {
         Checked::Count(n) => code_values(n, 0, 0),
@@ -69,7 +67,7 @@ pub(crate) fn code_count(checked: Checked) -> Answer
 }
 
 pub(crate) fn code_wrote(wrote: Wrote) -> Answer
-    ensures { result ≡ code_number (told_wrote wrote) }
+    ensures { result ≡ code_number (told_of wrote) }
 {
     match wrote {
         Wrote::Bytes(n) => code_values(n, 0, 0),
@@ -78,7 +76,7 @@ pub(crate) fn code_wrote(wrote: Wrote) -> Answer
 }
 
 pub(crate) fn code_looked(found: EntryFound) -> Answer
-    ensures { result ≡ code_looked_spec (told_looked found) }
+    ensures { result ≡ code_looked_spec (told_by looked_in found) }
 {
     match found {
         EntryFound::Entry(e) => code_values(e.exponent as usize, e.xcount, e.zcount),
@@ -87,7 +85,7 @@ pub(crate) fn code_looked(found: EntryFound) -> Answer
 }
 
 pub(crate) fn code_rank(found: RankFound) -> Answer
-    ensures { result ≡ code_number (told_rank found) }
+    ensures { result ≡ code_number (told_of found) }
 {
     match found {
         RankFound::Rank(n) => code_values(n, 0, 0),
@@ -107,7 +105,7 @@ fn phase_count(phases: Phases) -> usize
 }
 
 pub(crate) fn code_phases(found: PhasesFound) -> Answer
-    ensures { result ≡ code_phases_spec (told_phases found) }
+    ensures { result ≡ code_phases_spec (told_by phases_told found) }
 {
     match found {
         PhasesFound::Phases(phases) => code_values(phase_count(phases), 0, 0),
@@ -116,7 +114,7 @@ pub(crate) fn code_phases(found: PhasesFound) -> Answer
 }
 
 pub(crate) fn code_decided(decided: Decided) -> Answer
-    ensures { result ≡ code_number (told_decided decided) }
+    ensures { result ≡ code_number (told_by yes_number decided) }
 {
     match decided {
         Decided::Yes => code_values(1, 0, 0),
@@ -126,7 +124,7 @@ pub(crate) fn code_decided(decided: Decided) -> Answer
 }
 
 pub(crate) fn code_size(found: SizeFound) -> Answer
-    ensures { result ≡ code_number (told_size found) }
+    ensures { result ≡ code_number (told_of found) }
 {
     match found {
         SizeFound::Log2(n) => code_values(n, 0, 0),
@@ -135,7 +133,7 @@ pub(crate) fn code_size(found: SizeFound) -> Answer
 }
 
 pub(crate) fn code_member(found: MemberFound) -> Answer
-    ensures { result ≡ code_member_spec (told_factored found) }
+    ensures { result ≡ code_member_spec (told_by factored_in found) }
 {
     match found {
         MemberFound::Member(f) => code_values(1, f.count, f.exponent as usize),
@@ -145,7 +143,7 @@ pub(crate) fn code_member(found: MemberFound) -> Answer
 }
 
 pub(crate) fn code_results(found: ResultsFound) -> Answer
-    ensures { result ≡ code_results_spec (told_factorizations found) }
+    ensures { result ≡ code_results_spec (told_by totals_in found) }
 {
     match found {
         ResultsFound::Results(results) => code_values(results.count, results.bytes, 0),
@@ -154,7 +152,7 @@ pub(crate) fn code_results(found: ResultsFound) -> Answer
 }
 
 pub(crate) fn code_sizes(found: SizesFound) -> Answer
-    ensures { result ≡ code_sizes_spec (told_sizes found) }
+    ensures { result ≡ code_sizes_spec (told_by sizes_in found) }
 {
     match found {
         SizesFound::Sizes(sizes) => code_values(sizes.bytes, sizes.count, sizes.qubits),
@@ -163,7 +161,7 @@ pub(crate) fn code_sizes(found: SizesFound) -> Answer
 }
 
 pub(crate) fn code_bound(found: BoundFound) -> Answer
-    ensures { result ≡ code_number (told_bound found) }
+    ensures { result ≡ code_number (told_of found) }
 {
     match found {
         BoundFound::Bytes(n) => code_values(n, 0, 0),
@@ -172,7 +170,7 @@ pub(crate) fn code_bound(found: BoundFound) -> Answer
 }
 
 pub(crate) fn code_page(found: PageFound) -> Answer
-    ensures { result ≡ code_number (told_page found) }
+    ensures { result ≡ code_number (told_of found) }
 {
     match found {
         PageFound::Elements(n) => code_values(n, 0, 0),
@@ -192,7 +190,7 @@ fn order_number(order: Order) -> usize
 }
 
 pub(crate) fn code_order(found: OrderFound) -> Answer
-    ensures { result ≡ code_order_spec (told_order found) }
+    ensures { result ≡ code_order_spec (told_by order_of found) }
 {
     match found {
         OrderFound::Order(order) => code_values(order_number(order), 0, 0),

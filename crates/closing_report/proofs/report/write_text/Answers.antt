@@ -1,9 +1,9 @@
 -- The refusals in their order, then the text.
 use mathlib.Core.Path.{sym, ap, ◌∙◌}
-use Rattle.pauli.specs.RollAnswers.{told_count}
 use Rattle.closing_report.specs.Split.{rolls_told}
 use Rattle.closing_report.proofs.input.InputLaws.{parted}
 use Rattle.closing_report.proofs.report.CallLaws.{input_refused, generators_refused, elements_refused, both_accepted, text_written}
+use Rattle.pauli.specs.Refusals.{told_of}
 use Rattle.closing_report.proofs.report.write_text.Goals as goal
 
 pub returns-in-Cut : goal.returns-in-Cut
@@ -33,7 +33,7 @@ pub returns-in-Refused : goal.returns-in-Refused
 returns-in-Refused c =
     let told = c.split_input-split.ensures in
     let parts = parted _ _ told.rolls told.within _ c.in-At.is in
-    let generators = sym c.check_roll-first.ensures ∙ ap told_count c.in-Refused.is in
+    let generators = sym c.check_roll-first.ensures ∙ ap told_of c.in-Refused.is in
     let wrote = c.write_refused.ensures in let all = text_written _ _ (generators_refused _ _ parts.rolls _ _ generators) wrote.told wrote.left in record { told = all.0; left = all.1 }
 
 pub slice_bounds-check_roll-count-2 : goal.slice_bounds-check_roll-count-2
@@ -52,8 +52,8 @@ pub returns-in-Refused-second : goal.returns-in-Refused-second
 returns-in-Refused-second c =
     let told = c.split_input-split.ensures in
     let parts = parted _ _ told.rolls told.within _ c.in-At.is in
-    let generators = sym c.check_roll-first.ensures ∙ ap told_count c.in-Count.is in
-    let elements = sym c.check_roll-second.ensures ∙ ap told_count c.in-Refused-second.is in
+    let generators = sym c.check_roll-first.ensures ∙ ap told_of c.in-Count.is in
+    let elements = sym c.check_roll-second.ensures ∙ ap told_of c.in-Refused-second.is in
     let wrote = c.write_refused-in-Refused-second.ensures in let all = text_written _ _ (elements_refused _ _ parts.rolls _ generators _ _ elements) wrote.told wrote.left in record { told = all.0; left = all.1 }
 
 pub slice_bounds-write_report-count : goal.slice_bounds-write_report-count
@@ -88,14 +88,14 @@ slice_bounds-write_report-start-2 c =
 
 pub write_report-requires : goal.write_report-requires
 write_report-requires c =
-    let generators = sym c.check_roll-first.ensures ∙ ap told_count c.in-Count.is in
-    let elements = sym c.check_roll-second.ensures ∙ ap told_count c.in-Count-second.is in
+    let generators = sym c.check_roll-first.ensures ∙ ap told_of c.in-Count.is in
+    let elements = sym c.check_roll-second.ensures ∙ ap told_of c.in-Count-second.is in
     (generators, elements, c.requires)
 
 pub returns : goal.returns
 returns c =
     let told = c.split_input-split.ensures in
     let parts = parted _ _ told.rolls told.within _ c.in-At.is in
-    let generators = sym c.check_roll-first.ensures ∙ ap told_count c.in-Count.is in
-    let elements = sym c.check_roll-second.ensures ∙ ap told_count c.in-Count-second.is in
+    let generators = sym c.check_roll-first.ensures ∙ ap told_of c.in-Count.is in
+    let elements = sym c.check_roll-second.ensures ∙ ap told_of c.in-Count-second.is in
     let wrote = c.write_report.ensures in let all = text_written _ _ (both_accepted _ _ parts.rolls _ generators _ elements) wrote.told wrote.left in record { told = all.0; left = all.1 }
