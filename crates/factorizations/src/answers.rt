@@ -6,4 +6,3 @@ pub struct Results {
     pub count: usize,
     pub bytes: usize,
 }
-

@@ -104,7 +104,12 @@ fn put_records(out: &mut [u8], w: &[u64], base: usize, m: usize) -> usize
 }
 
 // Writes the records, if the output has room for all.
-pub(crate) fn write_records(w: &[u64], base: usize, m: usize, out: &mut [u8]) -> Result<usize, Refusal>
+pub(crate) fn write_records(
+    w: &[u64],
+    base: usize,
+    m: usize,
+    out: &mut [u8],
+) -> Result<usize, Refusal>
     requires { (base + 5 * m ≤ length w.now) × (m ≤ 128) }
     ensures told { told_of result ≡ told_bytes (answer (results_bytes (stored_in w.now base m))) out.old }
     ensures left { out.new ≡ left_in (answer (results_bytes (stored_in w.now base m))) out.old }

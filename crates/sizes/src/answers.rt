@@ -7,4 +7,3 @@ pub struct JoinedSizes {
     pub count: usize,
     pub qubits: usize,
 }
-

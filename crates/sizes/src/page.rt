@@ -24,7 +24,13 @@ fn page_of(rank: usize, step: u64, start: u32, count: u32) -> Result<usize, Refu
 }
 
 // How many elements a page of the listing of a list's group holds.
-pub fn page_size(b: &[u8], promise: Promise, start: u32, count: u32, work: &mut [u64]) -> Result<usize, Refusal>
+pub fn page_size(
+    b: &[u8],
+    promise: Promise,
+    start: u32,
+    count: u32,
+    work: &mut [u64],
+) -> Result<usize, Refusal>
     ensures { PageSizeCall (promise_of promise) start count b.now work.old result work.new }
 {
     let d = describe_list(b, promise, work)?;

@@ -11,8 +11,7 @@ use Rattle.sizes.proofs.bound.standard_bound.Goals as goal
 
 pub returns-in_err-n : goal.returns-in_err-n
 returns-in_err-n c =
-    let told = ap told_of (handed_on _ _ c.from_residual.ensures.1) ∙ sym c.in_err-n.ensures in
-    record { told = bound_refused c.args.b.now _ _ told }
+    record { told = ap told_of (handed_on _ _ c.from_residual.ensures.1) ∙ bound_refused c.args.b.now _ _ (sym c.in_err-n.ensures) }
 
 pub qubits_of-requires : goal.qubits_of-requires
 qubits_of-requires c = sym c.in_ok-n.ensures

@@ -11,8 +11,8 @@ use Rattle.sizes.proofs.joined.joined_sizes.Goals as goal
 
 pub returns-in_err-counts : goal.returns-in_err-counts
 returns-in_err-counts c =
-    let told = ap (told_by sizes_in) (handed_on _ _ c.from_residual.ensures.1) ∙ sym c.in_err-counts.ensures in
-    record { told = sizes_refused c.args.left.now c.args.right.now _ _ told }
+    let told = sizes_refused c.args.left.now c.args.right.now _ _ (sym c.in_err-counts.ensures) in
+    record { told = ap (told_by sizes_in) (handed_on _ _ c.from_residual.ensures.1) ∙ told }
 
 pub joined_bytes-bytes-requires : goal.joined_bytes-bytes-requires
 joined_bytes-bytes-requires c =
