@@ -15,7 +15,7 @@ ghost use Rattle.closing_report.specs.Listing.{report, text_of};
 ghost use Rattle.closing_report.specs.Stored.{stored_in, Storable, Stored};
 ghost use Rattle.pauli.specs.Refusals.{told_of};
 
-use crate::input::{Split, split_input};
+use crate::input::split_input;
 use crate::listing::{write_listing, write_refused};
 use crate::stored::{store_member, store_other};
 use binar::row::clear_bits;
@@ -79,14 +79,7 @@ fn write_cut(out: &mut [u8]) -> Result<usize, Refusal>
     ensures told { told_of result ≡ told_bytes (answer (refused_line 1 0 1)) out.old }
     ensures left { out.new ≡ left_in (answer (refused_line 1 0 1)) out.old }
 {
-    write_refused(
-        Refusal {
-            reason: Reason::Length,
-            place: 0,
-        },
-        1,
-        out,
-    )
+    write_refused(Reason::Length.into(), 1, out)
 }
 
 // Writes what is printed for an input: the listing of its two rolls, or the line of the first refusal.
@@ -95,26 +88,16 @@ fn write_text(input: &[u8], w: &mut [u64], out: &mut [u8]) -> Result<usize, Refu
     ensures told { told_of result ≡ told_bytes (answer (text_of input.now)) out.old }
     ensures left { out.new ≡ left_in (answer (text_of input.now)) out.old }
 {
-    let split = split_input(input);
-    let end = match split {
-        Split::Cut => {
-            return write_cut(out);
-        }
-        Split::At(end) => end,
+    let Some(end) = split_input(input) else {
+        return write_cut(out);
     };
-    let first = check_roll(&input[4..end]);
-    let n = match first {
-        Err(r) => {
-            return write_refused(r, 1, out);
-        }
+    let n = match check_roll(&input[4..end]) {
         Ok(n) => n,
+        Err(refusal) => return write_refused(refusal, 1, out),
     };
-    let second = check_roll(&input[end..]);
-    let m = match second {
-        Err(r) => {
-            return write_refused(r, 2, out);
-        }
+    let m = match check_roll(&input[end..]) {
         Ok(m) => m,
+        Err(refusal) => return write_refused(refusal, 2, out),
     };
     write_report(&input[4..end], n, &input[end..], m, w, out)
 }
