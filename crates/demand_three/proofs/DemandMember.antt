@@ -1,5 +1,5 @@
 -- Membership, by what its calls promise.
-use Rattle.std.proofs.Common.{◌≡◌, refl, sym, ap, ap₂, ◌∙◌, subst, Bool, true, false, List, ◌++◌, ℕ, ◌+◌, ◌*◌, ◌≤◌, ◌<◌, arith, ltb, length, get_or, drop, replicate, Ok, Result}
+use Rattle.std.proofs.Common.{◌≡◌, refl, sym, ap, ap₂, ◌∙◌, subst, Bool, true, false, List, ◌++◌, ℕ, ◌+◌, ◌*◌, ◌≤◌, ◌<◌, arith, ltb, length, get_or, drop, replicate, Ok, Result, Option as CodeOption, Some, None}
 use mathlib.Core.Option.{Option, some, none}
 use borrow.Author.Tests.{ltb-false, le-ltb, lt-leb}
 use lib.ListN.{length-replicate}
@@ -60,9 +60,9 @@ result_some none f e = absurd (let z : ◌≡◌ {A = ℕ} 0 1 = cc in omega ari
 result_some (some g) f e = (g, refl, cc)
 
 -- the answer that tells a result
-found_of : Option Factored → Result (Option Factors) Refusal
-found_of none = Ok
-found_of (some f) = Ok (record { count = f.count; exponent = f.exponent })
+found_of : Option Factored → Result (CodeOption Factors) Refusal
+found_of none = Ok None
+found_of (some f) = Ok (Some (record { count = f.count; exponent = f.exponent }))
 
 told_found : (r : Option Factored) → told_by factored_in (found_of r) ≡ answer r
 unfolding found_of

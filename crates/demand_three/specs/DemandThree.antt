@@ -2,7 +2,7 @@
 -- it was lent, answered and left. The answers are measured by what is read off the rolls alone: the Paulis that they hold, products
 -- of generators, and bytes. What is said of any lists holds of A, of B and of the joined list; the limits of demand 3 are assumed
 -- only where they rule out the refusals 2 and 7.
-use Rattle.std.specs.Prelude.{◌≡◌, List, [], ◌∷◌, ◌++◌, map, ℕ, zero, suc, ◌+◌, ◌*◌, ◌≤◌, ◌<◌, ltb, length, get_or, take, Result}
+use Rattle.std.specs.Prelude.{◌≡◌, List, [], ◌∷◌, ◌++◌, map, ℕ, zero, suc, ◌+◌, ◌*◌, ◌≤◌, ◌<◌, ltb, length, get_or, take, Result, Option as CodeOption}
 use Rattle.std.proofs.Math.Option.{Option, some, none}
 use Rattle.pauli.specs.Bytes.{u16_at}
 use Rattle.pauli.specs.Condense.{nothing}
@@ -57,7 +57,7 @@ generator A i h = record { roll = A.roll; held = A.held; accepted = A.accepted; 
 pub record Asked (A : Generators) (x : Element) : Type 0 where
   pub work : List ℕ
   pub out : List ℕ
-  pub found : Result (Option Factors) Refusal
+  pub found : Result (CodeOption Factors) Refusal
   pub work' : List ℕ
   pub out' : List ℕ
   pub promised : MemberCall A.promise A.roll x.roll x.number work out found work' out'
@@ -81,7 +81,7 @@ pub record Joining (A B : Generators) : Type 0 where
 -- comparison: A left, J right
 pub record Comparing (A J : Generators) : Type 0 where
   pub work : List ℕ
-  pub found : Result (Option Ordering) Refusal
+  pub found : Result (CodeOption Ordering) Refusal
   pub work' : List ℕ
   pub promised : OrderCall A.promise J.promise A.roll J.roll work found work'
 

@@ -1,6 +1,6 @@
 -- The results of a whole roll of elements. Of a call nothing is known but what its `ensures` says, whatever it was lent,
 -- answered and left, and with any promise, be it true or false. The results are measured by the single call's, and by bytes alone.
-use Rattle.std.specs.Prelude.{◌≡◌, List, [], ◌∷◌, ◌++◌, ℕ, zero, suc, ◌+◌, ◌*◌, ◌≤◌, ◌<◌, length, get_or, take, drop, Result}
+use Rattle.std.specs.Prelude.{◌≡◌, List, [], ◌∷◌, ◌++◌, ℕ, zero, suc, ◌+◌, ◌*◌, ◌≤◌, ◌<◌, length, get_or, take, drop, Result, Option as CodeOption}
 use Rattle.std.proofs.Math.Option.{Option, some, none}
 use Rattle.pauli.specs.Bytes.{u16_at, le16}
 use Rattle.pauli.specs.Roll.{Sparse, read}
@@ -72,7 +72,7 @@ result c n = get_or (results_in (bytes c)) n []
 pub record Single (promise : Promise) (b e : List ℕ) (n : ℕ) : Type 0 where
   pub work : List ℕ
   pub out : List ℕ
-  pub found : Result (Option Factors) Refusal
+  pub found : Result (CodeOption Factors) Refusal
   pub work' : List ℕ
   pub out' : List ℕ
   pub promised : MemberCall promise b e n work out found work' out'

@@ -1,8 +1,8 @@
 -- What the answers of the group calls tell: document 01's numbers and values for each of their cases.
-use Rattle.std.specs.Prelude.{ℕ, Bool, true, false, List, [], ◌∷◌, Option, Some, None}
+use Rattle.std.specs.Prelude.{ℕ, Bool, true, false, List, [], ◌∷◌, Option as CodeOption, Some, None}
 use Rattle.std.specs.declared.cmp.Ordering.{Ordering}
 use Rattle.std.specs.declared.cmp.Ordering.TheVariants.{Less, Equal, Greater}
-use Rattle.std.proofs.Math.Option.{Option as Maybe, some, none as nothing}
+use Rattle.std.proofs.Math.Option.{Option, some, none as nothing}
 use Rattle.pauli_group.specs.declared.answers.Phases.{Phases}
 use Rattle.pauli_group.specs.declared.answers.Phases.TheVariants.{Zero, ZeroTwo, All}
 use Rattle.pauli_group.specs.declared.answers.Factors.{Factors}
@@ -25,12 +25,12 @@ abbrev pub factors_in : Factors → Factored
 factors_in f = record { count = f.count; exponent = f.exponent }
 
 -- the same for a member; nothing for another element
-abbrev pub factored_in : Option Factors → Maybe Factored
+abbrev pub factored_in : CodeOption Factors → Option Factored
 factored_in (Some f) = some (factors_in f)
 factored_in None = nothing
 
 -- how two groups compare: the left one is the same, inside the right one or around it, or none of these
-abbrev pub order_of : Option Ordering → Compared
+abbrev pub order_of : CodeOption Ordering → Compared
 order_of (Some Equal) = equal
 order_of (Some Less) = less
 order_of (Some Greater) = greater
