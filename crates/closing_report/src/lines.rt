@@ -4,7 +4,8 @@ ghost use Rattle.std.proofs.Math.Option.{some, none};
 ghost use Rattle.pauli.specs.Refusals.{number_of};
 ghost use Rattle.pauli.specs.Sets.{members};
 ghost use Rattle.pauli.specs.PlaceSet.{set_in};
-ghost use Rattle.pauli_group.specs.Inner.Lists.{one_if, step_told};
+ghost use Rattle.pauli_group.specs.Inner.Lists.{step_told};
+ghost use Rattle.pauli_group.specs.Answers.{yes_number};
 ghost use Rattle.closing_report.specs.Lines.{phases_text, abelian_text, first_line, indexes_text, member_line, refused_line};
 ghost use Rattle.closing_report.specs.Put.{Put};
 
@@ -40,7 +41,7 @@ fn put_phases(out: &mut [u8], at: usize, phases: Phases) -> usize
 
 // yes or no
 fn abelian_length(clash: bool) -> usize
-    ensures { (result ≡ length (abelian_text (one_if clash))) × (result ≤ 3) }
+    ensures { (result ≡ length (abelian_text (yes_number clash))) × (result ≤ 3) }
 {
     if clash {
         return 2;
@@ -49,8 +50,8 @@ fn abelian_length(clash: bool) -> usize
 }
 
 fn put_abelian(out: &mut [u8], at: usize, clash: bool) -> usize
-    requires { at + length (abelian_text (one_if clash)) ≤ length out.old }
-    ensures { Put out.old at (abelian_text (one_if clash)) out.new result }
+    requires { at + length (abelian_text (yes_number clash)) ≤ length out.old }
+    ensures { Put out.old at (abelian_text (yes_number clash)) out.new result }
 {
     if clash {
         return put_text(out, at, b"no");
@@ -59,14 +60,14 @@ fn put_abelian(out: &mut [u8], at: usize, clash: bool) -> usize
 }
 
 pub(crate) fn first_line_length(rank: usize, signs: Signs) -> usize
-    ensures { (result ≡ length (first_line rank (step_told signs.phases) (one_if signs.clash))) × (result ≤ 53) }
+    ensures { (result ≡ length (first_line rank (step_told signs.phases) (yes_number signs.clash))) × (result ≤ 53) }
 {
     5 + number_length(rank) + 8 + phases_length(signs.phases) + 9 + abelian_length(signs.clash) + 1
 }
 
 pub(crate) fn put_first_line(out: &mut [u8], at: usize, rank: usize, signs: Signs) -> usize
-    requires { at + length (first_line rank (step_told signs.phases) (one_if signs.clash)) ≤ length out.old }
-    ensures { Put out.old at (first_line rank (step_told signs.phases) (one_if signs.clash)) out.new result }
+    requires { at + length (first_line rank (step_told signs.phases) (yes_number signs.clash)) ≤ length out.old }
+    ensures { Put out.old at (first_line rank (step_told signs.phases) (yes_number signs.clash)) out.new result }
 {
     let phases = put_labelled(out, at, b"rank ", rank);
     let step_at = put_text(out, phases, b" phases ");

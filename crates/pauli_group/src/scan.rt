@@ -4,7 +4,8 @@ ghost use Rattle.pauli.specs.Signed.{held, list_in};
 ghost use Rattle.pauli.specs.Pauli.{Pauli as PauliOf, phase};
 ghost use Rattle.pauli_theory.specs.Standard.{modulus_of as modulus_of_spec, exponent_mod, some_order_four as some_order_four_spec, anticommutes_with_some as anticommutes_with_some_spec, some_anticommute as some_anticommute_spec, appended, some_imaginary as some_imaginary_spec, some_minus as some_minus_spec};
 ghost use Rattle.pauli_group.specs.Inner.Area.{Outside};
-ghost use Rattle.pauli_group.specs.Inner.Lists.{one_if, SomeTested};
+ghost use Rattle.pauli_group.specs.Inner.Lists.{SomeTested};
+ghost use Rattle.pauli_group.specs.Answers.{yes_number};
 
 use pauli::places::Places;
 use pauli::signed::{Pauli, load, store};
@@ -49,7 +50,7 @@ fn some<F: Fn(Pauli) -> bool>(w: &[u64], base: usize, n: usize, test: F) -> bool
 // Whether one of the n Paulis from word base on is of order four.
 pub(crate) fn some_order_four(w: &[u64], base: usize, n: usize) -> bool
     requires { base + 5 * n ≤ length w.now }
-    ensures { one_if result ≡ some_order_four_spec (list_in w.now base n) }
+    ensures { yes_number result ≡ some_order_four_spec (list_in w.now base n) }
 {
     some(w, base, n, |p| !p.is_order_two())
 }
@@ -57,7 +58,7 @@ pub(crate) fn some_order_four(w: &[u64], base: usize, n: usize) -> bool
 // Whether one of the n Paulis from word base on anticommutes with p.
 fn anticommutes_with_some(w: &[u64], base: usize, n: usize, p: Pauli) -> bool
     requires { base + 5 * n ≤ length w.now }
-    ensures { one_if result ≡ anticommutes_with_some_spec (held p) (list_in w.now base n) }
+    ensures { yes_number result ≡ anticommutes_with_some_spec (held p) (list_in w.now base n) }
 {
     some(w, base, n, |q| p.anticommutes(q) == 1)
 }
@@ -65,7 +66,7 @@ fn anticommutes_with_some(w: &[u64], base: usize, n: usize, p: Pauli) -> bool
 // Whether two of the n Paulis from word base on anticommute.
 pub(crate) fn some_anticommute(w: &[u64], base: usize, n: usize) -> bool
     requires { base + 5 * n ≤ length w.now }
-    ensures { one_if result ≡ some_anticommute_spec (list_in w.now base n) }
+    ensures { yes_number result ≡ some_anticommute_spec (list_in w.now base n) }
 {
     (0..n).any(|i| {
         let at = base + 5 * i;
@@ -76,7 +77,7 @@ pub(crate) fn some_anticommute(w: &[u64], base: usize, n: usize) -> bool
 // Whether one of the n Paulis from word base on is of weight 0 and has an odd phase.
 pub(crate) fn some_imaginary(w: &[u64], base: usize, n: usize) -> bool
     requires { base + 5 * n ≤ length w.now }
-    ensures { one_if result ≡ some_imaginary_spec (list_in w.now base n) }
+    ensures { yes_number result ≡ some_imaginary_spec (list_in w.now base n) }
 {
     some(w, base, n, |p| p.weight() == 0 && p.exponent % 2 == 1)
 }
@@ -84,7 +85,7 @@ pub(crate) fn some_imaginary(w: &[u64], base: usize, n: usize) -> bool
 // Whether one of the n Paulis from word base on is -I.
 pub(crate) fn some_minus(w: &[u64], base: usize, n: usize) -> bool
     requires { base + 5 * n ≤ length w.now }
-    ensures { one_if result ≡ some_minus_spec (list_in w.now base n) }
+    ensures { yes_number result ≡ some_minus_spec (list_in w.now base n) }
 {
     some(w, base, n, |p| p.weight() == 0 && p.exponent % 4 == 2)
 }

@@ -4,7 +4,8 @@ ghost use Rattle.pauli.specs.Signed.{list_in};
 ghost use Rattle.pauli_theory.specs.Standard.{if_zero, step_of};
 ghost use Rattle.pauli_group.specs.Inner.Area.{standard_at, Outside};
 ghost use Rattle.pauli_group.specs.Promises.{promise_of};
-ghost use Rattle.pauli_group.specs.Inner.Lists.{step_told, one_if, from_products, clash_of as clash_of_spec, stabilizer_of};
+ghost use Rattle.pauli_group.specs.Inner.Lists.{step_told, from_products, clash_of as clash_of_spec, stabilizer_of};
+ghost use Rattle.pauli_group.specs.Answers.{yes_number};
 
 use crate::answers::Phases;
 use crate::area::STANDARD;
@@ -42,7 +43,7 @@ pub(crate) fn standardize(w: &mut [u64], n: usize, rank: usize) -> usize
 // Whether the group of the n standard generators is not abelian, or is promised not to be.
 fn clash_of(w: &[u64], n: usize, promise: Promise) -> bool
     requires { standard_at + 5 * n ≤ length w.now }
-    ensures { one_if result ≡ clash_of_spec (promise_of promise) (list_in w.now standard_at n) }
+    ensures { yes_number result ≡ clash_of_spec (promise_of promise) (list_in w.now standard_at n) }
 {
     match promise {
         Promise::Abelian => false,
@@ -53,7 +54,7 @@ fn clash_of(w: &[u64], n: usize, promise: Promise) -> bool
 
 // The phases, by whether one is odd, and else by whether -I is missing.
 fn phases_for(imaginary: bool, stabilizer: bool) -> Phases
-    ensures { step_told result ≡ if_zero (one_if imaginary) (if_zero (one_if stabilizer) 2 4) 1 }
+    ensures { step_told result ≡ if_zero (yes_number imaginary) (if_zero (yes_number stabilizer) 2 4) 1 }
 {
     if imaginary {
         return Phases::All;
@@ -68,9 +69,9 @@ fn phases_for(imaginary: bool, stabilizer: bool) -> Phases
 // What the n standard generators tell.
 pub fn signs_of(w: &[u64], n: usize, promise: Promise) -> Signs
     requires { standard_at + 5 * n ≤ length w.now }
-    ensures clash { one_if result.clash ≡ clash_of_spec (promise_of promise) (list_in w.now standard_at n) }
+    ensures clash { yes_number result.clash ≡ clash_of_spec (promise_of promise) (list_in w.now standard_at n) }
     ensures step { step_told result.phases ≡ step_of (clash_of_spec (promise_of promise) (list_in w.now standard_at n)) (list_in w.now standard_at n) }
-    ensures stabilizer { one_if result.stabilizer ≡ stabilizer_of (clash_of_spec (promise_of promise) (list_in w.now standard_at n)) (list_in w.now standard_at n) }
+    ensures stabilizer { yes_number result.stabilizer ≡ stabilizer_of (clash_of_spec (promise_of promise) (list_in w.now standard_at n)) (list_in w.now standard_at n) }
 {
     let clash = clash_of(w, n, promise);
     let order_four = some_order_four(w, STANDARD, n);

@@ -37,7 +37,8 @@ use Rattle.pauli_theory.proofs.Written.{written_over}
 use Rattle.pauli_group.specs.Inner.Area.{standard_at, further_at}
 use Rattle.pauli_group.specs.Calls.{one_list, most_listed, page_bytes, elements_call}
 use Rattle.pauli_group.specs.Inner.Groups.{over_support, Grouped}
-use Rattle.pauli_group.specs.Inner.Lists.{one_if, step_told, clash_of, stabilizer_of}
+use Rattle.pauli_group.specs.Inner.Lists.{step_told, clash_of, stabilizer_of}
+use Rattle.pauli_group.specs.Answers.{yes_number}
 use Rattle.pauli_group.specs.declared.standard.Signs.{Signs}
 use Rattle.pauli_group.specs.Inner.Listed.{element_at, elements_from}
 use Rattle.pauli_group.proofs.group.GroupLaws.{described}
@@ -209,11 +210,11 @@ module _ (promise : Promise) (gs : List Pauli) where
 -- ---- the step, by what the standard generators tell
 
 module _ (promise : Promise) {gs : List Pauli} {known x : List ℕ} {places r total : ℕ} (g : Grouped gs known x places r total) (s : Signs)
-    (clash : one_if s.clash ≡ clash_of promise (list_in x standard_at total))
+    (clash : yes_number s.clash ≡ clash_of promise (list_in x standard_at total))
     (step : step_told s.phases ≡ step_of (clash_of promise (list_in x standard_at total)) (list_in x standard_at total))
-    (stable : one_if s.stabilizer ≡ stabilizer_of (clash_of promise (list_in x standard_at total)) (list_in x standard_at total)) where
+    (stable : yes_number s.stabilizer ≡ stabilizer_of (clash_of promise (list_in x standard_at total)) (list_in x standard_at total)) where
   pub signs_step : step_told s.phases ≡ phase_step promise gs
-  signs_step = (described g promise (step_told s.phases) (one_if s.clash) (one_if s.stabilizer) clash step stable).step_is
+  signs_step = (described g promise (step_told s.phases) (yes_number s.clash) (yes_number s.stabilizer) clash step stable).step_is
 
 -- ---- what is told
 

@@ -1,12 +1,11 @@
 -- Laws of comparison: by numbers of phases and ranks, and what the call tells.
-use Rattle.std.proofs.Common.{◌≡◌, ℕ, ◌/◌, ◌<◌, ◌≤◌, Bool, true, false, eqb, leb, List, ◌++◌, length, sym, ap, ◌∙◌, ap₂, eq-eqb, ne_eqb, le-leb}
-use borrow.Author.Tests.{lt-leb}
+use Rattle.std.proofs.Common.{◌≡◌, ℕ, ◌/◌, ◌≤◌, List, ◌++◌, length, sym, ap, ◌∙◌}
 use Rattle.pauli.specs.Condense.{list_of}
 use Rattle.pauli.specs.Pauli.{Pauli}
 use Rattle.pauli.specs.Told.{Told, answer, refused, map_told}
 use Rattle.pauli.proofs.joined.JoinLaws.{Joining}
 use Rattle.pauli_theory.specs.Group.{Promise, none}
-use Rattle.pauli_theory.specs.Order.{Order, equal, less, greater, no_order, Ranks, ranks_of, and, same_ranks, no_more, first_of, partial_cmp}
+use Rattle.pauli_theory.specs.Order.{Order, Ranks, ranks_of, partial_cmp}
 use Rattle.pauli_group.specs.WorkArea.{work_words}
 use Rattle.pauli_group.specs.declared.group.Description.{Description}
 use Rattle.pauli_group.specs.Inner.Groups.{facts_in, facts_of}

@@ -17,7 +17,8 @@ use Rattle.pauli.proofs.write.Writers.{list_from, list_start, list_next, list_en
 use Rattle.pauli_theory.specs.Standard.{if_zero, some_order_four, anticommutes_with_some, some_anticommute, bare, some_imaginary, some_minus}
 use Rattle.pauli_theory.proofs.IfZero.{if_zero_zero, if_zero_more}
 use Rattle.pauli_theory.proofs.Tests.{imaginary, minus}
-use Rattle.pauli_group.specs.Inner.Lists.{one_if, Tested, SomeTested}
+use Rattle.pauli_group.specs.Inner.Lists.{Tested, SomeTested}
+use Rattle.pauli_group.specs.Answers.{yes_number}
 
 pub more_than : (k : ℕ) → (k ≡ 0 → ⊥) → 0 < k
 more_than zero h = absurd (h refl)
@@ -57,8 +58,8 @@ module _ {T : List Pauli → ℕ} {t : Pauli → List Pauli → ℕ} (s : Search
   from_same none (suc i) h = rw (← add-one) (omega (arith, next i (omega arith), none i (omega arith), from_same none i (omega arith)))
 
   -- what tests of the numbers tell, one by one, is told of the list
-  pub some_told : (answers : ℕ → Bool → Type 0) → ((i : ℕ) (r : Bool) → answers i r → one_if r ≡ at_number i)
-      → (r : Bool) → MatchBool r ((i : ℕ) × (i < n) × answers i true) ((i : ℕ) → i < n → answers i false) → one_if r ≡ T (list_in w base n)
+  pub some_told : (answers : ℕ → Bool → Type 0) → ((i : ℕ) (r : Bool) → answers i r → yes_number r ≡ at_number i)
+      → (r : Bool) → MatchBool r ((i : ℕ) × (i < n) × answers i true) ((i : ℕ) → i < n → answers i false) → yes_number r ≡ T (list_in w base n)
   some_told answers same true (i, few, h) =
       omega (arith, ap T (list_start w base n), next i few, same i true h, from_less i (omega arith), search_lt s (list_in w base n))
   some_told answers same false h =
@@ -77,8 +78,8 @@ module _ {T : List Pauli → ℕ} {t : Pauli → List Pauli → ℕ} (s : Search
       sym (s.value (held p) rest) ∙ ap (λ (q : Pauli). t q rest) read ∙ s.value (pauli_in w (base + 5 * i)) rest
 
   -- what a test of one Pauli tells is told of the list
-  pub some_tested : (tells : Held → Bool → Type 0) → ((p : Held) (qs : List Pauli) (r : Bool) → tells p r → one_if r ≡ t (held p) qs)
-      → (r : Bool) → SomeTested tells w base n r → one_if r ≡ T (list_in w base n)
+  pub some_tested : (tells : Held → Bool → Type 0) → ((p : Held) (qs : List Pauli) (r : Bool) → tells p r → yes_number r ≡ t (held p) qs)
+      → (r : Bool) → SomeTested tells w base n r → yes_number r ≡ T (list_in w base n)
   some_tested tells same =
       some_told (λ i r. Tested tells w (base + 5 * i) r)
       (λ i r h. same h.pauli (list_from w base n (i + 1)) r h.told ∙ at_read i h.pauli h.read)
@@ -98,15 +99,15 @@ by_number false n Yes No h =
 
 -- ---- a test of a number below 2
 
-pub one_if_more : (k : ℕ) → k < 2 → one_if (not (k == 0)) ≡ k
-one_if_more zero h = refl
-one_if_more (suc zero) h = refl
-one_if_more (suc (suc k)) h = absurd (omega arith)
+pub yes_number_more : (k : ℕ) → k < 2 → yes_number (not (k == 0)) ≡ k
+yes_number_more zero h = refl
+yes_number_more (suc zero) h = refl
+yes_number_more (suc (suc k)) h = absurd (omega arith)
 
-pub one_if_one : (k : ℕ) → k < 2 → one_if (k == 1) ≡ k
-one_if_one zero h = refl
-one_if_one (suc zero) h = refl
-one_if_one (suc (suc k)) h = absurd (omega arith)
+pub yes_number_one : (k : ℕ) → k < 2 → yes_number (k == 1) ≡ k
+yes_number_one zero h = refl
+yes_number_one (suc zero) h = refl
+yes_number_one (suc (suc k)) h = absurd (omega arith)
 
 -- ---- the searches
 
@@ -210,25 +211,25 @@ search_minus = record {
   value = λ p ps. ap (λ (d : ℕ). if_zero (bit_or p.x p.z) d 0) (two_value p.e);
 }
 
-pub imaginary_tested : (p : Pauli) → one_if ((pauli_weight p == 0) && (p.e % 2 == 1)) ≡ imaginary p
+pub imaginary_tested : (p : Pauli) → yes_number ((pauli_weight p == 0) && (p.e % 2 == 1)) ≡ imaginary p
 imaginary_tested p = go (pauli_weight p) refl
   where
-    go : (k : ℕ) → pauli_weight p ≡ k → one_if ((k == 0) && (p.e % 2 == 1)) ≡ imaginary p
-    go zero z = one_if_one (p.e % 2) (omega arith) ∙ sym (bare_none p (p.e % 2) z)
+    go : (k : ℕ) → pauli_weight p ≡ k → yes_number ((k == 0) && (p.e % 2 == 1)) ≡ imaginary p
+    go zero z = yes_number_one (p.e % 2) (omega arith) ∙ sym (bare_none p (p.e % 2) z)
     go (suc k) z = rw (ne_eqb (suc k) 0 (λ e. omega arith)) (sym (bare_some p (p.e % 2) (λ y. omega arith)))
 
-two_tested : (e : ℕ) → one_if (e % 4 == 2) ≡ two e
+two_tested : (e : ℕ) → yes_number (e % 4 == 2) ≡ two e
 two_tested e = go (e % 4) refl
   where
-    go : (d : ℕ) → e % 4 ≡ d → one_if (d == 2) ≡ two e
+    go : (d : ℕ) → e % 4 ≡ d → yes_number (d == 2) ≡ two e
     go zero z = sym (two_not e (λ y. omega arith))
     go (suc zero) z = sym (two_not e (λ y. omega arith))
     go (suc (suc zero)) z = sym (two_is e z)
     go (suc (suc (suc d))) z = rw (ne_eqb (suc (suc (suc d))) 2 (λ e. omega arith)) (sym (two_not e (λ y. omega arith)))
 
-pub minus_tested : (p : Pauli) → one_if ((pauli_weight p == 0) && (p.e % 4 == 2)) ≡ minus p
+pub minus_tested : (p : Pauli) → yes_number ((pauli_weight p == 0) && (p.e % 4 == 2)) ≡ minus p
 minus_tested p = go (pauli_weight p) refl
   where
-    go : (k : ℕ) → pauli_weight p ≡ k → one_if ((k == 0) && (p.e % 4 == 2)) ≡ minus p
+    go : (k : ℕ) → pauli_weight p ≡ k → yes_number ((k == 0) && (p.e % 4 == 2)) ≡ minus p
     go zero z = two_tested p.e ∙ sym (bare_none p (two p.e) z)
     go (suc k) z = rw (ne_eqb (suc k) 0 (λ e. omega arith)) (sym (bare_some p (two p.e) (λ y. omega arith)))

@@ -6,18 +6,19 @@ use Rattle.pauli.proofs.write.Writers.{length_list}
 use Rattle.pauli_theory.specs.Standard.{if_zero, exponent_mod, appended, some_order_four, some_anticommute, some_imaginary, some_minus, step_of}
 use Rattle.pauli_theory.proofs.IfZero.{if_zero_zero, if_zero_more}
 use Rattle.pauli_group.specs.Inner.Area.{standard_at, Outside}
-use Rattle.pauli_group.specs.Inner.Lists.{one_if, from_products, stabilizer_of}
+use Rattle.pauli_group.specs.Inner.Lists.{from_products, stabilizer_of}
+use Rattle.pauli_group.specs.Answers.{yes_number}
 use Rattle.pauli_group.proofs.list.ListLaws.{list_append, outside_join, outside_wider}
 use Rattle.pauli_group.proofs.scan.PhaseLaws.{modulus_in}
 
 -- ---- tests
 
-pub one_if_not : (b : Bool) → one_if (not b) ≡ if_zero (one_if b) 1 0
+pub yes_number_not : (b : Bool) → yes_number (not b) ≡ if_zero (yes_number b) 1 0
 unfolding if_zero
-one_if_not true = refl
-one_if_not false = refl
+yes_number_not true = refl
+yes_number_not false = refl
 
-none_of_three : (a b c : Bool) → one_if ((not a && not b) && not c) ≡ if_zero (max (one_if a) (max (one_if b) (one_if c))) 1 0
+none_of_three : (a b c : Bool) → yes_number ((not a && not b) && not c) ≡ if_zero (max (yes_number a) (max (yes_number b) (yes_number c))) 1 0
 none_of_three true b c = sym (if_zero_more _ 1 0 (omega arith))
 none_of_three false true c = sym (if_zero_more _ 1 0 (omega arith))
 none_of_three false false true = sym (if_zero_more _ 1 0 (omega arith))
@@ -26,8 +27,8 @@ none_of_three false false false = sym (if_zero_zero 1 0 refl)
 -- ---- what the standard generators tell
 
 -- the tests a, b and c of the code
-module _ (clash : ℕ) (ps : List Pauli) (a b c : Bool) (ea : one_if a ≡ clash) (eb : one_if b ≡ some_order_four ps) (ec : one_if c ≡ some_minus ps) where
-  pub stabilizer_found : one_if ((not a && not b) && not c) ≡ stabilizer_of clash ps
+module _ (clash : ℕ) (ps : List Pauli) (a b c : Bool) (ea : yes_number a ≡ clash) (eb : yes_number b ≡ some_order_four ps) (ec : yes_number c ≡ some_minus ps) where
+  pub stabilizer_found : yes_number ((not a && not b) && not c) ≡ stabilizer_of clash ps
   unfolding stabilizer_of
   stabilizer_found = rw (← ea, ← eb, ← ec) (none_of_three a b c)
 
@@ -37,8 +38,8 @@ unfolding if_zero
 step_even zero = refl
 step_even (suc n) = refl
 
-pub step_found : (clash : ℕ) (ps : List Pauli) (s : Bool) → one_if s ≡ stabilizer_of clash ps → (i : Bool) → one_if i ≡ some_imaginary ps
-    → if_zero (one_if i) (if_zero (one_if s) 2 4) 1 ≡ step_of clash ps
+pub step_found : (clash : ℕ) (ps : List Pauli) (s : Bool) → yes_number s ≡ stabilizer_of clash ps → (i : Bool) → yes_number i ≡ some_imaginary ps
+    → if_zero (yes_number i) (if_zero (yes_number s) 2 4) 1 ≡ step_of clash ps
 unfolding step_of stabilizer_of
 step_found clash ps s es i ei = rw (ei, es) (ap (λ (k : ℕ). if_zero (some_imaginary ps) k 1) (step_even (max clash (max (some_order_four ps) (some_minus ps)))))
 

@@ -60,11 +60,6 @@ found None = nothing
 
 -- ---- tests of the Paulis in words
 
--- 1 where a test holds, else 0
-abbrev pub one_if : Bool → ℕ
-one_if true = 1
-one_if false = 0
-
 -- a test tells r of the Pauli at word `at`, read up to the value of its exponent
 pub record Tested (tells : Held → Bool → Type 0) (w : List ℕ) (at : ℕ) (r : Bool) : Type 0 where
   pub pauli : Held

@@ -1,7 +1,7 @@
 use Rattle.std.proofs.Common.{◌≡◌, ◌==◌, ◌&&◌, ◌%◌, ap, ◌∙◌, rules, tests}
 use Rattle.pauli.specs.Signed.{held}
 use Rattle.pauli.specs.Pauli.{pauli_weight}
-use Rattle.pauli_group.specs.Inner.Lists.{one_if}
+use Rattle.pauli_group.specs.Answers.{yes_number}
 use Rattle.pauli_group.proofs.scan.ScanLaws.{search_imaginary, some_tested, imaginary_tested}
 use Rattle.pauli_group.proofs.scan.some_imaginary.Goals as goal
 
@@ -9,4 +9,4 @@ pub returns : goal.returns
 unfolding held
 returns c =
     some_tested search_imaginary c.args.w.now c.args.base c.args.n _ (λ p qs r h.
-    let test : r ≡ ((pauli_weight (held p) == 0) && ((held p).e % 2 == 1)) = search (rules, tests) in ap one_if test ∙ imaginary_tested (held p)) _ c.some.ensures
+    let test : r ≡ ((pauli_weight (held p) == 0) && ((held p).e % 2 == 1)) = search (rules, tests) in ap yes_number test ∙ imaginary_tested (held p)) _ c.some.ensures
