@@ -23,9 +23,6 @@ pub read_list-requires-2 : goal.read_list-requires-2
 unfolding most_qubits
 read_list-requires-2 c = let g = c.join_support-places.ensures in (part_readable _ _ _ _ g c.requires.0.qubits c.args.right.now c.args.nr c.requires.0.right (λ p m. Memᴰ.append_right (list_of c.args.left.now) m), places_few _ _ _ _ g c.requires.0.qubits, omega (arith, places_few _ _ _ _ g c.requires.0.qubits, c.requires.1, c.join_support-places.auto.known), omega (arith, c.requires.0.few, c.requires.2, c.read_list.ensures.rest.size), (accepted c.args.right.now c.args.nr c.requires.0.right).1)
 
-pub overflow_add-nl-2 : goal.overflow_add-nl-2
-overflow_add-nl-2 c = omega arith
-
 pub build-requires : goal.build-requires
 build-requires c = let g = c.join_support-places.ensures in (c.read_list-2.ensures.rest.size ∙ c.read_list.ensures.rest.size ∙ c.requires.2, c.requires.0.few, places_few _ _ _ _ g c.requires.0.qubits, on_places _ _ _ _ g c.requires.0.qubits _ (c.args.nl + c.args.nr) (two_listed _ (list_of c.args.left.now) (list_of c.args.right.now) c.args.nl c.args.nr _ _ c.read_list.ensures.list c.read_list-2.ensures.list c.read_list-2.ensures.rest))
 

@@ -8,12 +8,6 @@ use Rattle.pauli_group.proofs.list.read_list.Goals as goal
 pub loop-i-init : goal.loop-i-init
 loop-i-init c = (omega arith, stored_none _ _ _ _ _)
 
-pub overflow_mul-i : goal.overflow_mul-i
-overflow_mul-i c = omega arith
-
-pub overflow_add-base : goal.overflow_add-base
-overflow_add-base c = omega arith
-
 pub condense_from-requires : goal.condense_from-requires
 condense_from-requires c =
     (c.requires.0 _ c.loop-i-test.true, c.requires.1, c.requires.2)

@@ -17,19 +17,10 @@ overflow_add-at c =
     let in_rows = row_in c.loop-i.i c.args.n c.args.stride c.loop-i-test.true in
     omega (arith, in_rows, c.requires.0, c.requires.1, c.loop-i.invariant.1.rest.size)
 
-pub overflow_sub-stride : goal.overflow_sub-stride
-overflow_sub-stride c = omega arith
-
 pub clear_bits-requires : goal.clear_bits-requires
 clear_bits-requires c =
     let in_rows = row_in c.loop-i.i c.args.n c.args.stride c.loop-i-test.true in
     omega (arith, in_rows, c.requires.0, c.requires.1, c.loop-i.invariant.1.rest.size)
-
-pub overflow_mul-i : goal.overflow_mul-i
-overflow_mul-i c = omega arith
-
-pub overflow_add-base : goal.overflow_add-base
-overflow_add-base c = omega arith
 
 pub load-requires : goal.load-requires
 load-requires c =
