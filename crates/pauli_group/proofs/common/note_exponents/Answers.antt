@@ -11,15 +11,6 @@ exponent_of-e-requires c =
     let e = noted_element c.args.w.now c.args.joint.now c.args.own.now c.args.n c.args.size c.args.group.places c.args.group.rank c.requires.2 _ _ N c.args.m c.loop-i-test.true c.requires.6 _ _ c.requires.7 in
     (N.size ∙ c.requires.0, omega (arith, c.requires.1, c.loop-i-test.true), noted_solving c.args.w.now c.args.joint.now c.args.own.now c.args.n c.args.size c.args.group.places c.args.group.rank c.requires.2 _ _ N, c.requires.3, c.requires.4, c.requires.5, e.0, e.1, e.2)
 
-pub bounds-w-at : goal.bounds-w-at
-bounds-w-at c = omega (arith, c.requires.0, c.requires.1, c.exponent_of-e.ensures.rest.size, c.loop-i.invariant.1.size, c.loop-i-test.true)
-
-pub overflow_add-w : goal.overflow_add-w
-overflow_add-w c = omega (arith, c.exponent_of-e.ensures.low)
-
-pub bounds-w-at-in-loop-i : goal.bounds-w-at-in-loop-i
-bounds-w-at-in-loop-i c = omega (arith, c.requires.0, c.requires.1, c.exponent_of-e.ensures.rest.size, c.loop-i.invariant.1.size, c.loop-i-test.true)
-
 pub loop-i-preserved : goal.loop-i-preserved
 loop-i-preserved c =
     let l = c.loop-i in

@@ -18,9 +18,6 @@ named_by-set-requires c =
 pub indexed_product-requires : goal.indexed_product-requires
 indexed_product-requires c = (omega (arith, c.requires.5, c.loop-i.invariant.1.rest.size), c.requires.3)
 
-pub store-requires : goal.store-requires
-store-requires c = omega (arith, c.requires.6, c.loop-i.invariant.1.rest.size)
-
 pub loop-i-preserved : goal.loop-i-preserved
 loop-i-preserved c =
     let l = c.loop-i in

@@ -13,12 +13,6 @@ pub read_list-requires : goal.read_list-requires
 unfolding most_qubits
 read_list-requires c = let g = c.join_support-places.ensures in (part_readable _ _ _ _ g c.requires.0.qubits c.args.left.now c.args.nl c.requires.0.left (λ p m. Memᴰ.append_left (list_of c.args.right.now) m), places_few _ _ _ _ g c.requires.0.qubits, omega (arith, places_few _ _ _ _ g c.requires.0.qubits, c.requires.1, c.join_support-places.auto.known), omega (arith, c.requires.0.few, c.requires.2), (accepted c.args.left.now c.args.nl c.requires.0.left).1)
 
-pub overflow_mul-nl : goal.overflow_mul-nl
-overflow_mul-nl c = omega (arith, c.requires.0.few)
-
-pub overflow_add-nl : goal.overflow_add-nl
-overflow_add-nl c = omega (arith, c.requires.0.few)
-
 pub read_list-requires-2 : goal.read_list-requires-2
 unfolding most_qubits
 read_list-requires-2 c = let g = c.join_support-places.ensures in (part_readable _ _ _ _ g c.requires.0.qubits c.args.right.now c.args.nr c.requires.0.right (λ p m. Memᴰ.append_right (list_of c.args.left.now) m), places_few _ _ _ _ g c.requires.0.qubits, omega (arith, places_few _ _ _ _ g c.requires.0.qubits, c.requires.1, c.join_support-places.auto.known), omega (arith, c.requires.0.few, c.requires.2, c.read_list.ensures.rest.size), (accepted c.args.right.now c.args.nr c.requires.0.right).1)

@@ -8,9 +8,6 @@ loop-i-init c = (omega arith, listed_none _ _ _ _ _)
 pub indexed_product-product-requires : goal.indexed_product-product-requires
 indexed_product-product-requires c = (omega (arith, c.loop-i.invariant.1.rest.size), omega arith)
 
-pub store-requires : goal.store-requires
-store-requires c = omega (arith, c.loop-i.invariant.1.rest.size)
-
 pub loop-i-preserved : goal.loop-i-preserved
 loop-i-preserved c =
     let set = rw c.count-count.ensures.0 at c.subset_at-set.ensures in

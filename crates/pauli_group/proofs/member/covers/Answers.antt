@@ -16,9 +16,6 @@ returns-then-i-count c =
     covered_none _ _ _ _ _ _ _ c.loop-k.invariant c.loop-k-test.true _ c.u32_at.ensures _ c.place_from-place.ensures
     c.requires.2 (λ l e. omega (arith, size, c.if-i-count.true))
 
-pub qubit_at-met-requires : goal.qubit_at-met-requires
-qubit_at-met-requires c = omega (arith, c.if-i-count.false, c.requires.1)
-
 pub returns-then-met-q : goal.returns-then-met-q
 returns-then-met-q c =
     let at = get_or-take c.args.count c.args.support.now c.place_from-place.result.0 0 (omega (arith, c.if-i-count.false)) in

@@ -4,9 +4,6 @@ use Rattle.pauli_group.proofs.area.AreaLaws.{form_room}
 use Rattle.pauli_group.proofs.modulo.RemainderLaws.{multiplied_start, multiplied_end, pivot_room, places_some, qubit_room, loaded_moves, place_few, multiplied_next}
 use Rattle.pauli_group.proofs.modulo.multiply_all.Goals as goal
 
-pub stride_of-requires : goal.stride_of-requires
-stride_of-requires c = omega (arith, c.requires.6.list_few)
-
 pub overflow_mul-at : goal.overflow_mul-at
 overflow_mul-at c =
     let at : c.args.n * c.stride_of.result ≡ c.args.n * stride_of c.args.n = ap (c.args.n *◌) c.stride_of.ensures in

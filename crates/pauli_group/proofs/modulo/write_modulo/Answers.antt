@@ -28,9 +28,6 @@ write_roll-wrote-requires c =
       remainder_on left _ (joined_size c.args.left.now c.args.right.now _ _ _ c.requires.0.qubits join.ensures),
     )
 
-pub clear_bits-requires : goal.clear_bits-requires
-clear_bits-requires c = omega (arith, c.remainder-count.auto.w, c.requires.1)
-
 pub shape_of-w : goal.shape_of-w
 shape_of-w c = c.clear_bits.auto.w ∙ c.remainder-count.auto.w
 

@@ -17,9 +17,6 @@ move_pauli-requires c =
     let m = kept_movable _ _ _ _ _ _ _ l.invariant.1.rest c.requires.0 c.loop-i-test.true _ _ _ c.requires.6 c.requires.7 _ c.load-p.ensures in
     (c.requires.2, c.requires.3, c.requires.4, c.requires.5, m.0, m.1, m.2)
 
-pub store-requires : goal.store-requires
-store-requires c = omega (arith, c.loop-i.invariant.1.rest.size, c.requires.1)
-
 pub loop-i-preserved : goal.loop-i-preserved
 loop-i-preserved c =
     let l = c.loop-i in

@@ -9,9 +9,6 @@ loop-i-init c =
     let f = first_told (omega arith) c.first_from-i.ensures in
     (f.found, λ _. omega arith, move_skip _ _ _ _ _ p.2 p.1 p.3 p.5 f (move_start _ _ _ _ _ p.2 p.1 p.3 p.5 _ c.none-moved.ensures))
 
-pub qubit_at-requires : goal.qubit_at-requires
-qubit_at-requires c = omega (arith, c.requires.1)
-
 pub place_from-place-requires : goal.place_from-place-requires
 place_from-place-requires c =
     let l = c.loop-i in
@@ -23,9 +20,6 @@ with_place-moved-requires c =
     let l = c.loop-i in
     let p = c.requires in
     rw c.place_from-place.ensures (move_place _ _ _ _ _ p.2 p.1 p.3 p.5 _ _ c.loop-i-test.true (l.invariant.0 (omega (arith, p.0))) c.qubit_at.ensures)
-
-pub first_from-i-requires-in-loop-i : goal.first_from-i-requires-in-loop-i
-first_from-i-requires-in-loop-i c = omega (arith, c.requires.0)
 
 pub loop-i-smaller : goal.loop-i-smaller
 loop-i-smaller c = omega (arith, (first_told (omega (arith, c.requires.0)) c.first_from-i-in-loop-i.ensures).from)

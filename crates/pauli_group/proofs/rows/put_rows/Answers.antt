@@ -49,9 +49,6 @@ loop-i-preserved c =
     _ c.load.ensures _ c.put_row.ensures in
     (omega arith, next)
 
-pub shape_of-w : goal.shape_of-w
-shape_of-w c = omega (arith, c.loop-i.invariant.1.rest.size)
-
 pub returns : goal.returns
 returns c =
     rows_all _ _ _ _ _ (λ q. (c.slice_known-1.given q).fits) c.requires.0 c.requires.1 _ _

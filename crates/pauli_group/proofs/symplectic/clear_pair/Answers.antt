@@ -12,12 +12,6 @@ use Rattle.pauli_group.proofs.symplectic.clear_pair.Goals.{then-i-k, else-i-k}
 pub loop-i-init : goal.loop-i-init
 loop-i-init c = (omega arith, stored_none normal _ _ _ _, outside_refl _ _ _)
 
-pub load-g-requires : goal.load-g-requires
-load-g-requires c = omega (arith, c.loop-i.invariant.2.size)
-
-pub store-requires : goal.store-requires
-store-requires c = omega (arith, c.loop-i.invariant.2.size)
-
 pub loop-i-preserved : goal.loop-i-preserved
 loop-i-preserved c = let loop = c.loop-i in
     let load = c.load-g in

@@ -8,12 +8,6 @@ use Rattle.pauli_group.proofs.symplectic.copy_list.Goals as goal
 pub loop-i-init : goal.loop-i-init
 loop-i-init c = (omega arith, stored_none normal _ _ _ _)
 
-pub load-requires : goal.load-requires
-load-requires c = omega (arith, c.loop-i.invariant.1.rest.size)
-
-pub store-requires : goal.store-requires
-store-requires c = omega (arith, c.loop-i.invariant.1.rest.size)
-
 pub loop-i-preserved : goal.loop-i-preserved
 loop-i-preserved c = let loop = c.loop-i in
     let w = c.args.w.now in let from = c.args.from in let n = c.args.n in (
