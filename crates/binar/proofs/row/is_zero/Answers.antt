@@ -10,24 +10,9 @@ use Rattle.binar.proofs.row.is_zero.Goals as goal
 pub loop-k-init : goal.loop-k-init
 loop-k-init c = (omega arith, zero_start _ _ _)
 
-pub overflow_add-at : goal.overflow_add-at
-overflow_add-at c = omega arith
-
-pub offset_bounds-w-at : goal.offset_bounds-w-at
-offset_bounds-w-at c = omega arith
-
-pub bounds-w-at : goal.bounds-w-at
-bounds-w-at c = omega arith
-
 pub returns-then-w-at-ne0 : goal.returns-then-w-at-ne0
 unfolding zero_from
 returns-then-w-at-ne0 c = sym (c.loop-k.invariant.1 ∙ zero_hit_step _ _ _ _ c.loop-k-test.true (omega arith) (c.shared_slice_known-1.given _).fits c.if-w-at-ne0.true)
-
-pub overflow_add-k : goal.overflow_add-k
-overflow_add-k c = omega arith
-
-pub loop-k-smaller : goal.loop-k-smaller
-loop-k-smaller c = omega arith
 
 pub loop-k-preserved : goal.loop-k-preserved
 loop-k-preserved c = (omega arith, c.loop-k.invariant.1 ∙ zero_miss_step _ _ _ _ c.loop-k-test.true (omega arith) (c.shared_slice_known-1.given _).fits c.if-w-at-ne0.false)
@@ -35,18 +20,6 @@ loop-k-preserved c = (omega arith, c.loop-k.invariant.1 ∙ zero_miss_step _ _ _
 pub returns-then-cols-eq0 : goal.returns-then-cols-eq0
 unfolding zero_from
 returns-then-cols-eq0 c = sym (c.loop-k.invariant.1 ∙ zero_none_step c.args.w.now c.args.at c.args.cols c.loop-k.k (omega arith))
-
-pub overflow_add-result : goal.overflow_add-result
-overflow_add-result c = omega arith
-
-pub offset_bounds-w-at-2 : goal.offset_bounds-w-at-2
-offset_bounds-w-at-2 c = omega arith
-
-pub bounds-w-at-2 : goal.bounds-w-at-2
-bounds-w-at-2 c = omega arith
-
-pub overflow_shl-result : goal.overflow_shl-result
-overflow_shl-result c = omega arith
 
 pub nonzero_rem-result-2 : goal.nonzero_rem-result-2
 nonzero_rem-result-2 c = rw (one_shifted (c.args.cols % 64) (omega arith)) (pow_pos _)

@@ -8,15 +8,6 @@ use Rattle.binar.proofs.row.weight.Goals as goal
 pub loop-k-init : goal.loop-k-init
 loop-k-init c = (omega arith, omega arith, weight_start _ _ _)
 
-pub overflow_add-total : goal.overflow_add-total
-overflow_add-total c = omega arith
-
-pub offset_bounds-w-at : goal.offset_bounds-w-at
-offset_bounds-w-at c = omega arith
-
-pub bounds-w-at : goal.bounds-w-at
-bounds-w-at c = omega arith
-
 pub overflow_cast-total : goal.overflow_cast-total
 overflow_cast-total c = omega (arith, ones-le 64 _ (c.shared_slice_known-1.given (c.args.at + c.loop-k.k)).fits)
 

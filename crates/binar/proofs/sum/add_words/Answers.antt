@@ -8,36 +8,6 @@ use Rattle.binar.proofs.sum.add_words.Goals as goal
 pub loop-k-init : goal.loop-k-init
 loop-k-init c = (omega arith, refl, two_start _ _ _ _ c.requires.0, by_start (added _) _ _ _ _)
 
-pub overflow_add-to : goal.overflow_add-to
-overflow_add-to c = omega arith
-
-pub offset_bounds-w-to : goal.offset_bounds-w-to
-offset_bounds-w-to c = omega arith
-
-pub bounds-w-to : goal.bounds-w-to
-bounds-w-to c = omega arith
-
-pub overflow_add-from : goal.overflow_add-from
-overflow_add-from c = omega arith
-
-pub offset_bounds-w-from : goal.offset_bounds-w-from
-offset_bounds-w-from c = omega arith
-
-pub bounds-w-from : goal.bounds-w-from
-bounds-w-from c = omega arith
-
-pub added_word-requires : goal.added_word-requires
-added_word-requires c = omega arith
-
-pub overflow_add-w : goal.overflow_add-w
-overflow_add-w c = omega arith
-
-pub offset_bounds-w-to-in-loop-k : goal.offset_bounds-w-to-in-loop-k
-offset_bounds-w-to-in-loop-k c = omega arith
-
-pub bounds-w-to-in-loop-k : goal.bounds-w-to-in-loop-k
-bounds-w-to-in-loop-k c = omega arith
-
 pub loop-k-preserved : goal.loop-k-preserved
 unfolding ◌⊕◌
 loop-k-preserved c =
@@ -48,9 +18,6 @@ loop-k-preserved c =
       two_step _ _ _ _ _ test l.invariant.2 _,
       rw c.added_word.ensures (l.invariant.3 ∙ added_step _ _ _ _ _ test l.invariant.2 (λ q. (c.slice_known-in-loop-k-1.given q).fits) _ c.requires.1),
     )
-
-pub shape_of-w : goal.shape_of-w
-shape_of-w c = omega arith
 
 pub returns : goal.returns
 unfolding added
