@@ -10,7 +10,6 @@ ghost use Rattle.factorizations.specs.Answers.{told_factorizations};
 ghost use Rattle.sizes.specs.Answers.{told_sizes, told_bound, told_page};
 ghost use Rattle.capi.specs.Code.{code_refusal as code_refusal_spec, code_values as code_values_spec, code_number, code_phases as code_phases_spec, code_looked as code_looked_spec, code_member as code_member_spec, code_results as code_results_spec, code_sizes as code_sizes_spec, order_number as order_number_spec, code_order as code_order_spec, code_form as code_form_spec};
 
-use binar::matrix_form::Formation;
 use factorizations::answers::ResultsFound;
 use pauli::lookup::EntryFound;
 use pauli::refusal::{Refusal, number_of};
@@ -200,11 +199,11 @@ pub(crate) fn code_order(found: OrderFound) -> Answer
     }
 }
 
-pub(crate) fn code_form(formation: Formation) -> Answer
-    ensures { result ≡ code_form_spec formation }
+pub(crate) fn code_form(rank: Option<usize>) -> Answer
+    ensures { result ≡ code_form_spec rank }
 {
-    match formation {
-        Formation::Rank(n) => code_values(1, n, 0),
-        Formation::Misfit => code_values(0, 0, 0),
+    match rank {
+        Some(n) => code_values(1, n, 0),
+        None => code_values(0, 0, 0),
     }
 }
