@@ -8,7 +8,7 @@ use native.Mathlib.Numerals.{add-one}
 use native.Mathlib.Omega.{arith}
 use native.Mathlib.Decide.{dec_lt}
 use lib.Bits.{bit_xor, xor_block, xor_lt}
-use lib.ListN.{length, get_or, set, take, drop, take-append-drop, length-set}
+use lib.ListN.{length, replicate, get_or, set, take, drop, take-append-drop, length-set}
 use lib.Pow.{high, low}
 use borrow.Rule.Slice.PartMut.{put_mid}
 use lib.Seq.{drop-cons, drop-drop, take-suc-set, take-set-le, drop-set-lt, drop-set-add, get_or-set_same, get_or-set_other, set_comm}
@@ -61,6 +61,11 @@ unfolding put_row
 put_part l ws i n v e =
     let k : i + n - i ≡ n = omega arith in
     ap₂ (λ (s : List ℕ) (t : List ℕ). take i l ++ (s ++ t)) e (ap (λ (m : ℕ). drop m (drop i l)) k ∙ drop-drop n i l)
+
+pub zero_words : (n : ℕ) → replicate n 0 ≡ words n 0
+unfolding words
+zero_words zero = refl
+zero_words (suc n) = ap (0 ∷◌) (zero_words n)
 
 pub put_first : (l : List ℕ) (i n v : ℕ) → i < length l → put_row l i (suc n) v ≡ put_row (set l i (v % 2 ^ 64)) (i + 1) n (v / 2 ^ 64)
 unfolding put_row words
