@@ -47,10 +47,11 @@ fn reduce(w: &mut [u64], shape: Layout, pivot: Cell)
     requires { (shape.rows * shape.stride ≤ length w.old) × (pivot.row < shape.rows) × (pivot.col < shape.cols) }
     ensures { w.new ≡ image shape.stride (add_to_others pivot.col (row_at w.old (pivot.row * shape.stride) shape.stride) pivot.row 0 (matrix shape.stride shape.rows w.old)) (drop (shape.rows * shape.stride) w.old) }
 {
+    let stride = shape.stride;
     for i in 0..shape.rows {
         if i != pivot.row {
-            let bit = index(w, i * shape.stride, pivot.col);
-            add_if(w, i * shape.stride, pivot.row * shape.stride, shape.stride, bit);
+            let bit = index(w, i * stride, pivot.col);
+            add_if(w, i * stride, pivot.row * stride, stride, bit);
         }
     }
 }
@@ -61,13 +62,20 @@ pub(crate) fn echelonize(w: &mut [u64], shape: Layout) -> usize
     ensures rank { result ≡ length (echelonized shape.cols (matrix shape.stride shape.rows w.old)).pivots }
     ensures left { w.new ≡ laid_out shape.stride (echelonized shape.cols (matrix shape.stride shape.rows w.old)) w.old }
 {
+    let stride = shape.stride;
     let mut next = Cell { row: 0, col: 0 };
     while let Some(found) = pivot_of(w, shape, next) {
-        let pivot = Cell { row: next.row, col: found.col };
-        swap_rows(w, found.row * shape.stride, pivot.row * shape.stride, shape.stride);
+        let pivot = Cell {
+            row: next.row,
+            ..found
+        };
+        swap_rows(w, found.row * stride, pivot.row * stride, stride);
         reduce(w, shape, pivot);
-        w[shape.rows * shape.stride + pivot.row] = pivot.col as u64;
-        next = Cell { row: pivot.row + 1, col: pivot.col + 1 };
+        w[shape.rows * stride + pivot.row] = pivot.col as u64;
+        next = Cell {
+            row: pivot.row + 1,
+            col: pivot.col + 1,
+        };
     }
     next.row
 }

@@ -17,7 +17,8 @@ pub(crate) fn is_zero(w: &[u64], at: usize, cols: usize) -> bool
     ensures { result ≡ eqb (value (drop at w.now) % 2 ^ cols) 0 }
 {
     let last = at + cols / 64;
-    w[at..last].iter().all(|word| *word == 0) && (cols % 64 == 0 || w[last] % (1 << (cols % 64)) == 0)
+    w[at..last].iter().all(|word| *word == 0)
+        && (cols % 64 == 0 || w[last] % (1 << (cols % 64)) == 0)
 }
 
 // How many ones the row of n words at word at has.

@@ -8,7 +8,7 @@ fn added_word(x: u64, y: u64, bit: u64) -> u64
     requires { bit ≤ 1 }
     ensures { result ≡ x ⊕ bit * y }
 {
-    x ^ ((bit * 18446744073709551615) & y)
+    x ^ ((bit * u64::MAX) & y)
 }
 
 // Adds the row of N words at word from to the one at word to, if bit is 1. All sums are made before the first is stored, so that
@@ -41,8 +41,8 @@ pub(crate) fn add_if(w: &mut [u64], to: usize, from: usize, n: usize, bit: u64)
     ensures { w.new ≡ put_row w.old to n (row_at w.old to n ⊕ bit * row_at w.old from n) }
 {
     match n {
-        6 => add_row::<6>(w, to, from, bit),
         5 => add_row::<5>(w, to, from, bit),
+        6 => add_row::<6>(w, to, from, bit),
         _ => add_words(w, to, from, n, bit),
     }
 }

@@ -126,13 +126,9 @@ rest_kept : (l : List ℕ) (i n x : ℕ) → row_at (set l i x) (i + 1) n ≡ ro
 unfolding Outside
 rest_kept l i n x = row_kept l i (i + 1) n x (inl (omega arith))
 
--- the rows of n words at i and j, after the second is added b times to the first, the first is set to the second, or both are
--- exchanged
+-- the rows of n words at i and j, after the second is added b times to the first, or both are exchanged
 unfoldable pub added : ℕ → List ℕ → ℕ → ℕ → ℕ → List ℕ
 added b l i j n = put_row l i n (row_at l i n ⊕ b * row_at l j n)
-
-unfoldable pub copied : List ℕ → ℕ → ℕ → ℕ → List ℕ
-copied l i j n = put_row l i n (row_at l j n)
 
 unfoldable pub exchanged : List ℕ → ℕ → ℕ → ℕ → List ℕ
 exchanged l i j n = put_row (put_row l i n (row_at l j n)) j n (row_at l i n)
@@ -168,7 +164,7 @@ sum_words b hb l f (w ∷ ws) i j hi hj h =
     let e = sum_next b hb l f i j n (omega arith) (omega arith) in
     let first : w ≡ x = h 0 (omega arith) ∙ simp add-zero in
     let others : ws ≡ words n v = sum_words b hb l f ws (i + 1) (j + 1) (omega arith) (omega arith)
-        (λ k q. h (suc k) (omega arith) ∙ ap₂ (λ (p : ℕ) (r : ℕ). bit_xor (get_or l p 0) (b * get_or l r 0)) (omega arith) (omega arith)) in
+    (λ k q. h (suc k) (omega arith) ∙ ap₂ (λ (p : ℕ) (r : ℕ). bit_xor (get_or l p 0) (b * get_or l r 0)) (omega arith) (omega arith)) in
     rw e (ap₂ ◌∷◌ (first ∙ sym (low v 64 lt)) (others ∙ ap (words n) (sym (high v 64 lt))))
 
 module _ (l : List ℕ) (i j n : ℕ) (f : AreWords l) (t : TwoRows l i j (suc n)) where
@@ -179,14 +175,6 @@ module _ (l : List ℕ) (i j n : ℕ) (f : AreWords l) (t : TwoRows l i j (suc n
       ap (put_row l i (suc n)) (sum_next b hb l f i j n (omega (arith, t.first)) (omega (arith, t.second)))
       ∙ put_next l i n (bit_xor (row_at l (i + 1) n) (b * row_at l (j + 1) n)) x (omega (arith, t.first)) (word_sum b hb l f i j)
       ∙ sym (ap₂ (λ (v : ℕ) (w : ℕ). put_row (set l i x) (i + 1) n (bit_xor v (b * w))) (rest_kept l i n x) (two_kept l i j n x t))
-
-  copied_next : copied l i j (suc n) ≡ copied (set l i (get_or l j 0)) (i + 1) (j + 1) n
-  unfolding copied
-  copied_next =
-      let x = get_or l j 0 in
-      ap (put_row l i (suc n)) (row_next l j n (omega (arith, t.second)))
-      ∙ put_next l i n (row_at l (j + 1) n) x (omega (arith, t.first)) (f j)
-      ∙ sym (ap (put_row (set l i x) (i + 1) n) (two_kept l i j n x t))
 
   exchanged_next : exchanged l i j (suc n)
       ≡ exchanged (set (set l i (get_or l j 0)) j (get_or l i 0)) (i + 1) (j + 1) n
@@ -233,9 +221,6 @@ module _ (l : List ℕ) (i j n k : ℕ) (h : k < n) (t : TwoRows l (i + k) (j + 
     pub added_step : (b : ℕ) → b ≤ 1 → added b l (i + k) (j + k) (n - k) ≡ added b (set l (i + k) (bit_xor (get_or l (i + k) 0) (b * get_or l (j + k) 0))) (i + (k + 1)) (j + (k + 1)) (n - (k + 1))
     added_step b hb = by_step (added b) _ (added_next l (i + k) (j + k) (n - (k + 1)) f two_here b hb)
 
-    pub copied_step : copied l (i + k) (j + k) (n - k) ≡ copied (set l (i + k) (get_or l (j + k) 0)) (i + (k + 1)) (j + (k + 1)) (n - (k + 1))
-    copied_step = by_step copied _ (copied_next l (i + k) (j + k) (n - (k + 1)) f two_here)
-
     pub exchanged_step : exchanged l (i + k) (j + k) (n - k)
         ≡ exchanged (set (set l (i + k) (get_or l (j + k) 0)) (j + k) (get_or l (i + k) 0)) (i + (k + 1)) (j + (k + 1)) (n - (k + 1))
     exchanged_step = by_step exchanged _ (exchanged_next l (i + k) (j + k) (n - (k + 1)) f two_here)
@@ -255,22 +240,6 @@ module _ (l : List ℕ) (i j n k : ℕ) (h : n ≤ k) where
   unfolding added
   added_none b = rw none (put_none l (i + k) _)
 
-  pub copied_none : copied l (i + k) (j + k) (n - k) ≡ l
-  unfolding copied
-  copied_none = rw none (put_none l (i + k) _)
-
   pub exchanged_none : exchanged l (i + k) (j + k) (n - k) ≡ l
   unfolding exchanged
   exchanged_none = rw none (put_none _ (j + k) _ ∙ put_none l (i + k) _)
-
--- ---- zeros by a counter
-pub cleared_start : (l : List ℕ) (i n : ℕ) → put_row l i n 0 ≡ put_row l (i + 0) (n - 0) 0
-cleared_start l i n = simp (add-zero, sub-zero)
-
-pub cleared_step : (l : List ℕ) (i n k : ℕ) → k < n → i + k < length l → put_row l (i + k) (n - k) 0 ≡ put_row (set l (i + k) 0) (i + (k + 1)) (n - (k + 1)) 0
-cleared_step l i n k h b =
-    let e : n - k ≡ suc (n - (k + 1)) = omega arith in
-    rw e (put_first l (i + k) (n - (k + 1)) 0 b ∙ ap (λ (p : ℕ). put_row (set l (i + k) 0) p (n - (k + 1)) 0) (add_assoc i k 1))
-
-pub cleared_none : (l : List ℕ) (i n k : ℕ) → n ≤ k → put_row l (i + k) (n - k) 0 ≡ l
-cleared_none l i n k h = let e : n - k ≡ 0 = omega arith in rw e (put_none l (i + k) 0)

@@ -10,4 +10,4 @@ abbrev pub invariant-loop-i : goal.invariant-loop-i
 invariant-loop-i l =
     AreWords l.initial.w
     × (length l.w ≡ length l.initial.w)
-    × (l.w ≡ rewritten l.initial.w l.shape.stride l.shape.rows (cleared l.initial.w l.shape.stride l.shape.rows l.pivot.row l.pivot.col) l.i)
+    × (l.w ≡ rewritten l.initial.w l.fn.shape.stride l.fn.shape.rows (cleared l.initial.w l.fn.shape.stride l.fn.shape.rows l.pivot.row l.pivot.col) l.i)

@@ -1,4 +1,4 @@
-use Rattle.std.proofs.Common.{ℕ, ◌≡◌, ◌+◌, ◌-◌, length, ap, ◌∙◌, arith}
+use Rattle.std.proofs.Common.{ℕ, ◌≡◌, ◌+◌, ◌-◌, ap, ◌∙◌, arith}
 use lib.ListN.{replicate, length-drop}
 use lib.Seq.{length-take-le}
 use Rattle.binar.proofs.row.Slice.{put_part, zero_words}

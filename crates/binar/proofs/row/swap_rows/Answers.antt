@@ -1,6 +1,6 @@
 use Rattle.std.proofs.lemmas.List.Edits.{swap_is}
 use Rattle.binar.proofs.row.Slice.{exchanged, exchanged_step, exchanged_none, two_step_both, two_start, by_start}
-use mathlib.Core.Path.{◌≡◌, sym, ◌∙◌}
+use mathlib.Core.Path.{sym, ◌∙◌}
 use native.Mathlib.Omega.{arith}
 use Rattle.binar.proofs.row.swap_rows.Goals as goal
 

@@ -15,7 +15,7 @@ loop-k-preserved g c =
       l.invariant.0,
       simp length-set l.invariant.1,
       below_more _ _ (λ k h. let other : k ≢ l.k = omega arith in rw get_or-set_other (l.invariant.2 k h))
-      (rw get_or-set_same c.added_word.ensures),
+          (rw get_or-set_same c.added_word.ensures),
     )
 
 pub returns : goal.returns
