@@ -4,7 +4,7 @@
 // and addition, so that T, kept there, needs no work of its own.
 ghost use Rattle.std.specs.Prelude.{◌≡◌, ◌+◌, ◌*◌, ◌≤◌, ◌<◌, length, drop, IfSome};
 ghost use Rattle.binar.specs.Words.{row_at, matrix, image};
-ghost use Rattle.binar.specs.Echelon.{pivot_of as first_one, add_to_others, echelonize as echelonized};
+ghost use Rattle.binar.specs.Echelon.{pivot_of, add_to_others, echelonize};
 ghost use Rattle.binar.specs.Laid.{laid_out};
 
 use crate::row::{index, swap_rows};
@@ -29,7 +29,7 @@ pub(crate) struct Cell {
 // The first cell that holds a one, column by column from that of start on, each from the row of start down.
 fn pivot_of(w: &[u64], shape: Layout, start: Cell) -> Option<Cell>
     requires { shape.rows * shape.stride ≤ length w.now }
-    ensures first { result ≡ first_one shape.cols start.row start.col (matrix shape.stride shape.rows w.now) }
+    ensures first { result ≡ pivot_of shape.cols start.row start.col (matrix shape.stride shape.rows w.now) }
     ensures inside { IfSome result (λ cell. (start.row ≤ cell.row) × (cell.row < shape.rows) × (cell.col < shape.cols)) }
 {
     for col in start.col..shape.cols {
@@ -59,8 +59,8 @@ fn reduce(w: &mut [u64], shape: Layout, pivot: Cell)
 // Reduces the matrix in place, writes the pivots behind its rows, and returns how many there are.
 pub(crate) fn echelonize(w: &mut [u64], shape: Layout) -> usize
     requires { shape.rows * shape.stride + shape.rows ≤ length w.old }
-    ensures rank { result ≡ length (echelonized shape.cols (matrix shape.stride shape.rows w.old)).pivots }
-    ensures left { w.new ≡ laid_out shape.stride (echelonized shape.cols (matrix shape.stride shape.rows w.old)) w.old }
+    ensures rank { result ≡ length (echelonize shape.cols (matrix shape.stride shape.rows w.old)).pivots }
+    ensures left { w.new ≡ laid_out shape.stride (echelonize shape.cols (matrix shape.stride shape.rows w.old)) w.old }
 {
     let stride = shape.stride;
     let mut next = Cell { row: 0, col: 0 };

@@ -1,6 +1,6 @@
 // Rows in a slice of words. A row is named by the word at which it starts and by how many words or columns of it count.
 ghost use Rattle.std.specs.Prelude.{◌≡◌, ◌+◌, ◌/◌, ◌%◌, ◌^◌, ◌≤◌, ◌<◌, eqb, length, drop};
-ghost use Rattle.binar.specs.Row.{bit, weight as weight_of, dot as dot_of};
+ghost use Rattle.binar.specs.Row.{bit, weight, dot};
 ghost use Rattle.binar.specs.Words.{value, row_at, put_row, TwoRows};
 
 // The bit of column k of the row at word at.
@@ -24,7 +24,7 @@ pub(crate) fn is_zero(w: &[u64], at: usize, cols: usize) -> bool
 // How many ones the row of n words at word at has.
 pub fn weight(w: &[u64], at: usize, n: usize) -> usize
     requires { (at + n ≤ length w.now) × (n < 2 ^ 57) }
-    ensures { result ≡ weight_of (row_at w.now at n) }
+    ensures { result ≡ weight (row_at w.now at n) }
 {
     let mut total = 0;
     for k in 0..n {
@@ -36,7 +36,7 @@ pub fn weight(w: &[u64], at: usize, n: usize) -> usize
 // 1 where the rows of n words at words i and j share an odd number of ones, else 0.
 pub fn dot(w: &[u64], i: usize, j: usize, n: usize) -> u64
     requires { (i + n ≤ length w.now) × (j + n ≤ length w.now) }
-    ensures { result ≡ dot_of (row_at w.now i n) (row_at w.now j n) }
+    ensures { result ≡ dot (row_at w.now i n) (row_at w.now j n) }
 {
     let mut shared = 0;
     for k in 0..n {
