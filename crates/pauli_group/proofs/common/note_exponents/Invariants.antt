@@ -1,5 +1,5 @@
 -- Invariant: exponents are noted with the first i Paulis.
-use Rattle.std.proofs.Common.{◌-◌, ◌≤◌, take}
+use Rattle.std.proofs.Common.{◌≤◌, take}
 use Rattle.pauli_group.specs.Inner.Shared.{exponent_over, noted}
 use Rattle.pauli_group.proofs.common.SharedLaws.{NotedUpTo}
 use Rattle.pauli_group.proofs.common.note_exponents.Given as goal

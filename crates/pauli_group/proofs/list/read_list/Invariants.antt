@@ -1,5 +1,5 @@
 -- Invariant: the first i Paulis are stored.
-use Rattle.std.proofs.Common.{◌-◌, ◌≤◌, take}
+use Rattle.std.proofs.Common.{◌≤◌, take}
 use Rattle.pauli.specs.Condense.{list_of}
 use Rattle.pauli_group.specs.Inner.Lists.{over_places}
 use Rattle.pauli_group.proofs.list.ListLaws.{StoredUpTo}

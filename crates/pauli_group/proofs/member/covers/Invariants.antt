@@ -1,5 +1,5 @@
 -- Invariant: the answer is that for the numbers from number k on.
-use Rattle.std.proofs.Common.{◌-◌, take}
+use Rattle.std.proofs.Common.{take}
 use Rattle.pauli_group.proofs.member.MemberLaws.{CoveredFrom}
 use Rattle.pauli_group.proofs.member.covers.Given as goal
 

@@ -1,5 +1,5 @@
 -- Invariant: the first k standard generators are dealt with.
-use Rattle.std.proofs.Common.{◌-◌, take}
+use Rattle.std.proofs.Common.{take}
 use Rattle.pauli_group.proofs.modulo.RemainderLaws.{MultipliedUpTo}
 use Rattle.pauli_group.proofs.modulo.multiply_all.Given as goal
 

@@ -1,5 +1,5 @@
 -- Invariant: the first i Paulis are moved.
-use Rattle.std.proofs.Common.{◌-◌, ◌≤◌, take}
+use Rattle.std.proofs.Common.{◌≤◌, take}
 use Rattle.pauli.specs.Pauli.{normal}
 use Rattle.pauli.specs.Signed.{list_in}
 use Rattle.pauli_theory.specs.Inner.ModuloPlaces.{moved_pauli}
