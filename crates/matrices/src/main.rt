@@ -28,7 +28,10 @@ struct Line {
 
 impl Line {
     fn new() -> Self {
-        Line { bytes: [0; 1024], len: 0 }
+        Line {
+            bytes: [0; 1024],
+            len: 0,
+        }
     }
 
     fn put(&mut self, b: u8) {
@@ -80,12 +83,7 @@ impl Line {
 
 // ---- the form
 
-fn print_head<W: Write>(
-    out: &mut W,
-    rows: usize,
-    cols: usize,
-    pivots: &[u64],
-) -> io::Result<()> {
+fn print_head<W: Write>(out: &mut W, rows: usize, cols: usize, pivots: &[u64]) -> io::Result<()> {
     let mut line = Line::new();
     line.put_number(rows as u64);
     line.put_text(b" by ");
@@ -98,12 +96,7 @@ fn print_head<W: Write>(
 }
 
 // The rows: cols bits of R, and a bit of T for each row, behind R's width words.
-fn print_rows<W: Write>(
-    out: &mut W,
-    w: &[u64],
-    width: usize,
-    shape: Layout,
-) -> io::Result<()>
+fn print_rows<W: Write>(out: &mut W, w: &[u64], width: usize, shape: Layout) -> io::Result<()>
     requires { (shape.rows * shape.stride ≤ length w.now) × (shape.stride ≡ width + (shape.rows + 63) / 64) × (shape.cols ≤ 64 * width) }
 {
     for i in 0..shape.rows {

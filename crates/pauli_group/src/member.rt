@@ -101,7 +101,11 @@ pub(crate) fn solve(w: &mut [u64], n: usize, s: usize, rank: usize, p: Pauli) ->
     let stride = stride_of(n);
     clear_bits(w, TARGET + ROW_WORDS, stride - ROW_WORDS);
     put_row(w, TARGET, p, s);
-    let shape = Layout { stride, rows: n, cols: 2 * s };
+    let shape = Layout {
+        stride,
+        rows: n,
+        cols: 2 * s,
+    };
     if transpose_solve(w, shape, rank, TARGET) {
         Solved::Set(named_by(w, TARGET, n))
     } else {

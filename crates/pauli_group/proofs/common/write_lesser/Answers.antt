@@ -9,7 +9,7 @@ pub returns-in-Equal : goal.returns-in-Equal
 unfolding lesser
 returns-in-Equal c =
     let e : (gs hs x : List Pauli) → lesser (order_of c.args.order) gs hs x ≡ gs =
-        λ gs hs x. rw c.in-Some.is (⊎_elim (λ e. rw e refl) (λ e. rw e refl) c.in-Equal.is) in
+    λ gs hs x. rw c.in-Some.is (⊎_elim (λ e. rw e refl) (λ e. rw e refl) c.in-Equal.is) in
     record { told = rw e c.write_list.ensures.told; left = rw e c.write_list.ensures.left }
 
 pub returns-in-Greater : goal.returns-in-Greater
