@@ -22,7 +22,8 @@ use crate::area::{LIST, ROW_WORDS, TARGET};
 use crate::form::{named_by, stride_of};
 use crate::group::Group;
 use crate::rows::put_row;
-use binar::matrix_form::{Solution, transpose_solve};
+use binar::echelon::Layout;
+use binar::matrix_form::transpose_solve;
 use binar::row::clear_bits;
 use pauli::bytes::u32_at;
 use pauli::condense::condense_from;
@@ -100,10 +101,15 @@ pub(crate) fn solve(w: &mut [u64], n: usize, s: usize, rank: usize, p: Pauli) ->
     let stride = stride_of(n);
     clear_bits(w, TARGET + ROW_WORDS, stride - ROW_WORDS);
     put_row(w, TARGET, p, s);
-    let solution = transpose_solve(w, stride, n, 2 * s, rank, TARGET);
-    match solution {
-        Solution::Set => Solved::Set(named_by(w, TARGET, n)),
-        Solution::NoSet => Solved::NoSet,
+    let shape = Layout {
+        stride,
+        rows: n,
+        cols: 2 * s,
+    };
+    if transpose_solve(w, shape, rank, TARGET) {
+        Solved::Set(named_by(w, TARGET, n))
+    } else {
+        Solved::NoSet
     }
 }
 
