@@ -32,14 +32,16 @@ fn pivot_of(w: &[u64], shape: Layout, start: Cell) -> Option<Cell>
     ensures first { result ≡ pivot_of shape.cols start.row start.col (matrix shape.stride shape.rows w.now) }
     ensures inside { IfSome result (λ cell. (start.row ≤ cell.row) × (cell.row < shape.rows) × (cell.col < shape.cols)) }
 {
-    for col in start.col..shape.cols {
-        for row in start.row..shape.rows {
-            if index(w, row * shape.stride, col) == 1 {
-                return Some(Cell { row, col });
+    'search: {
+        for col in start.col..shape.cols {
+            for row in start.row..shape.rows {
+                if index(w, row * shape.stride, col) == 1 {
+                    break 'search Some(Cell { row, col });
+                }
             }
         }
+        None
     }
-    None
 }
 
 // Adds row pivot.row to all other rows with a one in column pivot.col.

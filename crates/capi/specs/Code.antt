@@ -1,4 +1,4 @@
--- The five numbers of each answer, and promises by number.
+-- The five numbers of each answer.
 use Rattle.std.proofs.Math.Option.{Option, some, none as nothing}
 use Rattle.std.specs.Prelude.{List, ℕ, zero, suc, length, Option as CodeOption, Some, None}
 use Rattle.pauli.specs.Told.{Told, answer, refused}

@@ -27,5 +27,5 @@ loop-col-preserved c = c.loop-row.invariant ∙ row_end _ _ _ _ (rw (length_matr
 pub returns-then-index-eq1-clause-first : goal.returns-then-index-eq1-clause-first
 returns-then-index-eq1-clause-first c = sym (c.loop-row.invariant ∙ row_hit _ _ _ _ (rw (length_matrix _ _ _) c.loop-row-test.true) (sym (c.index.ensures ∙ cell_bit _ _ _ _ _ (λ q. (c.type_inv.w q).fits) c.requires c.loop-row-test.true (omega arith)) ∙ c.if-index-eq1.true))
 
-pub returns-clause-first : goal.returns-clause-first
-returns-clause-first c = sym (c.loop-col.invariant ∙ col_end _ _ _ _ c.loop-col-test.false)
+pub returns-after-loop-col-clause-first : goal.returns-after-loop-col-clause-first
+returns-after-loop-col-clause-first c = sym (c.loop-col.invariant ∙ col_end _ _ _ _ c.loop-col-test.false)
