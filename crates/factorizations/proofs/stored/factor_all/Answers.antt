@@ -26,8 +26,9 @@ store_result-requires c =
       storable _ _ _ _ (sym (factor.told (asked_now c.requires.4 _ (inv.2 c.requires.4)))),
     )
 
-pub overflow_add-k-in-loop-k : goal.overflow_add-k-in-loop-k
-overflow_add-k-in-loop-k c = omega arith
+pub overflow_add-k : goal.overflow_add-k
+unfolding most_paulis
+overflow_add-k c = omega (arith, accepted_few _ _ c.requires.0, c.loop-k-test.true)
 
 pub loop-k-preserved : goal.loop-k-preserved
 unfolding asked_now
