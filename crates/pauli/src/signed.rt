@@ -53,15 +53,15 @@ impl Pauli {
         }
     }
 
-    // 1 where the two anticommute, else 0.
-    pub fn anticommutes(self, other: Pauli) -> u64
-        ensures { result ≡ anticommute (held self) (held other) }
+    // Whether the two anticommute.
+    pub fn anticommutes(self, other: Pauli) -> bool
+        ensures { result ≡ (anticommute (held self) (held other) == 1) }
     {
         let x = self.x;
         let z = self.z;
         let ux = other.x;
         let uz = other.z;
-        (x.dot(uz) + z.dot(ux)) % 2
+        (x.dot(uz) + z.dot(ux)) % 2 == 1
     }
 
     // How many places are in x or z.

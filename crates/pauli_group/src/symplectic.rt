@@ -39,7 +39,7 @@ fn first_anticommuting(w: &[u64], base: usize, n: usize, x: Pauli) -> usize
     ensures { (result ≤ n) × (on_position (position (held x) 0 (list_in w.now base n)) n (λ k. k) ≡ result) }
 {
     for i in 0..n {
-        if x.anticommutes(load(w, base + 5 * i)) == 1 {
+        if x.anticommutes(load(w, base + 5 * i)) {
             return i;
         }
     }
@@ -50,7 +50,7 @@ fn first_anticommuting(w: &[u64], base: usize, n: usize, x: Pauli) -> usize
 fn times_if(p: Pauli, q: Pauli, g: Pauli) -> Pauli
     ensures { normal (held result) ≡ normal (times_if_spec (held p) (held q) (held g)) }
 {
-    if g.anticommutes(p) == 1 {
+    if g.anticommutes(p) {
         return g.times(q).pauli;
     }
     g
