@@ -22,11 +22,10 @@ use Rattle.pauli.proofs.roll.Told.{refused_none, test_pass, test_refuses, test_p
 use Rattle.pauli.proofs.support.Lists.{AllBytes, drop_one}
 use Rattle.pauli.proofs.roll.BytesLaws.{length_numbers, length_le16, le32s_append, numbers_written}
 use Rattle.pauli.proofs.roll.ListSupport.{numbers_append, numbers_by_value}
-use Rattle.pauli.proofs.support.Walk.{insert_all_longer, drop_more}
 use Rattle.pauli.proofs.roll.Paulis.{table_entries, length_entries_of, length_bodies}
 use Rattle.pauli.proofs.roll.Entries.{length_entries_bytes}
 use Rattle.pauli.proofs.roll.RollLaws.{answer_parts, length_encode}
-use Rattle.pauli.proofs.roll.ReaderLaws.{count_read, counted_bound, read_numbers, read_length, read_joined, gathered_all}
+use Rattle.pauli.proofs.roll.ReaderLaws.{count_read, counted_bound, read_numbers, read_length, read_joined}
 use Rattle.pauli.proofs.condense.BodyLaws.{read_count, entry_room, body_room, exponent_is, xs_is, zs_is}
 use Rattle.pauli.proofs.write.Puts.{put_byte, put_nothing, Left, left_start, left_step, left_room, left_done}
 use Rattle.pauli.proofs.write.Writers.{length_entry_bytes}
@@ -107,22 +106,19 @@ module _ (b : List ℕ) (n : ℕ) (e : count_of b ≡ answer n) where
 -- ---- the joined support
 
 module _ (l r : List ℕ) (nl nr : ℕ) (el : count_of l ≡ answer nl) (er : count_of r ≡ answer nr) (kl kr : ℕ)
-    (sl : kl ≡ length (numbers (list_of l))) (sr : kr ≡ length (numbers (list_of r))) (old mid : List ℕ) (m : ℕ)
-    (g : Gathered (insert_all (numbers_at l (2 + 10 * nl) kl) []) old mid m) where
+    (sl : kl ≡ length (numbers (list_of l))) (sr : kr ≡ length (numbers (list_of r))) (mid : List ℕ)
+    (g : Gathered (insert_all (numbers_at l (2 + 10 * nl) kl) []) mid) where
   left_support : insert_all (numbers_at l (2 + 10 * nl) kl) [] ≡ support (list_of l)
   unfolding support numbers insert_all
   left_support = accepted_joined l nl el kl sl []
 
-  left_known : take m mid ≡ support (list_of l)
+  left_known : mid ≡ support (list_of l)
   left_known = g.known (rw left_support (answer_parts l (list_of l) (accepted l nl el).0).qubits) ∙ left_support
 
-  pub both_gathered : (new : List ℕ) (k : ℕ) → Gathered (insert_all (numbers_at r (2 + 10 * nr) kr) (take m mid)) mid new k → Gathered (support (list_of l ++ list_of r)) old new k
-  both_gathered new k h =
-      let same : insert_all (numbers_at r (2 + 10 * nr) kr) (take m mid) ≡ support (list_of l ++ list_of r) = rw left_known (accepted_joined r nr er kr sr (list_of l)) in
-      let few : length (insert_all (numbers_at l (2 + 10 * nl) kl) []) ≤ most_qubits = rw left_support (answer_parts l (list_of l) (accepted l nl el).0).qubits in
-      let size : length (take m mid) ≡ m = ap length (g.known few) ∙ sym (gathered_all _ _ _ _ g few).0 in
-      let more : m ≤ k = omega (arith, size, g.count, h.count, insert_all_longer (numbers_at r (2 + 10 * nr) kr) (take m mid)) in
-      record { count = rw same at h.count; known = rw same at h.known; among = rw same at h.among; rises = h.rises; rest = h.rest ∙ drop_more m k mid old more g.rest }
+  pub both_gathered : (qs : List ℕ) → Gathered (insert_all (numbers_at r (2 + 10 * nr) kr) mid) qs → Gathered (support (list_of l ++ list_of r)) qs
+  both_gathered qs h =
+      let same : insert_all (numbers_at r (2 + 10 * nr) kr) mid ≡ support (list_of l ++ list_of r) = rw left_known (accepted_joined r nr er kr sr (list_of l)) in
+      subst (λ (S : List ℕ). Gathered S qs) same h
 
 -- ---- the counts
 

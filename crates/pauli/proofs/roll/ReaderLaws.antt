@@ -310,7 +310,3 @@ module _ (b : List ℕ) (ps : List Sparse) (e : read b ≡ answer ps) where
   pub read_joined : (qs : List Sparse) → insert_all (numbers_at b (2 + 10 * length ps) (length (numbers ps))) (support qs) ≡ support (qs ++ ps)
   unfolding support
   read_joined qs = rw (read_numbers, numbers_append qs ps, insert_all_append (numbers qs) (numbers ps) [])
-
--- what is gathered of S is S, if that is no more than a list may have
-pub gathered_all : (S old new : List ℕ) (m : ℕ) → Gathered S old new m → length S ≤ most_qubits → (m ≡ length S) × (take m new ≡ S)
-gathered_all S old new m g h = (omega (arith, g.count), g.known h)

@@ -163,30 +163,26 @@ module _ {first : List ℕ} {start : ℕ} {whole out : List ℕ} {next : ℕ} {r
     }
 
 -- the numbers of a set of places are being written, and those of the places from p on are left
-module _ {first : List ℕ} {start : ℕ} {out : List ℕ} {next : ℕ} (s : ℕ) (support : List ℕ) (count : ℕ) (known : count ≤ length support) (p : ℕ)
-    (r : Left first start (le32s (select s (take count support))) out next (le32s (chosen_from s (take count support) p))) where
-  all : length (take count support) ≡ count
-  all = length-take-le count support known
-
-  pub set_done : count ≤ p → (out ≡ put_bytes first start (le32s (select s (take count support)))) × (next ≡ start + 4 * length (select s (take count support)))
+module _ {first : List ℕ} {start : ℕ} {out : List ℕ} {next : ℕ} (s : ℕ) (support : List ℕ) (p : ℕ)
+    (r : Left first start (le32s (select s support)) out next (le32s (chosen_from s support p))) where
+  pub set_done : length support ≤ p → (out ≡ put_bytes first start (le32s (select s support))) × (next ≡ start + 4 * length (select s support))
   unfolding le32s
   set_done h =
-      let e = left_done r (ap le32s (chosen_end s (take count support) p (rw all h))) in
-      (e.0, e.1 ∙ ap (start +◌) (length_le32s (select s (take count support))))
+      let e = left_done r (ap le32s (chosen_end s support p h)) in
+      (e.0, e.1 ∙ ap (start +◌) (length_le32s (select s support)))
 
-  pub set_skip : {n k : ℕ} → First n s p k → Left first start (le32s (select s (take count support))) out next (le32s (chosen_from s (take count support) k))
-  set_skip f = left_same r _ (ap le32s (chosen_skip s (take count support) f))
+  pub set_skip : {n k : ℕ} → First n s p k → Left first start (le32s (select s support)) out next (le32s (chosen_from s support k))
+  set_skip f = left_same r _ (ap le32s (chosen_skip s support f))
 
-  module _ (h : p < count) (o : bit s p ≡ 1) where
-    number : le32s (chosen_from s (take count support) p) ≡ le32 (get_or support p 0) ++ le32s (chosen_from s (take count support) (p + 1))
+  module _ (h : p < length support) (o : bit s p ≡ 1) where
+    number : le32s (chosen_from s support p) ≡ le32 (get_or support p 0) ++ le32s (chosen_from s support (p + 1))
     unfolding le32s
     number =
-        ap le32s (chosen_hit s (take count support) p (rw all h) o)
-        ∙ ap (λ (q : ℕ). le32 q ++ le32s (chosen_from s (take count support) (p + 1))) (get_or-take count support p 0 h)
+        ap le32s (chosen_hit s support p h o)
 
     pub set_room : next + 4 ≤ length out
     set_room = left_room r (le32 (get_or support p 0)) _ 4 number (length_le32 (get_or support p 0))
 
     pub set_hit : (u : List ℕ) → u ≡ put_bytes out next (le32 (get_or support p 0)) → length u ≡ length out
-        → Left first start (le32s (select s (take count support))) u (next + 4) (le32s (chosen_from s (take count support) (p + 1)))
+        → Left first start (le32s (select s support)) u (next + 4) (le32s (chosen_from s support (p + 1)))
     set_hit = left_step r (le32 (get_or support p 0)) _ 4 number (length_le32 (get_or support p 0))
