@@ -1,7 +1,7 @@
 -- The known qubit numbers, rising: at most one more than a list may have.
 use Rattle.std.specs.Prelude.{◌≡◌, ℕ, suc, ◌≤◌, min, Bool, cond, not, List, [], ◌∷◌, ◌++◌, length, take, drop, ◌==◌, nat_lt}
 use mathlib.Core.List.{Memᴰ as Mem}
-use Rattle.pauli.specs.Support.{most_qubits, insert, Rising}
+use Rattle.pauli.specs.Support.{most_qubits, Rising}
 
 -- the first place whose number passes the test, or the list's length
 unfoldable pub first_place : (ℕ → Bool) → List ℕ → ℕ

@@ -21,7 +21,7 @@ use binar::row::clear_bits;
 use pauli::joined::numbers_of;
 use pauli::roll::Checked;
 use pauli::signed::{Pauli, load, store};
-use pauli::support::{MOST_QUBITS, gather};
+use pauli::support::Support;
 use pauli::write::{Wrote, write_roll};
 
 // How many Paulis are left in the list, how many conjugate elements stand at the standard generators' place, and how many
@@ -135,11 +135,12 @@ fn write_symplectic(b: &[u8], n: usize, w: &mut [u64], out: &mut [u8]) -> Wrote
     ensures left { out.new ≡ left_in (answer (symplectic_bytes (paulis (list_of b.now)))) out.old }
     ensures area { w.new ≡ cleared w.old }
 {
-    let mut known = [0u32; MOST_QUBITS + 1];
-    let places = gather(b, 2 + 10 * n, numbers_of(b, n), &mut known, 0);
-    read_list(b, n, &known, places, w, LIST);
+    let mut known = Support::new();
+    known.gather(b, 2 + 10 * n, numbers_of(b, n));
+    let qubits = known.qubits();
+    read_list(b, n, qubits, w, LIST);
     pair_up(w, n);
-    let wrote = write_roll(w, STANDARD, n, &known, places, out);
+    let wrote = write_roll(w, STANDARD, n, qubits, out);
     clear_bits(w, 0, WORK_WORDS);
     wrote
 }

@@ -1,8 +1,8 @@
 -- The known qubit numbers: the walk to a number's place, and what is known once it is put in.
-use Rattle.std.proofs.Common.{◌≡◌, ℕ, zero, suc, ◌+◌, ◌-◌, ◌*◌, ◌<◌, ◌≤◌, Bool, true, false, cond, not, eqb, ltb, List, [], ◌∷◌, ◌++◌, length, get_or, take, drop, set, sym, refl, ap, ◌∙◌, suc-le-suc, add-zero, add-one, arith, length-append, length-drop, length-take-le, take_all, drop-cons, get_or-take, drop-drop, take-suc-set, take_at, drop-set-lt, le-ltb, lt-ltb, eq-eqb, ne_eqb}
+use Rattle.std.proofs.Common.{◌≡◌, ℕ, zero, suc, ◌+◌, ◌-◌, ◌*◌, ◌<◌, ◌≤◌, Bool, true, false, cond, not, eqb, ltb, List, [], ◌∷◌, ◌++◌, length, get_or, take, drop, set, sym, refl, ap, ◌∙◌, suc-le-suc, add-zero, add-one, arith, length-append, length-drop, length-take-le, take_all, drop-cons, get_or-take, take-suc-set, take_at, drop-set-lt, le-ltb, lt-ltb, eq-eqb, ne_eqb}
 use native.Mathlib.Nat.{sub-zero}
 use native.Mathlib.Decide.{dec_lt}
-use lib.Seq.{drop-length, drop-append-add, append_snoc, set_split, take-set-lt}
+use lib.Seq.{drop-length, append_snoc, set_split, take-set-lt}
 use Rattle.pauli.specs.Bytes.{u32_at, numbers_at}
 use Rattle.pauli.specs.Support.{most_qubits, insert, insert_all, Rising}
 use Rattle.pauli.specs.Known.{place_of, first_place, lower, put_at, inserted_at, Gathered}

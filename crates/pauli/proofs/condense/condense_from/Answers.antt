@@ -1,5 +1,5 @@
 -- The body stands where the entry says, within the roll.
-use Rattle.std.proofs.Common.{ℕ, List, take, sym, ap, ◌∙◌, arith}
+use Rattle.std.proofs.Common.{ℕ, List, sym, ap, ◌∙◌, arith}
 use Rattle.pauli.proofs.signed.Algebra.{pauli_path}
 use Rattle.pauli.proofs.condense.BodyLaws.{entry_room, body_room, exponent_is, xs_is, zs_is}
 use Rattle.pauli.specs.Condense.{list_of, nothing, condensed}

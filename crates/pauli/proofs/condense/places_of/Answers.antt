@@ -1,4 +1,4 @@
-use Rattle.std.proofs.Common.{take, arith, length-take-le}
+use Rattle.std.proofs.Common.{arith}
 use Rattle.pauli.proofs.condense.CondenseLaws.{bytes_start, bytes_end, bytes_from, bytes_in, bytes_next}
 use Rattle.pauli.specs.Bytes.{numbers_at}
 use Rattle.pauli.specs.Sets.{set_of, condense}

@@ -1,5 +1,5 @@
 -- Invariant: the numbers from number k on are left to place.
-use Rattle.std.proofs.Common.{◌+◌, ◌-◌, ◌*◌, ◌≤◌, take}
+use Rattle.std.proofs.Common.{◌+◌, ◌-◌, ◌*◌, ◌≤◌}
 use Rattle.pauli.proofs.condense.CondenseLaws.{Placing}
 use Rattle.pauli.specs.Bytes.{numbers_at}
 use Rattle.pauli.specs.Sets.{set_of, condense}

@@ -1,5 +1,5 @@
 -- The product is stored over the places of the support and written from there.
-use Rattle.std.proofs.Common.{ℕ, List, take, ap, ◌∙◌, refl, arith}
+use Rattle.std.proofs.Common.{ℕ, List, ap, ◌∙◌, refl, arith}
 use Rattle.pauli.proofs.join.ProductLaws.{written_roll, written_places}
 use Rattle.pauli.specs.Condense.{list_of}
 use Rattle.pauli.specs.Told.{answer}

@@ -1,4 +1,4 @@
-use Rattle.std.proofs.Common.{◌+◌, ◌*◌, take, ap, arith}
+use Rattle.std.proofs.Common.{◌+◌, ◌*◌, ap, arith}
 use Rattle.pauli.proofs.roll.BytesLaws.{length_le32s}
 use Rattle.pauli.proofs.write.Puts.{left_start, left_done}
 use Rattle.pauli.proofs.write.Writers.{loaded, list_start, body_bytes, body_room, body_room_z, body_step, body_end}

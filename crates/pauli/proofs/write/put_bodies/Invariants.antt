@@ -1,5 +1,5 @@
 -- Invariant: the bodies of the Paulis from number i on are left to write.
-use Rattle.std.proofs.Common.{◌≤◌, take}
+use Rattle.std.proofs.Common.{◌≤◌}
 use Rattle.pauli.proofs.write.Puts.{Left}
 use Rattle.pauli.proofs.write.Writers.{list_from, body_bytes}
 use Rattle.pauli.specs.Signed.{list_in}

@@ -1,5 +1,5 @@
 -- The length is known before the first byte is written.
-use Rattle.std.proofs.Common.{take, ◌∙◌, arith, length-take-le}
+use Rattle.std.proofs.Common.{◌∙◌, arith}
 use Rattle.pauli.proofs.write.Writers.{numbers_room, roll_short, roll_long}
 use Rattle.pauli.proofs.write.write_roll.Goals as goal
 

@@ -1,7 +1,7 @@
 use Rattle.std.proofs.Common.{sym, ◌∙◌, arith, length-take-le}
 use borrow.Author.Tests.{ltb-true, ltb-false}
 use Rattle.pauli.proofs.support.Walk.{walk_from, walking_start, walking_next, walking_full, walking_end}
-use Rattle.pauli.specs.Support.{most_qubits, Rising}
+use Rattle.pauli.specs.Support.{most_qubits}
 use Rattle.pauli.proofs.support.Support.gather.Goals as goal
 
 pub loop-i-init : goal.loop-i-init

@@ -2,7 +2,7 @@
 use Rattle.std.proofs.Common.{◌≤◌, ◌+◌, take, sym, ap, ◌∙◌, arith, length, length-take-le, get_or-take}
 use Rattle.pauli.proofs.support.SupportLaws.{insert_rises}
 use Rattle.pauli.proofs.support.Walk.{lower_le, noted_known, noted_new}
-use Rattle.pauli.specs.Support.{most_qubits, insert, Rising}
+use Rattle.pauli.specs.Support.{most_qubits, insert}
 use Rattle.pauli.proofs.support.Support.note.Goals as goal
 use Rattle.pauli.proofs.support.Support.note.Goals.{then-i-count+else-self-i, else-i-count}
 
