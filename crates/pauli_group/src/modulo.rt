@@ -42,7 +42,7 @@ fn multiplied(p: Pauli, is_x: bool, place: Place, other: Pauli) -> Pauli
     if is_x {
         set = p.x;
     }
-    if set.index(place) == 1 {
+    if set.contains(place) {
         return p.times(other).pauli;
     }
     p
