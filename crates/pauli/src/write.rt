@@ -26,8 +26,7 @@ pub fn put_u16(out: &mut [u8], at: usize, v: usize)
     requires { (at + 2 ≤ length out.old) × (v < 65536) }
     ensures { out.new ≡ put_bytes out.old at (le16 v) }
 {
-    out[at] = (v % 256) as u8;
-    out[at + 1] = (v / 256 % 256) as u8;
+    out[at..at + 2].copy_from_slice(&(v as u16).to_le_bytes());
 }
 
 // Writes a number as four bytes.
@@ -35,10 +34,7 @@ fn put_u32(out: &mut [u8], at: usize, number: u32)
     requires { at + 4 ≤ length out.old }
     ensures { out.new ≡ put_bytes out.old at (le32 number) }
 {
-    out[at] = (number % 256) as u8;
-    out[at + 1] = (number / 256 % 256) as u8;
-    out[at + 2] = (number / 65536 % 256) as u8;
-    out[at + 3] = (number / 16777216 % 256) as u8;
+    out[at..at + 4].copy_from_slice(&number.to_le_bytes());
 }
 
 // Writes the entry of a Pauli.

@@ -359,7 +359,7 @@ module _ (l r out : List ℕ) where
         let t = le-ltb (length out) (length (write (list_of l ++ list_of r))) (rw s h) in
         record { told = e ∙ rw (joined_roll, t) (ap answer (sym s)); left = rw (joined_roll, t) k }
 
--- ---- entries and bytes, copied one by one
+-- ---- entries, copied one by one
 
 module _ {first whole out : List ℕ} (at : ℕ) (b : List ℕ) (n : ℕ) (e : count_of b ≡ answer n) (i : ℕ) (h : i < n) (a : CodeEntry)
     (f : told_entry a ≡ entry_at b (2 + 10 * i)) (before : ℕ) (l : Left first at whole out (at + 10 * i) (table before (map by_value (drop i (list_of b))))) where
@@ -394,15 +394,3 @@ module _ (b : List ℕ) (n : ℕ) (e : count_of b ≡ answer n) where
   entries_done before i h =
       let past : length (list_of b) ≤ i = rw (accepted b n e).1 h in
       ap (λ (ps : List Sparse). table before (map by_value ps)) (drop_of_length-le (list_of b) past)
-
-module _ {first whole out : List ℕ} {start next : ℕ} (b : List ℕ) (k : ℕ) (h : k < length b) (l : Left first start whole out next (drop k b)) where
-  byte : drop k b ≡ (get_or b k 0 ∷ []) ++ drop (k + 1) b
-  byte = sym (drop_one b k 0 h)
-
-  pub byte_fits : next + 1 ≤ length out
-  byte_fits = left_room l (get_or b k 0 ∷ []) (drop (k + 1) b) 1 byte refl
-
-  pub byte_copied : Left first start whole (set out next (get_or b k 0)) (next + 1) (drop (k + 1) b)
-  byte_copied =
-      left_step l (get_or b k 0 ∷ []) (drop (k + 1) b) 1 byte refl (set out next (get_or b k 0))
-      (sym (put_byte out next (get_or b k 0) [] (omega (arith, byte_fits)) ∙ put_nothing (set out next (get_or b k 0)) (next + 1))) (simp length-set)

@@ -2,6 +2,7 @@
 use Rattle.std.proofs.Common.{◌≡◌, ℕ, suc, ◌+◌, ◌*◌, ◌/◌, ◌%◌, ◌^◌, ◌<◌, ◌≤◌, List, [], ◌∷◌, ◌++◌, length, get_or, take, drop, set, sym, refl, ap, ◌∙◌, ap₂, append_assoc, add-zero, add_assoc, add-one, arith, length-append, length-drop, length-set, take-append-drop, drop_of_length-le, length-take-le, drop-cons, drop-drop, take-suc-set, take_at, drop-set-lt, shr-shr}
 use native.Mathlib.Decide.{dec_lt}
 use lib.Seq.{take-append-add, drop-append-add}
+use borrow.Rule.Slice.PartMut.{put_mid}
 use Rattle.binar.specs.Row.{bit}
 use Rattle.pauli.specs.Bytes.{le16, le32, le32s}
 use Rattle.pauli.specs.Pauli.{cons_if, select}
@@ -25,15 +26,10 @@ module _ (out : List ℕ) (i : ℕ) where
   put_two a b h =
       sym (put_byte out i a (b ∷ []) (omega arith) ∙ put_byte (set out i a) (i + 1) b [] (rw length-set (omega arith)) ∙ put_nothing _ (i + 1 + 1))
 
-  pub put_four : (a b c d : ℕ) → i + 4 ≤ length out → set (set (set (set out i a) (i + 1) b) (i + 2) c) (i + 3) d ≡ put_bytes out i (a ∷ b ∷ c ∷ d ∷ [])
-  put_four a b c d h =
-      let two : i + 2 ≡ i + 1 + 1 = omega arith in
-      let three : i + 3 ≡ i + 1 + 1 + 1 = omega arith in
-      rw (two, three)
-      (sym
-      (put_byte out i a (b ∷ c ∷ d ∷ []) (omega arith) ∙ put_byte (set out i a) (i + 1) b (c ∷ d ∷ []) (rw length-set (omega arith))
-      ∙ put_byte (set (set out i a) (i + 1) b) (i + 1 + 1) c (d ∷ []) (simp length-set (omega arith))
-      ∙ put_byte (set (set (set out i a) (i + 1) b) (i + 1 + 1) c) (i + 1 + 1 + 1) d [] (simp length-set (omega arith)) ∙ put_nothing _ (i + 1 + 1 + 1 + 1)))
+-- a part of an output, from byte i on, that is overwritten
+pub put_part : (out ys bs : List ℕ) (i k : ℕ) → ys ≡ bs → length bs ≡ k → put_mid i k out ys ≡ put_bytes out i bs
+unfolding put_bytes
+put_part out ys bs i k e n = rw (e, n) (ap (λ (rest : List ℕ). take i out ++ (bs ++ rest)) (drop-drop k i out))
 
 -- the front of an output in which bytes are put
 module _ (out : List ℕ) (i : ℕ) (a : List ℕ) (room : i + length a ≤ length out) where
