@@ -1,25 +1,19 @@
 // The answer of a call as five numbers, and what codes each kind of answer.
 ghost use Rattle.std.specs.Prelude.{◌≡◌, length};
-ghost use Rattle.pauli.specs.RollAnswers.{told_count};
-ghost use Rattle.pauli.specs.Refusals.{number_of};
-ghost use Rattle.pauli.specs.WriteAnswers.{told_wrote};
-ghost use Rattle.pauli.specs.Lookups.{told_looked};
-ghost use Rattle.pauli_group.specs.Answers.{phases_told, told_rank, told_phases, told_decided, told_size, told_factored};
-ghost use Rattle.pauli_group.specs.Answers.{order_of, told_order};
-ghost use Rattle.factorizations.specs.Answers.{told_factorizations};
-ghost use Rattle.sizes.specs.Answers.{told_sizes, told_bound, told_page};
-ghost use Rattle.capi.specs.Code.{code_refusal as code_refusal_spec, code_values as code_values_spec, code_number, code_phases as code_phases_spec, code_looked as code_looked_spec, code_member as code_member_spec, code_results as code_results_spec, code_sizes as code_sizes_spec, order_number as order_number_spec, code_order as code_order_spec, code_form as code_form_spec};
+ghost use Rattle.pauli.specs.Lookups.{looked_in};
+ghost use Rattle.pauli.specs.Refusals.{number_of, told_of, told_by};
+ghost use Rattle.pauli_group.specs.Answers.{phases_told, yes_number, factored_in, order_of};
+ghost use Rattle.factorizations.specs.Answers.{totals_in};
+ghost use Rattle.sizes.specs.Answers.{sizes_in};
+ghost use Rattle.capi.specs.Code.{code_refusal, code_values, code_number, code_phases, code_looked, code_member, code_results, code_sizes, order_number, code_order, code_form};
 
 use binar::matrix_form::Formation;
-use factorizations::answers::ResultsFound;
-use pauli::lookup::EntryFound;
+use factorizations::answers::Results;
+use pauli::lookup::JoinedEntry;
 use pauli::refusal::{Refusal, number_of};
-use pauli::roll::Checked;
-use pauli::write::Wrote;
-use pauli_group::answers::{
-    Decided, MemberFound, Order, OrderFound, Phases, PhasesFound, RankFound, SizeFound,
-};
-use sizes::answers::{BoundFound, PageFound, SizesFound};
+use pauli_group::answers::{Factors, Phases};
+use sizes::answers::JoinedSizes;
+use std::cmp::Ordering;
 
 // The refusal's number, or 0 for an answer; the refusal's place; and what the call answers, in up to three numbers.
 #[repr(C)]
@@ -33,7 +27,7 @@ pub struct Answer {
 }
 
 pub(crate) fn code_refusal(refusal: Refusal) -> Answer
-    ensures { result ≡ code_refusal_spec (number_of refusal.reason) refusal.place }
+    ensures { result ≡ code_refusal (number_of refusal.reason) refusal.place }
 {
     let reason = refusal.reason;
     let number = number_of(reason) as u64;
@@ -48,7 +42,7 @@ pub(crate) fn code_refusal(refusal: Refusal) -> Answer
 }
 
 pub(crate) fn code_values(first: usize, second: usize, third: usize) -> Answer
-    ensures { result ≡ code_values_spec first second third }
+    ensures { result ≡ code_values first second third }
 {
     Answer {
         refusal: 0,
@@ -59,39 +53,31 @@ pub(crate) fn code_values(first: usize, second: usize, third: usize) -> Answer
     }
 }
 
-pub(crate) fn code_count(checked: Checked) -> Answer
-    ensures { result ≡ code_number (told_count checked) }
+// A count, a length in bytes, a rank or a binary logarithm.
+pub(crate) fn code_number(told: Result<usize, Refusal>) -> Answer
+    ensures { result ≡ code_number (told_of told) }
 {
-    match checked {
-        Checked::Count(n) => code_values(n, 0, 0),
-        Checked::Refused(r) => code_refusal(r),
+    match told {
+        Ok(n) => code_values(n, 0, 0),
+        Err(refusal) => code_refusal(refusal),
     }
 }
 
-pub(crate) fn code_wrote(wrote: Wrote) -> Answer
-    ensures { result ≡ code_number (told_wrote wrote) }
+pub(crate) fn code_decided(decided: Result<bool, Refusal>) -> Answer
+    ensures { result ≡ code_number (told_by yes_number decided) }
 {
-    match wrote {
-        Wrote::Bytes(n) => code_values(n, 0, 0),
-        Wrote::Refused(r) => code_refusal(r),
+    match decided {
+        Ok(yes) => code_values(usize::from(yes), 0, 0),
+        Err(refusal) => code_refusal(refusal),
     }
 }
 
-pub(crate) fn code_looked(found: EntryFound) -> Answer
-    ensures { result ≡ code_looked_spec (told_looked found) }
+pub(crate) fn code_looked(found: Result<JoinedEntry, Refusal>) -> Answer
+    ensures { result ≡ code_looked (told_by looked_in found) }
 {
     match found {
-        EntryFound::Entry(e) => code_values(e.exponent as usize, e.xcount, e.zcount),
-        EntryFound::Refused(r) => code_refusal(r),
-    }
-}
-
-pub(crate) fn code_rank(found: RankFound) -> Answer
-    ensures { result ≡ code_number (told_rank found) }
-{
-    match found {
-        RankFound::Rank(n) => code_values(n, 0, 0),
-        RankFound::Refused(r) => code_refusal(r),
+        Ok(e) => code_values(e.exponent as usize, e.xcount, e.zcount),
+        Err(refusal) => code_refusal(refusal),
     }
 }
 
@@ -106,102 +92,65 @@ fn phase_count(phases: Phases) -> usize
     }
 }
 
-pub(crate) fn code_phases(found: PhasesFound) -> Answer
-    ensures { result ≡ code_phases_spec (told_phases found) }
+pub(crate) fn code_phases(found: Result<Phases, Refusal>) -> Answer
+    ensures { result ≡ code_phases (told_by phases_told found) }
 {
     match found {
-        PhasesFound::Phases(phases) => code_values(phase_count(phases), 0, 0),
-        PhasesFound::Refused(r) => code_refusal(r),
+        Ok(phases) => code_values(phase_count(phases), 0, 0),
+        Err(refusal) => code_refusal(refusal),
     }
 }
 
-pub(crate) fn code_decided(decided: Decided) -> Answer
-    ensures { result ≡ code_number (told_decided decided) }
-{
-    match decided {
-        Decided::Yes => code_values(1, 0, 0),
-        Decided::No => code_values(0, 0, 0),
-        Decided::Refused(r) => code_refusal(r),
-    }
-}
-
-pub(crate) fn code_size(found: SizeFound) -> Answer
-    ensures { result ≡ code_number (told_size found) }
+pub(crate) fn code_member(found: Result<Option<Factors>, Refusal>) -> Answer
+    ensures { result ≡ code_member (told_by factored_in found) }
 {
     match found {
-        SizeFound::Log2(n) => code_values(n, 0, 0),
-        SizeFound::Refused(r) => code_refusal(r),
+        Ok(Some(f)) => code_values(1, f.count, f.exponent as usize),
+        Ok(None) => code_values(0, 0, 0),
+        Err(refusal) => code_refusal(refusal),
     }
 }
 
-pub(crate) fn code_member(found: MemberFound) -> Answer
-    ensures { result ≡ code_member_spec (told_factored found) }
+pub(crate) fn code_results(found: Result<Results, Refusal>) -> Answer
+    ensures { result ≡ code_results (told_by totals_in found) }
 {
     match found {
-        MemberFound::Member(f) => code_values(1, f.count, f.exponent as usize),
-        MemberFound::NotMember => code_values(0, 0, 0),
-        MemberFound::Refused(r) => code_refusal(r),
+        Ok(results) => code_values(results.count, results.bytes, 0),
+        Err(refusal) => code_refusal(refusal),
     }
 }
 
-pub(crate) fn code_results(found: ResultsFound) -> Answer
-    ensures { result ≡ code_results_spec (told_factorizations found) }
+pub(crate) fn code_sizes(found: Result<JoinedSizes, Refusal>) -> Answer
+    ensures { result ≡ code_sizes (told_by sizes_in found) }
 {
     match found {
-        ResultsFound::Results(results) => code_values(results.count, results.bytes, 0),
-        ResultsFound::Refused(r) => code_refusal(r),
+        Ok(sizes) => code_values(sizes.bytes, sizes.count, sizes.qubits),
+        Err(refusal) => code_refusal(refusal),
     }
 }
 
-pub(crate) fn code_sizes(found: SizesFound) -> Answer
-    ensures { result ≡ code_sizes_spec (told_sizes found) }
-{
-    match found {
-        SizesFound::Sizes(sizes) => code_values(sizes.bytes, sizes.count, sizes.qubits),
-        SizesFound::Refused(r) => code_refusal(r),
-    }
-}
-
-pub(crate) fn code_bound(found: BoundFound) -> Answer
-    ensures { result ≡ code_number (told_bound found) }
-{
-    match found {
-        BoundFound::Bytes(n) => code_values(n, 0, 0),
-        BoundFound::Refused(r) => code_refusal(r),
-    }
-}
-
-pub(crate) fn code_page(found: PageFound) -> Answer
-    ensures { result ≡ code_number (told_page found) }
-{
-    match found {
-        PageFound::Elements(n) => code_values(n, 0, 0),
-        PageFound::Refused(r) => code_refusal(r),
-    }
-}
-
-fn order_number(order: Order) -> usize
-    ensures { result ≡ order_number_spec (order_of order) }
+fn order_number(order: Option<Ordering>) -> usize
+    ensures { result ≡ order_number (order_of order) }
 {
     match order {
-        Order::Equal => 0,
-        Order::Less => 1,
-        Order::Greater => 2,
-        Order::NoOrder => 3,
+        Some(Ordering::Equal) => 0,
+        Some(Ordering::Less) => 1,
+        Some(Ordering::Greater) => 2,
+        None => 3,
     }
 }
 
-pub(crate) fn code_order(found: OrderFound) -> Answer
-    ensures { result ≡ code_order_spec (told_order found) }
+pub(crate) fn code_order(found: Result<Option<Ordering>, Refusal>) -> Answer
+    ensures { result ≡ code_order (told_by order_of found) }
 {
     match found {
-        OrderFound::Order(order) => code_values(order_number(order), 0, 0),
-        OrderFound::Refused(r) => code_refusal(r),
+        Ok(order) => code_values(order_number(order), 0, 0),
+        Err(refusal) => code_refusal(refusal),
     }
 }
 
 pub(crate) fn code_form(formation: Formation) -> Answer
-    ensures { result ≡ code_form_spec formation }
+    ensures { result ≡ code_form formation }
 {
     match formation {
         Formation::Rank(n) => code_values(1, n, 0),

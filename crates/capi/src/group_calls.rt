@@ -2,12 +2,10 @@
 ghost use Rattle.std.specs.Prelude.{length};
 ghost use Rattle.pauli_group.specs.Calls.{one_list, standard_generators as standard_generators_spec, rank_call, phases_call, abelian_call, stabilizer_call, size_call, question, factorization_call, symplectic_call, elements_call};
 ghost use Rattle.factorizations.specs.Calls.{questions, factorizations_call};
-ghost use Rattle.capi.specs.Code.{code_number, code_phases as code_phases_spec, promise_numbered as promise_numbered_spec};
+ghost use Rattle.capi.specs.Code.{code_number, code_phases, promise_numbered as promise_numbered_spec};
 ghost use Rattle.capi.specs.CallContracts.{Telling, Listing, Factoring, FactoringAll};
 
-use crate::answer::{
-    Answer, code_decided, code_member, code_phases, code_rank, code_results, code_size, code_wrote,
-};
+use crate::answer::{Answer, code_decided, code_member, code_number, code_phases, code_results};
 use crate::promise::promise_numbered;
 use factorizations::calls::indexed_factorizations_of;
 use pauli_group::calls::{
@@ -26,7 +24,7 @@ pub extern "C" fn howhiruke_standard_generators(
     ensures { Listing (standard_generators_spec roll.now (length work.old)) (one_list roll.now (length work.old)) work.old out.old result work.new out.new }
 {
     let wrote = standard_generators(roll, work, out);
-    code_wrote(wrote)
+    code_number(wrote)
 }
 
 #[unsafe(no_mangle)]
@@ -34,13 +32,13 @@ pub extern "C" fn howhiruke_rank(roll: &[u8], work: &mut [u64]) -> Answer
     ensures { Telling (code_number (rank_call roll.now (length work.old))) (one_list roll.now (length work.old)) work.old result work.new }
 {
     let found = rank(roll, work);
-    code_rank(found)
+    code_number(found)
 }
 
 // How many phases the group has: 1, 2 or 4.
 #[unsafe(no_mangle)]
 pub extern "C" fn howhiruke_phases(roll: &[u8], promise: u64, work: &mut [u64]) -> Answer
-    ensures { Telling (code_phases_spec (phases_call (promise_numbered_spec promise) roll.now (length work.old))) (one_list roll.now (length work.old)) work.old result work.new }
+    ensures { Telling (code_phases (phases_call (promise_numbered_spec promise) roll.now (length work.old))) (one_list roll.now (length work.old)) work.old result work.new }
 {
     let promised = promise_numbered(promise);
     let found = phases(roll, promised, work);
@@ -75,7 +73,7 @@ pub extern "C" fn howhiruke_log2_size(roll: &[u8], promise: u64, work: &mut [u64
 {
     let promised = promise_numbered(promise);
     let found = log2_size(roll, promised, work);
-    code_size(found)
+    code_number(found)
 }
 
 // Whether Pauli `number` of the element roll is in the group; the indexes of its factors go to the output.
@@ -125,7 +123,7 @@ pub extern "C" fn howhiruke_elements(
 {
     let promised = promise_numbered(promise);
     let wrote = elements(roll, promised, start, count, work, out);
-    code_wrote(wrote)
+    code_number(wrote)
 }
 
 #[unsafe(no_mangle)]
@@ -137,5 +135,5 @@ pub extern "C" fn howhiruke_symplectic_form_of(
     ensures { Listing (symplectic_call roll.now (length work.old)) (one_list roll.now (length work.old)) work.old out.old result work.new out.new }
 {
     let wrote = symplectic_form_of(roll, work, out);
-    code_wrote(wrote)
+    code_number(wrote)
 }

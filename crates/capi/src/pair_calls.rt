@@ -2,10 +2,10 @@
 ghost use Rattle.std.specs.Prelude.{length};
 ghost use Rattle.pauli_group.specs.Calls.{common_call};
 ghost use Rattle.pauli_group.specs.Calls.{two_lists, order_call, modulo_call, quotient_call};
-ghost use Rattle.capi.specs.Code.{code_order as code_order_spec, promise_numbered as promise_numbered_spec};
+ghost use Rattle.capi.specs.Code.{code_order, promise_numbered as promise_numbered_spec};
 ghost use Rattle.capi.specs.CallContracts.{Telling, Listing};
 
-use crate::answer::{Answer, code_order, code_wrote};
+use crate::answer::{Answer, code_number, code_order};
 use crate::promise::promise_numbered;
 use pauli_group::common::bitand;
 use pauli_group::modulo::modulo;
@@ -21,7 +21,7 @@ pub extern "C" fn howhiruke_partial_cmp(
     right_promise: u64,
     work: &mut [u64],
 ) -> Answer
-    ensures { Telling (code_order_spec (order_call (promise_numbered_spec left_promise) (promise_numbered_spec right_promise) left.now right.now (length work.old))) (two_lists left.now right.now (length work.old)) work.old result work.new }
+    ensures { Telling (code_order (order_call (promise_numbered_spec left_promise) (promise_numbered_spec right_promise) left.now right.now (length work.old))) (two_lists left.now right.now (length work.old)) work.old result work.new }
 {
     let l = promise_numbered(left_promise);
     let r = promise_numbered(right_promise);
@@ -44,7 +44,7 @@ pub extern "C" fn howhiruke_modulo(
     let l = promise_numbered(left_promise);
     let r = promise_numbered(right_promise);
     let wrote = modulo(left, right, l, r, work, out);
-    code_wrote(wrote)
+    code_number(wrote)
 }
 
 // Writes the quotient of the left list by the right one, the divisor.
@@ -62,7 +62,7 @@ pub extern "C" fn howhiruke_try_quotient(
     let l = promise_numbered(left_promise);
     let r = promise_numbered(right_promise);
     let wrote = try_quotient(left, right, l, r, work, out);
-    code_wrote(wrote)
+    code_number(wrote)
 }
 
 // Writes the common part of the groups of two lists.
@@ -80,5 +80,5 @@ pub extern "C" fn howhiruke_bitand(
     let l = promise_numbered(left_promise);
     let r = promise_numbered(right_promise);
     let wrote = bitand(left, right, l, r, work, out);
-    code_wrote(wrote)
+    code_number(wrote)
 }

@@ -3,7 +3,7 @@ ghost use Rattle.std.specs.Prelude.{length};
 ghost use Rattle.closing_report.specs.Listing.{listing};
 ghost use Rattle.capi.specs.CallContracts.{Listing};
 
-use crate::answer::{Answer, code_wrote};
+use crate::answer::{Answer, code_number};
 use closing_report::report::closing_report;
 
 // Writes the closing listing of an input.
@@ -12,5 +12,5 @@ pub extern "C" fn howhiruke_closing_report(input: &[u8], work: &mut [u64], out: 
     ensures { Listing (listing input.now (length work.old)) (listing input.now (length work.old)) work.old out.old result work.new out.new }
 {
     let wrote = closing_report(input, work, out);
-    code_wrote(wrote)
+    code_number(wrote)
 }

@@ -3,15 +3,15 @@ ghost use Rattle.std.specs.Prelude.{◌≡◌, ◌<◌};
 ghost use Rattle.pauli.specs.Roll.{count_of};
 ghost use Rattle.pauli.specs.Told.{answer};
 ghost use Rattle.pauli.specs.JoinCalls.{product_of, join_of, entry_of, stretch_in as stretch_in_spec};
-ghost use Rattle.capi.specs.Code.{code_number, code_looked as code_looked_spec, code_body};
+ghost use Rattle.capi.specs.Code.{code_number, code_looked, code_body};
 ghost use Rattle.capi.specs.CallContracts.{Writing, Locating};
 
-use crate::answer::{Answer, code_count, code_looked, code_refusal, code_values, code_wrote};
+use crate::answer::{Answer, code_looked, code_number, code_refusal, code_values};
 use pauli::join::join;
-use pauli::joined::{CountsFound, joined_counts};
+use pauli::joined::joined_counts;
 use pauli::lookup::joined_entry;
 use pauli::product::product;
-use pauli::refusal::{Reason, Refusal};
+use pauli::refusal::Reason;
 use pauli::roll::{check_roll, entry_at};
 
 // How many Paulis a roll has.
@@ -20,7 +20,7 @@ pub extern "C" fn howhiruke_check_roll(roll: &[u8]) -> Answer
     ensures { result ≡ code_number (count_of roll.now) }
 {
     let checked = check_roll(roll);
-    code_count(checked)
+    code_number(checked)
 }
 
 // Writes the product of Pauli i of the one roll and Pauli j of the other.
@@ -35,7 +35,7 @@ pub extern "C" fn howhiruke_product(
     ensures { Writing (product_of left.now i right.now j) out.old result out.new }
 {
     let wrote = product(left, i, right, j, out);
-    code_wrote(wrote)
+    code_number(wrote)
 }
 
 // Writes the joined roll.
@@ -44,13 +44,13 @@ pub extern "C" fn howhiruke_join(left: &[u8], right: &[u8], out: &mut [u8]) -> A
     ensures { Writing (join_of left.now right.now) out.old result out.new }
 {
     let wrote = join(left, right, out);
-    code_wrote(wrote)
+    code_number(wrote)
 }
 
 // Generator n of the joined list: its exponent value and its counts.
 #[unsafe(no_mangle)]
 pub extern "C" fn howhiruke_joined_entry(left: &[u8], right: &[u8], n: usize) -> Answer
-    ensures { result ≡ code_looked_spec (entry_of left.now right.now n) }
+    ensures { result ≡ code_looked (entry_of left.now right.now n) }
 {
     let found = joined_entry(left, right, n);
     code_looked(found)
@@ -70,12 +70,9 @@ fn stretch_in(roll: usize, b: &[u8], n: usize, i: usize) -> Answer
 pub extern "C" fn howhiruke_joined_body(left: &[u8], right: &[u8], n: usize) -> Answer
     ensures { Locating left.now right.now n result }
 {
-    let found = joined_counts(left, right);
-    let counts = match found {
-        CountsFound::Refused(r) => {
-            return code_refusal(r);
-        }
-        CountsFound::Counts(counts) => counts,
+    let counts = match joined_counts(left, right) {
+        Ok(counts) => counts,
+        Err(refusal) => return code_refusal(refusal),
     };
     let nl = counts.left;
     let nr = counts.right;
@@ -85,8 +82,5 @@ pub extern "C" fn howhiruke_joined_body(left: &[u8], right: &[u8], n: usize) -> 
     if n - nl < nr {
         return stretch_in(1, right, nr, n - nl);
     }
-    code_refusal(Refusal {
-        reason: Reason::Number,
-        place: 0,
-    })
+    code_refusal(Reason::Number.into())
 }

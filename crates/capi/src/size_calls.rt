@@ -2,10 +2,10 @@
 ghost use Rattle.std.specs.Prelude.{◌≡◌, length};
 ghost use Rattle.pauli_group.specs.Calls.{one_list};
 ghost use Rattle.sizes.specs.Calls.{joined_sizes as joined_sizes_spec, standard_bound as standard_bound_spec, page_call};
-ghost use Rattle.capi.specs.Code.{code_number, code_sizes as code_sizes_spec, promise_numbered as promise_numbered_spec};
+ghost use Rattle.capi.specs.Code.{code_number, code_sizes, promise_numbered as promise_numbered_spec};
 ghost use Rattle.capi.specs.CallContracts.{Telling};
 
-use crate::answer::{Answer, code_bound, code_page, code_sizes};
+use crate::answer::{Answer, code_number, code_sizes};
 use crate::promise::promise_numbered;
 use sizes::bound::standard_bound;
 use sizes::joined::joined_sizes;
@@ -14,7 +14,7 @@ use sizes::page::page_size;
 // How large the joined roll is.
 #[unsafe(no_mangle)]
 pub extern "C" fn howhiruke_joined_sizes(left: &[u8], right: &[u8]) -> Answer
-    ensures { result ≡ code_sizes_spec (joined_sizes_spec left.now right.now) }
+    ensures { result ≡ code_sizes (joined_sizes_spec left.now right.now) }
 {
     let found = joined_sizes(left, right);
     code_sizes(found)
@@ -26,7 +26,7 @@ pub extern "C" fn howhiruke_standard_bound(roll: &[u8]) -> Answer
     ensures { result ≡ code_number (standard_bound_spec roll.now) }
 {
     let found = standard_bound(roll);
-    code_bound(found)
+    code_number(found)
 }
 
 // How many elements a page of the group's elements holds.
@@ -42,5 +42,5 @@ pub extern "C" fn howhiruke_page_size(
 {
     let promised = promise_numbered(promise);
     let found = page_size(roll, promised, start, count, work);
-    code_page(found)
+    code_number(found)
 }

@@ -1,7 +1,6 @@
 // A whole text, written where the output has room for it.
 ghost use Rattle.std.specs.Prelude.{◌≡◌, ◌++◌, ◌+◌, ◌*◌, ◌≤◌, length};
-ghost use Rattle.pauli.specs.Refusals.{number_of};
-ghost use Rattle.pauli.specs.WriteAnswers.{told_wrote};
+ghost use Rattle.pauli.specs.Refusals.{number_of, told_of};
 ghost use Rattle.pauli.specs.Told.{answer};
 ghost use Rattle.pauli.specs.Writing.{told_bytes, left_in};
 ghost use Rattle.closing_report.specs.Lines.{first_line, member_lines, refused_line};
@@ -10,7 +9,6 @@ ghost use Rattle.closing_report.specs.Stored.{stored_in};
 use crate::lines::{first_line_length, put_first_line, put_refused_line, refused_line_length};
 use crate::stored::{lines_length, put_lines};
 use pauli::refusal::{Reason, Refusal};
-use pauli::write::Wrote;
 
 // Writes the first line and the lines of the m results from word base on.
 pub(crate) fn write_listing(
@@ -21,35 +19,29 @@ pub(crate) fn write_listing(
     base: usize,
     m: usize,
     out: &mut [u8],
-) -> Wrote
+) -> Result<usize, Refusal>
     requires { (base + 5 * m ≤ length w.now) × (m ≤ 128) }
-    ensures told { told_wrote result ≡ told_bytes (answer (first_line rank step clash ++ member_lines 0 (stored_in w.now base m))) out.old }
+    ensures told { told_of result ≡ told_bytes (answer (first_line rank step clash ++ member_lines 0 (stored_in w.now base m))) out.old }
     ensures left { out.new ≡ left_in (answer (first_line rank step clash ++ member_lines 0 (stored_in w.now base m))) out.old }
 {
     let size = first_line_length(rank, step, clash) + lines_length(w, base, m);
     if out.len() < size {
-        return Wrote::Refused(Refusal {
-            reason: Reason::Output,
-            place: 0,
-        });
+        return Err(Reason::Output.into());
     }
     let next = put_first_line(out, 0, rank, step, clash);
     put_lines(out, next, w, base, m);
-    Wrote::Bytes(size)
+    Ok(size)
 }
 
 // Writes the line of a refusal.
-pub(crate) fn write_refused(refusal: Refusal, roll: usize, out: &mut [u8]) -> Wrote
-    ensures told { told_wrote result ≡ told_bytes (answer (refused_line (number_of refusal.reason) refusal.place roll)) out.old }
+pub(crate) fn write_refused(refusal: Refusal, roll: usize, out: &mut [u8]) -> Result<usize, Refusal>
+    ensures told { told_of result ≡ told_bytes (answer (refused_line (number_of refusal.reason) refusal.place roll)) out.old }
     ensures left { out.new ≡ left_in (answer (refused_line (number_of refusal.reason) refusal.place roll)) out.old }
 {
     let line = refused_line_length(refusal, roll);
     if out.len() < line {
-        return Wrote::Refused(Refusal {
-            reason: Reason::Output,
-            place: 0,
-        });
+        return Err(Reason::Output.into());
     }
     put_refused_line(out, 0, refusal, roll);
-    Wrote::Bytes(line)
+    Ok(line)
 }

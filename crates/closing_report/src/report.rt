@@ -2,7 +2,6 @@
 ghost use Rattle.std.specs.Prelude.{◌≡◌, map, ◌+◌, ◌≤◌, length};
 ghost use Rattle.pauli.specs.Roll.{count_of};
 ghost use Rattle.pauli.specs.Told.{answer};
-ghost use Rattle.pauli.specs.WriteAnswers.{told_wrote};
 ghost use Rattle.pauli.specs.Condense.{list_of};
 ghost use Rattle.pauli.specs.Writing.{told_bytes, left_in};
 ghost use Rattle.pauli_theory.specs.Membership.{factorization_of};
@@ -14,15 +13,15 @@ ghost use Rattle.closing_report.specs.Contract.{ReportCall};
 ghost use Rattle.closing_report.specs.Lines.{refused_line};
 ghost use Rattle.closing_report.specs.Listing.{report, text_of};
 ghost use Rattle.closing_report.specs.Stored.{stored_in, Storable, Stored};
+ghost use Rattle.pauli.specs.Refusals.{told_of};
 
-use crate::input::{Split, split_input};
+use crate::input::split_input;
 use crate::listing::{write_listing, write_refused};
 use crate::stored::{store_member, store_other};
 use binar::row::clear_bits;
 use pauli::refusal::{Reason, Refusal};
-use pauli::roll::{Checked, check_roll};
+use pauli::roll::check_roll;
 use pauli::support::Support;
-use pauli::write::Wrote;
 use pauli_group::area::{FURTHER, WORK_WORDS};
 use pauli_group::group::{Group, group_of};
 use pauli_group::member::{Factoring, factor};
@@ -63,9 +62,9 @@ fn write_report(
     m: usize,
     w: &mut [u64],
     out: &mut [u8],
-) -> Wrote
+) -> Result<usize, Refusal>
     requires { (count_of b.now ≡ answer n) × (count_of elements.now ≡ answer m) × (length w.old ≡ 4096) }
-    ensures told { told_wrote result ≡ told_bytes (answer (report (paulis (list_of b.now)) (paulis (list_of elements.now)))) out.old }
+    ensures told { told_of result ≡ told_bytes (answer (report (paulis (list_of b.now)) (paulis (list_of elements.now)))) out.old }
     ensures left { out.new ≡ left_in (answer (report (paulis (list_of b.now)) (paulis (list_of elements.now)))) out.old }
 {
     let mut known = Support::new();
@@ -76,54 +75,37 @@ fn write_report(
 }
 
 // Writes the line for an input without a whole first roll.
-fn write_cut(out: &mut [u8]) -> Wrote
-    ensures told { told_wrote result ≡ told_bytes (answer (refused_line 1 0 1)) out.old }
+fn write_cut(out: &mut [u8]) -> Result<usize, Refusal>
+    ensures told { told_of result ≡ told_bytes (answer (refused_line 1 0 1)) out.old }
     ensures left { out.new ≡ left_in (answer (refused_line 1 0 1)) out.old }
 {
-    write_refused(
-        Refusal {
-            reason: Reason::Length,
-            place: 0,
-        },
-        1,
-        out,
-    )
+    write_refused(Reason::Length.into(), 1, out)
 }
 
 // Writes what is printed for an input: the listing of its two rolls, or the line of the first refusal.
-fn write_text(input: &[u8], w: &mut [u64], out: &mut [u8]) -> Wrote
+fn write_text(input: &[u8], w: &mut [u64], out: &mut [u8]) -> Result<usize, Refusal>
     requires { length w.old ≡ 4096 }
-    ensures told { told_wrote result ≡ told_bytes (answer (text_of input.now)) out.old }
+    ensures told { told_of result ≡ told_bytes (answer (text_of input.now)) out.old }
     ensures left { out.new ≡ left_in (answer (text_of input.now)) out.old }
 {
-    let split = split_input(input);
-    let end = match split {
-        Split::Cut => {
-            return write_cut(out);
-        }
-        Split::At(end) => end,
+    let Some(end) = split_input(input) else {
+        return write_cut(out);
     };
-    let first = check_roll(&input[4..end]);
-    let n = match first {
-        Checked::Refused(r) => {
-            return write_refused(r, 1, out);
-        }
-        Checked::Count(n) => n,
+    let n = match check_roll(&input[4..end]) {
+        Ok(n) => n,
+        Err(refusal) => return write_refused(refusal, 1, out),
     };
-    let second = check_roll(&input[end..]);
-    let m = match second {
-        Checked::Refused(r) => {
-            return write_refused(r, 2, out);
-        }
-        Checked::Count(m) => m,
+    let m = match check_roll(&input[end..]) {
+        Ok(m) => m,
+        Err(refusal) => return write_refused(refusal, 2, out),
     };
     write_report(&input[4..end], n, &input[end..], m, w, out)
 }
 
 // Writes the text of an input, and clears the work area.
-fn write_and_clear(input: &[u8], w: &mut [u64], out: &mut [u8]) -> Wrote
+fn write_and_clear(input: &[u8], w: &mut [u64], out: &mut [u8]) -> Result<usize, Refusal>
     requires { length w.old ≡ 4096 }
-    ensures told { told_wrote result ≡ told_bytes (answer (text_of input.now)) out.old }
+    ensures told { told_of result ≡ told_bytes (answer (text_of input.now)) out.old }
     ensures left { out.new ≡ left_in (answer (text_of input.now)) out.old }
     ensures area { w.new ≡ cleared w.old }
 {
@@ -133,14 +115,11 @@ fn write_and_clear(input: &[u8], w: &mut [u64], out: &mut [u8]) -> Wrote
 }
 
 // Writes the closing listing of an input: a text for two accepted rolls, or the line of the first refusal.
-pub fn closing_report(input: &[u8], work: &mut [u64], out: &mut [u8]) -> Wrote
+pub fn closing_report(input: &[u8], work: &mut [u64], out: &mut [u8]) -> Result<usize, Refusal>
     ensures { ReportCall input.now work.old out.old result work.new out.new }
 {
     if work.len() < WORK_WORDS {
-        return Wrote::Refused(Refusal {
-            reason: Reason::Work,
-            place: 0,
-        });
+        return Err(Reason::Work.into());
     }
     write_and_clear(input, &mut work[..WORK_WORDS], out)
 }

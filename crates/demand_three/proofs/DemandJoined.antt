@@ -10,7 +10,6 @@ use borrow.Author.Tests.{le-ltb}
 use lib.Dec.{ltb}
 use lib.ListN.{length, take, length-map, length-append, get_or-map}
 use Rattle.binar.proofs.Lists.{all_get, all_by}
-use Rattle.pauli.specs.WriteAnswers.{told_wrote}
 use Rattle.pauli.specs.JoinCalls.{read_both, few_qubits, join_of}
 use Rattle.pauli.specs.Condense.{nothing}
 use Rattle.pauli.specs.Roll.{most_paulis, numbers, support, read, by_value, write}
@@ -27,24 +26,25 @@ use Rattle.pauli_theory.specs.Order.{Order, equal, less, partial_cmp}
 use Rattle.pauli_theory.specs.Theorems.{OrderLaw}
 use Rattle.pauli_theory.proofs.Group.{inside_by, all_inside, inside_join, joined_law, joined_left}
 use Rattle.pauli_theory.proofs.Theorems.{group_laws}
-use Rattle.pauli_group.specs.Answers.{told_order}
 use Rattle.pauli_group.specs.WorkArea.{enough}
 use Rattle.pauli_group.specs.Calls.{paulis, two_lists, order_call}
 use Rattle.demand_three.specs.DemandThree.{Generators, list, Element, pauli, generator, Joining, Comparing, Member, AllMembers, JoinedList, Limits, if_area, if_room}
 use Rattle.pauli_group.proofs.group.GroupLaws.{paulis_append}
 use Rattle.demand_three.proofs.DemandLists.{by_value_group}
 use Rattle.demand_three.proofs.DemandMember.{member_when, member_only}
+use Rattle.pauli_group.specs.Answers.{order_of}
+use Rattle.pauli.specs.Refusals.{told_by, told_of}
 
 module _ (A B : Generators) where
   -- a call that tells a size
-  module _ (c : Joining A B) (n : ℕ) (e : told_wrote c.wrote ≡ answer n) where
+  module _ (c : Joining A B) (n : ℕ) (e : told_of c.wrote ≡ answer n) where
     pub joined_list : read (take n c.out') ≡ answer (map by_value (A.held ++ B.held))
     joined_list =
         let (bs, j, front) = told_bytes_lem (join_of A.roll B.roll) c.out n (sym c.promised.told ∙ e) in
         ap read (ap (take n) c.promised.left ∙ front) ∙ (join_law A.roll B.roll A.held B.held bs A.accepted B.accepted j).read_back
 
   pub joining_told : Limits A B → (c : Joining A B)
-      → let n = length (write (A.held ++ B.held)) in told_wrote c.wrote ≡ if_room c.out n n
+      → let n = length (write (A.held ++ B.held)) in told_of c.wrote ≡ if_room c.out n n
   unfolding told_bytes if_room most_paulis most_qubits
   joining_told l c =
       let passed : join_of A.roll B.roll ≡ answer (write (A.held ++ B.held)) =
@@ -113,7 +113,7 @@ module _ (A B J : Generators) (j : JoinedList A B J) where
   unfolding order_call two_lists read_both and_then few_qubits enough most_paulis most_qubits map_told
   order_is words = rw (A.accepted, J.accepted) (simp map_test)
 
-  module _ (c : Comparing A J) (o : Order) (e : told_order c.found ≡ answer o) where
+  module _ (c : Comparing A J) (o : Order) (e : told_by order_of c.found ≡ answer o) where
     told_order_lem : order ≡ o
     told_order_lem =
         let (a, h) = test_passed _ 2 0 _ o (sym (order_is (length c.work)) ∙ sym c.promised.told ∙ e) in
@@ -149,7 +149,7 @@ module _ (A B J : Generators) (j : JoinedList A B J) where
     qubits_few : length (support (A.held ++ J.held)) ≤ 128
     qubits_few = omega (arith, support_length (A.held ++ J.held) (A.held ++ B.held) numbers_in)
 
-    pub comparing_told : (o : Order) × ((c : Comparing A J) → told_order c.found ≡ if_area c.work (answer o))
+    pub comparing_told : (o : Order) × ((c : Comparing A J) → told_by order_of c.found ≡ if_area c.work (answer o))
     unfolding if_area
     comparing_told = (
       order,

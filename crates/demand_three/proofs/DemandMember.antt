@@ -1,5 +1,5 @@
 -- Membership, by what its calls promise.
-use Rattle.std.proofs.Common.{◌≡◌, refl, sym, ap, ap₂, ◌∙◌, subst, Bool, true, false, List, ◌++◌, ℕ, ◌+◌, ◌*◌, ◌≤◌, ◌<◌, arith, ltb, length, get_or, drop, replicate}
+use Rattle.std.proofs.Common.{◌≡◌, refl, sym, ap, ap₂, ◌∙◌, subst, Bool, true, false, List, ◌++◌, ℕ, ◌+◌, ◌*◌, ◌≤◌, ◌<◌, arith, ltb, length, get_or, drop, replicate, Ok, Result, Option as CodeOption, Some, None}
 use mathlib.Core.Option.{Option, some, none}
 use borrow.Author.Tests.{ltb-false, le-ltb, lt-leb}
 use lib.ListN.{length-replicate}
@@ -20,15 +20,16 @@ use Rattle.pauli_theory.specs.Membership.{Factorization, factorization_of}
 use Rattle.pauli_theory.specs.Theorems.{MembershipLaw}
 use Rattle.pauli_theory.proofs.IndexSets.{members_below}
 use Rattle.pauli_theory.proofs.Theorems.{group_laws}
-use Rattle.pauli_group.specs.declared.answers.MemberFound.{MemberFound}
-use Rattle.pauli_group.specs.declared.answers.MemberFound.TheVariants.{Member as MemberTold, NotMember}
-use Rattle.pauli_group.specs.Answers.{told_factored}
 use Rattle.pauli_group.specs.WorkArea.{enough, area_after}
 use Rattle.pauli_group.specs.Calls.{paulis, question, factorization_call, index_bytes, Factored, factored, told_member, member_left}
 use Rattle.pauli_group.proofs.factorization.QuestionLaws.{indexes_below}
 use Rattle.demand_three.specs.DemandThree.{Generators, list, Element, pauli, Asked, Member, indexes_at, Gives, if_area, if_room, bytes_of}
 use Rattle.demand_three.proofs.ReadBack.{read_few}
 use Rattle.demand_three.proofs.DemandLists.{length_le16s, indexes_read, named_select}
+use Rattle.pauli_group.specs.declared.answers.Factors.{Factors}
+use Rattle.pauli.specs.declared.refusal.Refusal.{Refusal}
+use Rattle.pauli_group.specs.Answers.{factored_in}
+use Rattle.pauli.specs.Refusals.{told_by}
 
 -- ---- what a call tells of a factorization
 
@@ -59,11 +60,11 @@ result_some none f e = absurd (let z : ◌≡◌ {A = ℕ} 0 1 = cc in omega ari
 result_some (some g) f e = (g, refl, cc)
 
 -- the answer that tells a result
-found_of : Option Factored → MemberFound
-found_of none = NotMember
-found_of (some f) = MemberTold (record { count = f.count; exponent = f.exponent })
+found_of : Option Factored → Result (CodeOption Factors) Refusal
+found_of none = Ok None
+found_of (some f) = Ok (Some (record { count = f.count; exponent = f.exponent }))
 
-told_found : (r : Option Factored) → told_factored (found_of r) ≡ answer r
+told_found : (r : Option Factored) → told_by factored_in (found_of r) ≡ answer r
 unfolding found_of
 told_found none = refl
 told_found (some f) = refl
@@ -141,11 +142,11 @@ module _ (A : Generators) (x : Element) where
       → if_area work (if_room out (bytes_of (result F)) (result F)) ≡ answer (result F)
   goes_on = passes A.promise A.roll x.roll A.held x.held A.accepted x.accepted x.number x.within
 
-  told_is : (c : Asked A x) → told_factored c.found ≡ if_area c.work (if_room c.out (bytes_of (result F)) (result F))
+  told_is : (c : Asked A x) → told_by factored_in c.found ≡ if_area c.work (if_room c.out (bytes_of (result F)) (result F))
   told_is c = c.promised.told ∙ tells c.work c.out
 
   pub asked_told : (r : Option Factored)
-      × ((c : Asked A x) → told_factored c.found ≡ if_area c.work (if_room c.out (bytes_of r) r))
+      × ((c : Asked A x) → told_by factored_in c.found ≡ if_area c.work (if_room c.out (bytes_of r) r))
   asked_told = (result F, told_is)
 
   -- a call with room
@@ -164,7 +165,7 @@ module _ (A : Generators) (x : Element) where
   }
 
   -- ---- a call that answers
-  module _ (c : Asked A x) (r : Option Factored) (e : told_factored c.found ≡ answer r) where
+  module _ (c : Asked A x) (r : Option Factored) (e : told_by factored_in c.found ≡ answer r) where
     answer_tests : (ltb (length c.work) 4096 ≡ false) × (ltb (length c.out) (bytes_of (result F)) ≡ false) × (result F ≡ r)
     unfolding if_area if_room
     answer_tests =
@@ -172,10 +173,10 @@ module _ (A : Generators) (x : Element) where
         let (short, k) = test_passed _ 12 0 _ r h in
         (area, short, cc)
 
-  pub indexes_only : (c : Asked A x) (f : Factored) → told_factored c.found ≡ answer (some f) → Generated (list A) (pauli x)
+  pub indexes_only : (c : Asked A x) (f : Factored) → told_by factored_in c.found ≡ answer (some f) → Generated (list A) (pauli x)
   indexes_only c f e = let (g, s, same) = result_some F f (answer_tests c (some f) e).2 in law.sound g s
 
-  pub none_only : (c : Asked A x) → told_factored c.found ≡ answer none → Generated (list A) (pauli x) → ⊥
+  pub none_only : (c : Asked A x) → told_by factored_in c.found ≡ answer none → Generated (list A) (pauli x) → ⊥
   unfolding result
   none_only c e a =
       let (g, s) = law.complete a in
@@ -223,7 +224,7 @@ module _ (A : Generators) (x : Element) where
         ap (indexes_at b i) (sym (members_count g.indexes))
         ∙ indexes_read b i ms rest (all_map (λ i l. omega (arith, list_few A)) ms (members_below n g.indexes (law.within g s).0)) h
 
-  pub product_is : (c : Asked A x) (f : Factored) → told_factored c.found ≡ answer (some f)
+  pub product_is : (c : Asked A x) (f : Factored) → told_by factored_in c.found ≡ answer (some f)
       → Gives (list A) (indexes_at c.out' 0 f.count) f (pauli x)
   unfolding result bytes_of refuse_if factored put_bytes
   product_is c f e =

@@ -6,7 +6,6 @@ use Prim.Native.Nat.{ℕ}
 use lib.Dec.{ltb}
 use lib.ListN.{length, take}
 use Rattle.binar.proofs.Lists.{all_map, map_same}
-use Rattle.pauli.specs.WriteAnswers.{told_wrote}
 use Rattle.pauli.specs.Sets.{pauli_of, sparse_of}
 use Rattle.pauli.specs.Pauli.{Pauli, normal}
 use Rattle.pauli.specs.Roll.{Sparse, write}
@@ -22,6 +21,7 @@ use Rattle.pauli_group.specs.WorkArea.{enough}
 use Rattle.pauli_group.specs.Calls.{one_list, standard_bytes, standard_generators}
 use Rattle.demand_three.specs.DemandThree.{Generators, list, Standardized, if_area, if_room}
 use Rattle.demand_three.proofs.ReadBack.{standard_holds}
+use Rattle.pauli.specs.Refusals.{told_of}
 
 -- the standard generators as the roll holds them
 abbrev roll_of : Generators → List Sparse
@@ -46,7 +46,7 @@ module _ (A : Generators) where
   unfolding standard_generators standard_bytes one_list and_then enough map_told
   call_is words = rw A.accepted (simp map_test)
 
-  pub standard_told : (n : ℕ) × ((c : Standardized A) → told_wrote c.wrote ≡ if_area c.work (if_room c.out n n))
+  pub standard_told : (n : ℕ) × ((c : Standardized A) → told_of c.wrote ≡ if_area c.work (if_room c.out n n))
   unfolding if_area
   standard_told = (
     length (write (roll_of A)),
@@ -54,14 +54,14 @@ module _ (A : Generators) where
         ∙ told_test (ltb (length c.work) 4096) (write (roll_of A)) c.out,
   )
 
-  bytes_are : (c : Standardized A) (n : ℕ) → told_wrote c.wrote ≡ answer n → take n c.out' ≡ write (roll_of A)
+  bytes_are : (c : Standardized A) (n : ℕ) → told_of c.wrote ≡ answer n → take n c.out' ≡ write (roll_of A)
   bytes_are c n e =
       let (bs, s, front) = told_bytes_lem (standard_generators A.roll (length c.work)) c.out n (sym c.promised.told ∙ e) in
       let (area, h) = test_passed _ 9 0 _ bs (sym (call_is (length c.work)) ∙ s) in
       ap (take n) c.promised.left ∙ front ∙ cc
 
-module _ (A B : Generators) (c : Standardized A) (d : Standardized B) (m n : ℕ) (e : told_wrote c.wrote ≡ answer m)
-    (f : told_wrote d.wrote ≡ answer n) where
+module _ (A B : Generators) (c : Standardized A) (d : Standardized B) (m n : ℕ) (e : told_of c.wrote ≡ answer m)
+    (f : told_of d.wrote ≡ answer n) where
   pub same_bytes : SameGroup (list A) (list B) → take m c.out' ≡ take n d.out'
   same_bytes s =
       bytes_are A c m e ∙ ap (λ gs. write (map sparse_of gs)) ((group_laws.canonical_law (list A) (list B)).same_standard s)

@@ -1,5 +1,5 @@
 -- The results of a whole roll of elements: the bytes tell them apart, and each is the single call's.
-use Rattle.std.proofs.Common.{◌≡◌, refl, sym, ap, ap₂, ◌∙◌, subst, List, [], ◌∷◌, ◌++◌, map, append_assoc, append-nil, ℕ, zero, suc, ◌+◌, ◌*◌, ◌≤◌, ◌<◌, arith, length, get_or, take, length-append, take_at, drop_at}
+use Rattle.std.proofs.Common.{◌≡◌, refl, sym, ap, ap₂, ◌∙◌, subst, List, [], ◌∷◌, ◌++◌, map, append_assoc, append-nil, ℕ, zero, suc, ◌+◌, ◌*◌, ◌≤◌, ◌<◌, arith, length, get_or, take, length-append, take_at, drop_at, Result}
 use mathlib.Core.Option.{Option, some, none}
 use borrow.Author.Tests.{le-ltb}
 use lib.ListN.{length-map, get_or-map}
@@ -19,11 +19,8 @@ use Rattle.pauli.proofs.roll.Told.{refused_none, test_pass, test_passed, answere
 use Rattle.pauli_theory.specs.Group.{Generated, Promise}
 use Rattle.pauli_theory.specs.Membership.{Factorization, factorization_of}
 use Rattle.pauli_theory.specs.Standard.{if_zero}
-use Rattle.pauli_group.specs.Answers.{told_factored}
 use Rattle.pauli_group.specs.Calls.{paulis, index_bytes, Factored, factored, member_left}
 use Rattle.pauli_group.specs.WorkArea.{enough}
-use Rattle.factorizations.specs.declared.answers.ResultsFound.{ResultsFound}
-use Rattle.factorizations.specs.Answers.{told_factorizations}
 use Rattle.factorizations.specs.Contract.{FactorizationsCall}
 use Rattle.factorizations.specs.Calls.{Questions, questions, results_of, factorizations_call, Totals, totals, told_results}
 use Rattle.factorizations.specs.Records.{result_bytes, results_bytes}
@@ -32,6 +29,11 @@ use Rattle.demand_three.specs.DemandThree.{Generators, list, Element, pauli, ind
 use Rattle.demand_three.specs.ManyElements.{size_in, results_up_to, results_in, together, factors_in, indexes_in, Answered, bytes, result, Single, result_of, ManyElements}
 use Rattle.demand_three.proofs.DemandLists.{get_or_any}
 use Rattle.demand_three.proofs.DemandMember.{result as factors, index_bytes_lem, left_result, weight_few, question_is, told_of, passes, law, gives, given}
+use Rattle.pauli.specs.declared.refusal.Refusal.{Refusal}
+use Rattle.factorizations.specs.declared.answers.Results.{Results}
+use Rattle.pauli_group.specs.Answers.{factored_in}
+use Rattle.pauli.specs.Refusals.{told_by}
+use Rattle.factorizations.specs.Answers.{totals_in}
 
 -- ---- results read from bytes alone
 
@@ -135,7 +137,7 @@ unfolding results_bytes
 bytes_few [] a = omega arith
 bytes_few (o ∷ os) a = omega (arith, length-append (result_bytes o) (results_bytes os), result_few o a.0, bytes_few os a.1)
 
-module _ (promise : Promise) (b e work out : List ℕ) (found : ResultsFound) (work' out' : List ℕ)
+module _ (promise : Promise) (b e work out : List ℕ) (found : Result Results Refusal) (work' out' : List ℕ)
     (c : FactorizationsCall promise b e work out found work' out') (gs es : List Sparse) (p : read b ≡ answer gs) (q : read e ≡ answer es) where
   abbrev os : List (Option Factorization)
   os = results_by promise gs es
@@ -144,7 +146,7 @@ module _ (promise : Promise) (b e work out : List ℕ) (found : ResultsFound) (w
   unfolding factorizations_call questions read_both and_then enough refuse_if map_told results_of
   call_is h = rw (p, q, le-ltb (length work) 4096 h)
 
-  always_answered : 4096 ≤ length work → 260 * length es ≤ length out → (t : Totals) × (told_factorizations found ≡ answer t)
+  always_answered : 4096 ≤ length work → 260 * length es ≤ length out → (t : Totals) × (told_by totals_in found ≡ answer t)
   unfolding told_results totals paulis
   always_answered h k =
       let few = bytes_few os (all_small promise b gs p (paulis es)) in
@@ -229,7 +231,7 @@ module _ (promise : Promise) (b e : List ℕ) (c : Answered promise b e) where
         ∙ ap (λ (p : Pauli). result_bytes (F p)) (get_or-map pauli_of held.es n nothing)
 
     module _ (s : Single promise b e n) where
-      told_single : told_factored s.found ≡ answer (factors R)
+      told_single : told_by factored_in s.found ≡ answer (factors R)
       told_single =
           s.promised.told ∙ told_of promise b e held.gs held.es held.generators held.elements n inside s.work s.out
           ∙ passes promise b e held.gs held.es held.generators held.elements n inside s.work s.out s.words s.room
@@ -247,20 +249,20 @@ module _ (promise : Promise) (b e : List ℕ) (c : Answered promise b e) where
           = ap (take (2 * weight g.indexes)) left ∙ rw (← index_bytes_lem g) (put_front s.out (index_bytes g)) in
           ap (λ (bs : List ℕ). 1 ∷ g.exponent ∷ le16 (weight g.indexes) ++ bs) (sym taken)
 
-      equals : (r : Option Factored) × (told_factored s.found ≡ answer r) × (result c n ≡ result_of r s.out')
+      equals : (r : Option Factored) × (told_by factored_in s.found ≡ answer r) × (result c n ≡ result_of r s.out')
       equals = (factors R, told_single, result_is ∙ as_single R refl)
 
-      zero_when : told_factored s.found ≡ answer none → result c n ≡ 0 ∷ []
+      zero_when : told_by factored_in s.found ≡ answer none → result c n ≡ 0 ∷ []
       unfolding result_of
       zero_when t =
           let same : factors R ≡ none = let u = told_single in cc in
           result_is ∙ as_single R refl ∙ ap (λ (r : Option Factored). result_of r s.out') same
 
-      zero_only : get_or (result c n) 0 0 ≡ 0 → told_factored s.found ≡ answer none
+      zero_only : get_or (result c n) 0 0 ≡ 0 → told_by factored_in s.found ≡ answer none
       unfolding result_bytes factors
       zero_only z = go R refl
         where
-          go : (o : Option Factorization) → R ≡ o → told_factored s.found ≡ answer none
+          go : (o : Option Factorization) → R ≡ o → told_by factored_in s.found ≡ answer none
           go none r = told_single ∙ ap (λ (o : Option Factorization). answer (factors o)) r
           go (some g) r =
               let one : get_or (result c n) 0 0 ≡ 1 = ap (λ (bs : List ℕ). get_or bs 0 0) (result_is ∙ ap result_bytes r) in

@@ -7,8 +7,6 @@ use native.Mathlib.Omega.{arith}
 use borrow.Author.Tests.{ltb-false}
 use lib.ListN.{length, take, drop, length-map}
 use Rattle.binar.proofs.Lists.{all_left, all_right}
-use Rattle.pauli.specs.declared.write.Wrote.{Wrote}
-use Rattle.pauli.specs.WriteAnswers.{told_wrote}
 use Rattle.pauli.specs.JoinCalls.{read_both, few_qubits}
 use Rattle.pauli.specs.Told.{answer, and_then, map_told}
 use Rattle.pauli.specs.Roll.{most_paulis, Sparse, support, read, write}
@@ -36,6 +34,9 @@ use Rattle.pauli_group.specs.Calls.{paulis, one_list, standard_bytes, standard_g
 use Rattle.pauli_group.specs.CallContracts.{QuotientCall}
 use Rattle.pauli_group.proofs.group.GroupLaws.{paulis_append}
 use Rattle.demand_three.specs.ReadBack.{ReadBack}
+use Rattle.pauli.specs.declared.refusal.Refusal.{Refusal}
+use Rattle.std.proofs.Common.{Result}
+use Rattle.pauli.specs.Refusals.{told_of}
 
 -- ---- calls on one list
 
@@ -159,8 +160,8 @@ quotient_bytes_lem none bs e = absurd (refused_none 11 0 bs e)
 
 -- ---- the calls
 
-quotient_back : (left right : Promise) (l r work out : List ℕ) (wrote : Wrote) (work' out' : List ℕ) (ps qs : List Sparse)
-    → QuotientCall left right l r work out wrote work' out' → read l ≡ answer ps → read r ≡ answer qs → (n : ℕ) → told_wrote wrote ≡ answer n
+quotient_back : (left right : Promise) (l r work out : List ℕ) (wrote : Result ℕ Refusal) (work' out' : List ℕ) (ps qs : List Sparse)
+    → QuotientCall left right l r work out wrote work' out' → read l ≡ answer ps → read r ≡ answer qs → (n : ℕ) → told_of wrote ≡ answer n
     → (rs : List Pauli) × (try_quotient left right (paulis ps) (paulis qs) ≡ some rs) × Holds (take n out') rs
 unfolding quotient_call try_quotient
 quotient_back left right l r work out wrote work' out' ps qs c el er n t =

@@ -1,10 +1,8 @@
 -- The sizes against the calls that they speak of: each goes by the tests of its call, and its number is that of the list that is written.
-use Rattle.std.proofs.Common.{◌≡◌, sym, ap, ◌∙◌, subst, Bool, true, false, List, [], ◌∷◌, ◌++◌, map, ℕ, ◌+◌, ◌-◌, ◌*◌, ◌^◌, ◌≤◌, ◌<◌, min, mul-suc, mul_assoc, add-mul, mul-le-mul_left, zero-add, arith, ltb, length, take, drop, length-append}
+use Rattle.std.proofs.Common.{◌≡◌, sym, ap, ◌∙◌, subst, Bool, true, false, List, [], ◌∷◌, ◌++◌, map, ℕ, ◌+◌, ◌-◌, ◌*◌, ◌^◌, ◌≤◌, ◌<◌, min, mul-suc, mul_assoc, add-mul, mul-le-mul_left, zero-add, arith, ltb, length, take, drop, length-append, Result}
 use borrow.Author.Tests.{lt-ltb, le-ltb}
 use lib.ListN.{length-map}
 use lib.Seq.{drop-append_seam}
-use Rattle.pauli.specs.declared.write.Wrote.{Wrote}
-use Rattle.pauli.specs.WriteAnswers.{told_wrote}
 use Rattle.pauli.specs.JoinCalls.{Lists, read_both, few_qubits, joined_of, join_of}
 use Rattle.pauli.specs.JoinContract.{JoinCall}
 use Rattle.pauli.specs.Told.{Told, answer, refused, refuse_if, and_then, map_told}
@@ -32,14 +30,14 @@ use Rattle.pauli_theory.proofs.Written.{support_of_lem}
 use Rattle.pauli_group.specs.WorkArea.{work_words, enough, area_after}
 use Rattle.pauli_group.specs.Calls.{paulis, one_list, standard_bytes, standard_generators, page_bytes, elements_call}
 use Rattle.pauli_group.specs.CallContracts.{StandardCall, ElementsCall}
-use Rattle.sizes.specs.declared.answers.SizesFound.{SizesFound}
-use Rattle.sizes.specs.declared.answers.BoundFound.{BoundFound}
-use Rattle.sizes.specs.declared.answers.PageFound.{PageFound}
-use Rattle.sizes.specs.Answers.{told_sizes, told_bound, told_page}
 use Rattle.sizes.specs.Calls.{Joined, sizes_of, joined_sizes, bound_of, standard_bound, page_elements, page_call}
 use Rattle.sizes.specs.SizeContracts.{JoinedSizesCall, StandardBoundCall, PageSizeCall}
 use Rattle.demand_three.specs.Sizes.{RollOf, JoinedSizesLaw, StandardBoundLaw, PageSizeLaw, Sizes}
 use Rattle.demand_three.proofs.ReadBack.{read_back}
+use Rattle.sizes.specs.declared.answers.JoinedSizes.{JoinedSizes}
+use Rattle.pauli.specs.declared.refusal.Refusal.{Refusal}
+use Rattle.sizes.specs.Answers.{sizes_in}
+use Rattle.pauli.specs.Refusals.{told_by, told_of}
 
 -- ---- refusals
 
@@ -132,16 +130,16 @@ joined_numbers l r =
     of_then (read_both l r) _ (of_then (read l) _ (of_read l) λ ps. of_then (read r) _ (of_read r) λ qs. tt) λ b.
     of_test _ 2 0 _ (omega arith) (omega arith) λ _. of_test _ 7 0 _ (omega arith) (omega arith) λ _. tt
 
-module _ (l r : List ℕ) (found : SizesFound) (c : JoinedSizesCall l r found) (out : List ℕ) (wrote : Wrote) (out' : List ℕ)
+module _ (l r : List ℕ) (found : Result JoinedSizes Refusal) (c : JoinedSizesCall l r found) (out : List ℕ) (wrote : Result ℕ Refusal) (out' : List ℕ)
     (d : JoinCall l r out wrote out') where
   -- the list whose sizes are told
-  joined_list : (s : Joined) → told_sizes found ≡ answer s
+  joined_list : (s : Joined) → told_by sizes_in found ≡ answer s
       → (ps : List Sparse) × (joined_of l r ≡ answer ps) × (join_of l r ≡ answer (write ps)) × (sizes_of ps ≡ s)
   unfolding joined_sizes join_of map_told
   joined_list s e = let (ps, j, m) = map_answer sizes_of (joined_of l r) s (sym c.told ∙ e) in (ps, j, ap (map_told write) j, m)
 
-  joined_enough : (s : Joined) → told_sizes found ≡ answer s → s.bytes ≤ length out
-      → (told_wrote wrote ≡ answer s.bytes) × (drop s.bytes out' ≡ drop s.bytes out)
+  joined_enough : (s : Joined) → told_by sizes_in found ≡ answer s → s.bytes ≤ length out
+      → (told_of wrote ≡ answer s.bytes) × (drop s.bytes out' ≡ drop s.bytes out)
   unfolding sizes_of left_in put_bytes
   joined_enough s e room =
       let (ps, j, w, m) = joined_list s e in
@@ -151,17 +149,17 @@ module _ (l r : List ℕ) (found : SizesFound) (c : JoinedSizesCall l r found) (
       let left : out' ≡ bs ++ drop (0 + length bs) out = d.left ∙ rw (w, le-ltb (length out) (length bs) fits) in
       let behind : drop (length bs) out' ≡ drop (length bs) out =
       ap (drop (length bs)) left ∙ drop-append_seam bs (drop (0 + length bs) out) ∙ ap (λ (n : ℕ). drop n out) (zero-add (length bs)) in
-      let told : told_wrote wrote ≡ answer (length bs) = d.told ∙ ap (λ (t : Told (List ℕ)). told_bytes t out) w ∙ bytes_fit bs out fits in
+      let told : told_of wrote ≡ answer (length bs) = d.told ∙ ap (λ (t : Told (List ℕ)). told_bytes t out) w ∙ bytes_fit bs out fits in
       (told ∙ ap answer size, subst (λ (n : ℕ). drop n out' ≡ drop n out) size behind)
 
-  joined_short : (s : Joined) → told_sizes found ≡ answer s → length out < s.bytes → told_wrote wrote ≡ refused 12 0
+  joined_short : (s : Joined) → told_by sizes_in found ≡ answer s → length out < s.bytes → told_of wrote ≡ refused 12 0
   unfolding sizes_of told_bytes refuse_if
   joined_short s e h =
       let (ps, j, w, m) = joined_list s e in
       let size : length (write ps) ≡ s.bytes = ap (λ (x : Joined). x.bytes) m in
       d.told ∙ rw (w, lt-ltb (length out) (length (write ps)) (rw size h))
 
-  joined_roll : (s : Joined) → told_sizes found ≡ answer s → (n : ℕ) → told_wrote wrote ≡ answer n
+  joined_roll : (s : Joined) → told_by sizes_in found ≡ answer s → (n : ℕ) → told_of wrote ≡ answer n
       → RollOf (take n out') s.count s.qubits
   unfolding sizes_of
   joined_roll s e n t =
@@ -264,11 +262,11 @@ bound_refused : (b : List ℕ) (n p : ℕ) → read b ≡ refused n p → standa
 unfolding standard_bound map_told
 bound_refused b n p e = rw e
 
-module _ (b : List ℕ) (found : BoundFound) (c : StandardBoundCall b found) (work out : List ℕ) (wrote : Wrote) (work' out' : List ℕ)
+module _ (b : List ℕ) (found : Result ℕ Refusal) (c : StandardBoundCall b found) (work out : List ℕ) (wrote : Result ℕ Refusal) (work' out' : List ℕ)
     (d : StandardCall b work out wrote work' out') where
   -- the list whose bound is told, and what its standard generators tell
-  bound_list : (bound : ℕ) → told_bound found ≡ answer bound → (ps : List Sparse) × (length (standard_bytes (paulis ps)) ≤ bound)
-      × (told_wrote wrote ≡ told_bytes (refuse_if (ltb (length work) work_words) 9 0 (answer (standard_bytes (paulis ps)))) out)
+  bound_list : (bound : ℕ) → told_of found ≡ answer bound → (ps : List Sparse) × (length (standard_bytes (paulis ps)) ≤ bound)
+      × (told_of wrote ≡ told_bytes (refuse_if (ltb (length work) work_words) 9 0 (answer (standard_bytes (paulis ps)))) out)
   unfolding standard_bound
   bound_list bound e =
       let (ps, r, m) = map_answer bound_of (read b) bound (sym c.told ∙ e) in
@@ -300,10 +298,10 @@ module _ (b : List ℕ) (found : BoundFound) (c : StandardBoundCall b found) (wo
 
 -- ---- a page
 
-module _ (promise : Promise) (start count : ℕ) (b area : List ℕ) (found : PageFound) (area' : List ℕ)
-    (c : PageSizeCall promise start count b area found area') (work out : List ℕ) (wrote : Wrote) (work' out' : List ℕ)
+module _ (promise : Promise) (start count : ℕ) (b area : List ℕ) (found : Result ℕ Refusal) (area' : List ℕ)
+    (c : PageSizeCall promise start count b area found area') (work out : List ℕ) (wrote : Result ℕ Refusal) (work' out' : List ℕ)
     (d : ElementsCall promise start count b work out wrote work' out') where
-  page_holds : (k n : ℕ) → told_page found ≡ answer k → told_wrote wrote ≡ answer n
+  page_holds : (k n : ℕ) → told_of found ≡ answer k → told_of wrote ≡ answer n
       → (held : List Sparse) × (read (take n out') ≡ answer held) × (length held ≡ k)
   unfolding page_call page_elements one_list enough
   page_holds k n e t =

@@ -2,10 +2,8 @@
 -- it was lent, answered and left. The answers are measured by what is read off the rolls alone: the Paulis that they hold, products
 -- of generators, and bytes. What is said of any lists holds of A, of B and of the joined list; the limits of demand 3 are assumed
 -- only where they rule out the refusals 2 and 7.
-use Rattle.std.specs.Prelude.{◌≡◌, List, [], ◌∷◌, ◌++◌, map, ℕ, zero, suc, ◌+◌, ◌*◌, ◌≤◌, ◌<◌, ltb, length, get_or, take}
+use Rattle.std.specs.Prelude.{◌≡◌, List, [], ◌∷◌, ◌++◌, map, ℕ, zero, suc, ◌+◌, ◌*◌, ◌≤◌, ◌<◌, ltb, length, get_or, take, Result, Option as CodeOption}
 use Rattle.std.proofs.Math.Option.{Option, some, none}
-use Rattle.pauli.specs.declared.write.Wrote.{Wrote}
-use Rattle.pauli.specs.WriteAnswers.{told_wrote}
 use Rattle.pauli.specs.Bytes.{u16_at}
 use Rattle.pauli.specs.Condense.{nothing}
 use Rattle.pauli.specs.Pauli.{Pauli, I, Same, turned, product}
@@ -15,12 +13,14 @@ use Rattle.pauli.specs.Sets.{pauli_of}
 use Rattle.pauli.specs.Told.{Told, answer, refuse_if}
 use Rattle.pauli_theory.specs.Group.{Generated, SameGroup, Promise, Honest}
 use Rattle.pauli_theory.specs.Order.{Order, equal, less}
-use Rattle.pauli_group.specs.declared.answers.MemberFound.{MemberFound}
-use Rattle.pauli_group.specs.declared.answers.OrderFound.{OrderFound}
-use Rattle.pauli_group.specs.Answers.{told_factored, told_order}
 use Rattle.pauli_group.specs.Calls.{paulis, Factored}
 use Rattle.pauli_group.specs.CallContracts.{StandardCall, MemberCall, OrderCall}
 use Rattle.pauli.specs.JoinContract.{JoinCall}
+use Rattle.pauli_group.specs.declared.answers.Factors.{Factors}
+use Rattle.std.specs.declared.cmp.Ordering.{Ordering}
+use Rattle.pauli.specs.declared.refusal.Refusal.{Refusal}
+use Rattle.pauli_group.specs.Answers.{factored_in, order_of}
+use Rattle.pauli.specs.Refusals.{told_by, told_of}
 
 -- ---- lists and elements
 
@@ -57,7 +57,7 @@ generator A i h = record { roll = A.roll; held = A.held; accepted = A.accepted; 
 pub record Asked (A : Generators) (x : Element) : Type 0 where
   pub work : List ℕ
   pub out : List ℕ
-  pub found : MemberFound
+  pub found : Result (CodeOption Factors) Refusal
   pub work' : List ℕ
   pub out' : List ℕ
   pub promised : MemberCall A.promise A.roll x.roll x.number work out found work' out'
@@ -66,7 +66,7 @@ pub record Asked (A : Generators) (x : Element) : Type 0 where
 pub record Standardized (A : Generators) : Type 0 where
   pub work : List ℕ
   pub out : List ℕ
-  pub wrote : Wrote
+  pub wrote : Result ℕ Refusal
   pub work' : List ℕ
   pub out' : List ℕ
   pub promised : StandardCall A.roll work out wrote work' out'
@@ -74,14 +74,14 @@ pub record Standardized (A : Generators) : Type 0 where
 -- joining: A, then B
 pub record Joining (A B : Generators) : Type 0 where
   pub out : List ℕ
-  pub wrote : Wrote
+  pub wrote : Result ℕ Refusal
   pub out' : List ℕ
   pub promised : JoinCall A.roll B.roll out wrote out'
 
 -- comparison: A left, J right
 pub record Comparing (A J : Generators) : Type 0 where
   pub work : List ℕ
-  pub found : OrderFound
+  pub found : Result (CodeOption Ordering) Refusal
   pub work' : List ℕ
   pub promised : OrderCall A.promise J.promise A.roll J.roll work found work'
 
@@ -91,7 +91,7 @@ pub record Comparing (A J : Generators) : Type 0 where
 -- two bytes for each index that there can be
 unfoldable pub Member : Generators → Element → Type 0
 Member A x =
-    (c : Asked A x) → 4096 ≤ length c.work → 256 ≤ length c.out → (f : Factored) × (told_factored c.found ≡ answer (some f))
+    (c : Asked A x) → 4096 ≤ length c.work → 256 ≤ length c.out → (f : Factored) × (told_by factored_in c.found ≡ answer (some f))
 
 -- "every generator of B is a member of A"
 unfoldable pub AllMembers : Generators → Generators → Type 0
@@ -102,7 +102,7 @@ AllMembers A B = (i : ℕ) (h : i < length B.held) → Member A (generator B i h
 pub record JoinedList (A B J : Generators) : Type 0 where
   pub call : Joining A B
   pub size : ℕ
-  pub told : told_wrote call.wrote ≡ answer size
+  pub told : told_of call.wrote ≡ answer size
   pub bytes : J.roll ≡ take size call.out'
 
 -- "of at most 40 generators each, on at most 128 qubits together"
@@ -143,38 +143,38 @@ pub record Demand3 : Type 0 where
   pub member_when : (A : Generators) (x : Element) → Generated (list A) (pauli x) → Member A x
   pub member_only : (A : Generators) (x : Element) → Member A x → Generated (list A) (pauli x)
   -- and so of every answer, with however short an output
-  pub indexes_only : (A : Generators) (x : Element) (c : Asked A x) (f : Factored) → told_factored c.found ≡ answer (some f)
+  pub indexes_only : (A : Generators) (x : Element) (c : Asked A x) (f : Factored) → told_by factored_in c.found ≡ answer (some f)
       → Generated (list A) (pauli x)
-  pub none_only : (A : Generators) (x : Element) (c : Asked A x) → told_factored c.found ≡ answer none
+  pub none_only : (A : Generators) (x : Element) (c : Asked A x) → told_by factored_in c.found ≡ answer none
       → Generated (list A) (pauli x) → ⊥
   -- "the product of the generators at the indexes given, in rising order, times i to the exponent given is then the element"
-  pub product_is : (A : Generators) (x : Element) (c : Asked A x) (f : Factored) → told_factored c.found ≡ answer (some f)
+  pub product_is : (A : Generators) (x : Element) (c : Asked A x) (f : Factored) → told_by factored_in c.found ≡ answer (some f)
       → Gives (list A) (indexes_at c.out' 0 f.count) f (pauli x)
   -- "A's generators, then B's, with indexes counted through both": the joined roll is accepted and holds these, exponents by value
-  pub joined_list : (A B : Generators) (c : Joining A B) (n : ℕ) → told_wrote c.wrote ≡ answer n
+  pub joined_list : (A B : Generators) (c : Joining A B) (n : ℕ) → told_of c.wrote ≡ answer n
       → read (take n c.out') ≡ answer (map by_value (A.held ++ B.held))
   -- "joining turns no member of A or B into a non-member"
   pub joined_left : (A B J : Generators) → JoinedList A B J → (x : Element) → Member A x → Member J x
   pub joined_right : (A B J : Generators) → JoinedList A B J → (x : Element) → Member B x → Member J x
   -- "A compares equal to the joined list exactly when every generator of B is a member of A, else less"
-  pub equal_when : (A B J : Generators) → JoinedList A B J → (c : Comparing A J) (o : Order) → told_order c.found ≡ answer o
+  pub equal_when : (A B J : Generators) → JoinedList A B J → (c : Comparing A J) (o : Order) → told_by order_of c.found ≡ answer o
       → AllMembers A B → o ≡ equal
-  pub equal_only : (A B J : Generators) → JoinedList A B J → (c : Comparing A J) (o : Order) → told_order c.found ≡ answer o
+  pub equal_only : (A B J : Generators) → JoinedList A B J → (c : Comparing A J) (o : Order) → told_by order_of c.found ≡ answer o
       → o ≡ equal → AllMembers A B
-  pub else_less : (A B J : Generators) → JoinedList A B J → (c : Comparing A J) (o : Order) → told_order c.found ≡ answer o
+  pub else_less : (A B J : Generators) → JoinedList A B J → (c : Comparing A J) (o : Order) → told_by order_of c.found ≡ answer o
       → (AllMembers A B → ⊥) → o ≡ less
   -- "A and B get the same bytes as standard generators exactly when they generate the same group"
-  pub same_bytes : (A B : Generators) (c : Standardized A) (d : Standardized B) (m n : ℕ) → told_wrote c.wrote ≡ answer m
-      → told_wrote d.wrote ≡ answer n → SameGroup (list A) (list B) → take m c.out' ≡ take n d.out'
-  pub same_group : (A B : Generators) (c : Standardized A) (d : Standardized B) (m n : ℕ) → told_wrote c.wrote ≡ answer m
-      → told_wrote d.wrote ≡ answer n → take m c.out' ≡ take n d.out' → SameGroup (list A) (list B)
+  pub same_bytes : (A B : Generators) (c : Standardized A) (d : Standardized B) (m n : ℕ) → told_of c.wrote ≡ answer m
+      → told_of d.wrote ≡ answer n → SameGroup (list A) (list B) → take m c.out' ≡ take n d.out'
+  pub same_group : (A B : Generators) (c : Standardized A) (d : Standardized B) (m n : ℕ) → told_of c.wrote ≡ answer m
+      → told_of d.wrote ≡ answer n → take m c.out' ≡ take n d.out' → SameGroup (list A) (list B)
   -- "Demand 3 speaks of answers; a call may still be refused with 9 or 12, exactly as in the table": but for these refusals, all
   -- calls on the same lists, and about the same element, tell the same
   pub asked_told : (A : Generators) (x : Element) → (r : Option Factored)
-      × ((c : Asked A x) → told_factored c.found ≡ if_area c.work (if_room c.out (bytes_of r) r))
+      × ((c : Asked A x) → told_by factored_in c.found ≡ if_area c.work (if_room c.out (bytes_of r) r))
   pub standard_told : (A : Generators) → (n : ℕ)
-      × ((c : Standardized A) → told_wrote c.wrote ≡ if_area c.work (if_room c.out n n))
+      × ((c : Standardized A) → told_of c.wrote ≡ if_area c.work (if_room c.out n n))
   pub joining_told : (A B : Generators) → Limits A B → (c : Joining A B)
-      → let n = length (write (A.held ++ B.held)) in told_wrote c.wrote ≡ if_room c.out n n
+      → let n = length (write (A.held ++ B.held)) in told_of c.wrote ≡ if_room c.out n n
   pub comparing_told : (A B J : Generators) → Limits A B → JoinedList A B J → (o : Order)
-      × ((c : Comparing A J) → told_order c.found ≡ if_area c.work (answer o))
+      × ((c : Comparing A J) → told_by order_of c.found ≡ if_area c.work (answer o))

@@ -1,21 +1,23 @@
 -- The results of a whole roll of elements. Of a call nothing is known but what its `ensures` says, whatever it was lent,
 -- answered and left, and with any promise, be it true or false. The results are measured by the single call's, and by bytes alone.
-use Rattle.std.specs.Prelude.{◌≡◌, List, [], ◌∷◌, ◌++◌, ℕ, zero, suc, ◌+◌, ◌*◌, ◌≤◌, ◌<◌, length, get_or, take, drop}
+use Rattle.std.specs.Prelude.{◌≡◌, List, [], ◌∷◌, ◌++◌, ℕ, zero, suc, ◌+◌, ◌*◌, ◌≤◌, ◌<◌, length, get_or, take, drop, Result, Option as CodeOption}
 use Rattle.std.proofs.Math.Option.{Option, some, none}
 use Rattle.pauli.specs.Bytes.{u16_at, le16}
 use Rattle.pauli.specs.Roll.{Sparse, read}
 use Rattle.pauli.specs.Told.{answer}
 use Rattle.pauli_theory.specs.Group.{Generated, Promise}
 use Rattle.pauli_theory.specs.Standard.{if_zero}
-use Rattle.pauli_group.specs.declared.answers.MemberFound.{MemberFound}
-use Rattle.pauli_group.specs.Answers.{told_factored}
 use Rattle.pauli_group.specs.CallContracts.{MemberCall}
 use Rattle.pauli_group.specs.Calls.{Factored}
-use Rattle.factorizations.specs.declared.answers.ResultsFound.{ResultsFound}
-use Rattle.factorizations.specs.Answers.{told_factorizations}
 use Rattle.factorizations.specs.Calls.{Totals}
 use Rattle.factorizations.specs.Contract.{FactorizationsCall}
 use Rattle.demand_three.specs.DemandThree.{Generators, list, Element, pauli, indexes_at, Gives}
+use Rattle.pauli_group.specs.declared.answers.Factors.{Factors}
+use Rattle.pauli.specs.declared.refusal.Refusal.{Refusal}
+use Rattle.factorizations.specs.declared.answers.Results.{Results}
+use Rattle.pauli_group.specs.Answers.{factored_in}
+use Rattle.pauli.specs.Refusals.{told_by}
+use Rattle.factorizations.specs.Answers.{totals_in}
 
 -- ---- results read from bytes alone
 
@@ -51,12 +53,12 @@ indexes_in r = indexes_at r 4 (u16_at r 2)
 pub record Answered (promise : Promise) (b e : List ℕ) : Type 0 where
   pub work : List ℕ
   pub out : List ℕ
-  pub found : ResultsFound
+  pub found : Result Results Refusal
   pub work' : List ℕ
   pub out' : List ℕ
   pub promised : FactorizationsCall promise b e work out found work' out'
   pub totals : Totals
-  pub told : told_factorizations found ≡ answer totals
+  pub told : told_by totals_in found ≡ answer totals
 
 -- the bytes that it left, as many as it told
 abbrev pub bytes : {promise : Promise} {b e : List ℕ} → Answered promise b e → List ℕ
@@ -70,7 +72,7 @@ result c n = get_or (results_in (bytes c)) n []
 pub record Single (promise : Promise) (b e : List ℕ) (n : ℕ) : Type 0 where
   pub work : List ℕ
   pub out : List ℕ
-  pub found : MemberFound
+  pub found : Result (CodeOption Factors) Refusal
   pub work' : List ℕ
   pub out' : List ℕ
   pub promised : MemberCall promise b e n work out found work' out'
@@ -85,9 +87,9 @@ result_of (some f) out' = 1 ∷ f.exponent ∷ le16 f.count ++ take (2 * f.count
 
 pub record ManyElements : Type 0 where
   -- accepted rolls are answered, with 4,096 words and 260 bytes for each element
-  pub always_answered : (promise : Promise) (b e work out : List ℕ) (found : ResultsFound) (work' out' : List ℕ)
+  pub always_answered : (promise : Promise) (b e work out : List ℕ) (found : Result Results Refusal) (work' out' : List ℕ)
       → FactorizationsCall promise b e work out found work' out' → (gs es : List Sparse) → read b ≡ answer gs → read e ≡ answer es
-      → 4096 ≤ length work → 260 * length es ≤ length out → (t : Totals) × (told_factorizations found ≡ answer t)
+      → 4096 ≤ length work → 260 * length es ≤ length out → (t : Totals) × (told_by totals_in found ≡ answer t)
   -- "one result per element out"
   pub count : (promise : Promise) (b e : List ℕ) (c : Answered promise b e) (es : List Sparse) → read e ≡ answer es
       → c.totals.count ≡ length es
@@ -97,12 +99,12 @@ pub record ManyElements : Type 0 where
   pub all_there : (promise : Promise) (b e : List ℕ) (c : Answered promise b e) → length (bytes c) ≡ c.totals.bytes
   -- "in order. Each result equals that of the single call, members and non-members mixed": byte for byte
   pub equals : (promise : Promise) (b e : List ℕ) (c : Answered promise b e) (n : ℕ) → n < c.totals.count → (s : Single promise b e n)
-      → (r : Option Factored) × (told_factored s.found ≡ answer r) × (result c n ≡ result_of r s.out')
+      → (r : Option Factored) × (told_by factored_in s.found ≡ answer r) × (result c n ≡ result_of r s.out')
   -- byte 0 exactly where the single call answers "not a member"
   pub zero_when : (promise : Promise) (b e : List ℕ) (c : Answered promise b e) (n : ℕ) → n < c.totals.count → (s : Single promise b e n)
-      → told_factored s.found ≡ answer none → result c n ≡ 0 ∷ []
+      → told_by factored_in s.found ≡ answer none → result c n ≡ 0 ∷ []
   pub zero_only : (promise : Promise) (b e : List ℕ) (c : Answered promise b e) (n : ℕ) → n < c.totals.count → (s : Single promise b e n)
-      → get_or (result c n) 0 0 ≡ 0 → told_factored s.found ≡ answer none
+      → get_or (result c n) 0 0 ≡ 0 → told_by factored_in s.found ≡ answer none
   -- so demand 3 holds of each result, with no abelian promise or a true one: a member's exactly where a product of generators is the element
   pub member_when : (A : Generators) (x : Element) (c : Answered A.promise A.roll x.roll) → Generated (list A) (pauli x)
       → get_or (result c x.number) 0 0 ≡ 1

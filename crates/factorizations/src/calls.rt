@@ -1,10 +1,8 @@
 // The call for the factorizations of a roll of elements.
 ghost use Rattle.std.specs.Prelude.{◌≡◌, map, length};
 ghost use Rattle.pauli.specs.Condense.{list_of};
-ghost use Rattle.pauli.specs.JoinAnswers.{told_counts};
 ghost use Rattle.pauli.specs.Roll.{count_of};
 ghost use Rattle.pauli.specs.Told.{answer, map_told};
-ghost use Rattle.pauli.specs.WriteAnswers.{told_wrote};
 ghost use Rattle.pauli.specs.Writing.{told_bytes, left_in};
 ghost use Rattle.pauli_theory.specs.Membership.{factorization_of};
 ghost use Rattle.pauli_group.specs.Promises.{promise_of};
@@ -13,36 +11,28 @@ ghost use Rattle.pauli_group.specs.Calls.{paulis};
 ghost use Rattle.factorizations.specs.Calls.{questions, questions_counts};
 ghost use Rattle.factorizations.specs.Contract.{FactorizationsCall};
 ghost use Rattle.factorizations.specs.Records.{results_bytes};
+ghost use Rattle.pauli.specs.JoinAnswers.{counts_in};
+ghost use Rattle.pauli.specs.Refusals.{told_by, told_of};
 
-use crate::answers::{Results, ResultsFound};
+use crate::answers::Results;
 use crate::records::write_records;
 use crate::stored::factor_rolls;
 use binar::row::clear_bits;
-use pauli::joined::CountsFound;
+use pauli::joined::RollCounts;
 use pauli::refusal::{Reason, Refusal};
-use pauli::write::Wrote;
 use pauli_group::area::{FURTHER, WORK_WORDS};
 use pauli_group::checks::check_rolls;
 use pauli_group::promise::Promise;
 
 // Checks the generators' roll, the elements' roll and the work area of so many words; tells how many Paulis each roll has.
-fn check_questions(generators: &[u8], elements: &[u8], words: usize) -> CountsFound
-    ensures { told_counts result ≡ map_told questions_counts (questions generators.now elements.now words) }
+fn check_questions(generators: &[u8], elements: &[u8], words: usize) -> Result<RollCounts, Refusal>
+    ensures { told_by counts_in result ≡ map_told questions_counts (questions generators.now elements.now words) }
 {
-    let found = check_rolls(generators, elements);
-    let counts = match found {
-        CountsFound::Refused(r) => {
-            return CountsFound::Refused(r);
-        }
-        CountsFound::Counts(counts) => counts,
-    };
+    let counts = check_rolls(generators, elements)?;
     if words < WORK_WORDS {
-        return CountsFound::Refused(Refusal {
-            reason: Reason::Work,
-            place: 0,
-        });
+        return Err(Reason::Work.into());
     }
-    CountsFound::Counts(counts)
+    Ok(counts)
 }
 
 // Factors the elements of an accepted roll of m by the group of an accepted roll of n, writes their records, and clears the work
@@ -55,9 +45,9 @@ fn write_factorizations(
     promise: Promise,
     w: &mut [u64],
     out: &mut [u8],
-) -> Wrote
+) -> Result<usize, Refusal>
     requires { (count_of b.now ≡ answer n) × (count_of elements.now ≡ answer m) × (length w.old ≡ 4096) }
-    ensures told { told_wrote result ≡ told_bytes (answer (results_bytes (map (factorization_of (promise_of promise) (paulis (list_of b.now))) (paulis (list_of elements.now))))) out.old }
+    ensures told { told_of result ≡ told_bytes (answer (results_bytes (map (factorization_of (promise_of promise) (paulis (list_of b.now))) (paulis (list_of elements.now))))) out.old }
     ensures left { out.new ≡ left_in (answer (results_bytes (map (factorization_of (promise_of promise) (paulis (list_of b.now))) (paulis (list_of elements.now))))) out.old }
     ensures area { w.new ≡ cleared w.old }
 {
@@ -75,17 +65,11 @@ pub fn indexed_factorizations_of(
     promise: Promise,
     work: &mut [u64],
     out: &mut [u8],
-) -> ResultsFound
+) -> Result<Results, Refusal>
     ensures { FactorizationsCall (promise_of promise) generators.now elements.now work.old out.old result work.new out.new }
 {
-    let checked = check_questions(generators, elements, work.len());
-    let counts = match checked {
-        CountsFound::Refused(r) => {
-            return ResultsFound::Refused(r);
-        }
-        CountsFound::Counts(counts) => counts,
-    };
-    let wrote = write_factorizations(
+    let counts = check_questions(generators, elements, work.len())?;
+    let bytes = write_factorizations(
         generators,
         counts.left,
         elements,
@@ -93,12 +77,9 @@ pub fn indexed_factorizations_of(
         promise,
         &mut work[..WORK_WORDS],
         out,
-    );
-    match wrote {
-        Wrote::Refused(r) => ResultsFound::Refused(r),
-        Wrote::Bytes(bytes) => ResultsFound::Results(Results {
-            count: counts.right,
-            bytes: bytes,
-        }),
-    }
+    )?;
+    Ok(Results {
+        count: counts.right,
+        bytes,
+    })
 }

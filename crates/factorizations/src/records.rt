@@ -5,19 +5,19 @@ ghost use Rattle.binar.specs.Row.{weight};
 ghost use Rattle.pauli.specs.PlaceSet.{set_in};
 ghost use Rattle.pauli.specs.Sets.{members};
 ghost use Rattle.pauli.specs.Told.{answer};
-ghost use Rattle.pauli.specs.WriteAnswers.{told_wrote};
 ghost use Rattle.pauli.specs.Writing.{put_bytes, told_bytes, left_in};
 ghost use Rattle.pauli_group.specs.Calls.{le16s};
 ghost use Rattle.pauli_group.specs.Inner.Members.{factoring_told};
 ghost use Rattle.factorizations.specs.Put.{Put};
 ghost use Rattle.factorizations.specs.Records.{result_bytes, results_bytes};
 ghost use Rattle.factorizations.specs.Stored.{stored_in};
+ghost use Rattle.pauli.specs.Refusals.{told_of};
 
 use crate::stored::result_at;
 use pauli::places::Places;
 use pauli::refusal::{Reason, Refusal};
 use pauli::support::Place;
-use pauli::write::{Wrote, put_u16};
+use pauli::write::put_u16;
 use pauli_group::member::Factoring;
 
 // ---- one record
@@ -104,18 +104,20 @@ fn put_records(out: &mut [u8], w: &[u64], base: usize, m: usize) -> usize
 }
 
 // Writes the records, if the output has room for all.
-pub(crate) fn write_records(w: &[u64], base: usize, m: usize, out: &mut [u8]) -> Wrote
+pub(crate) fn write_records(
+    w: &[u64],
+    base: usize,
+    m: usize,
+    out: &mut [u8],
+) -> Result<usize, Refusal>
     requires { (base + 5 * m ≤ length w.now) × (m ≤ 128) }
-    ensures told { told_wrote result ≡ told_bytes (answer (results_bytes (stored_in w.now base m))) out.old }
+    ensures told { told_of result ≡ told_bytes (answer (results_bytes (stored_in w.now base m))) out.old }
     ensures left { out.new ≡ left_in (answer (results_bytes (stored_in w.now base m))) out.old }
 {
     let size = records_length(w, base, m);
     if out.len() < size {
-        return Wrote::Refused(Refusal {
-            reason: Reason::Output,
-            place: 0,
-        });
+        return Err(Reason::Output.into());
     }
     put_records(out, w, base, m);
-    Wrote::Bytes(size)
+    Ok(size)
 }

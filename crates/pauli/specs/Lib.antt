@@ -12,7 +12,6 @@ pub mod Signed
 pub mod Condense
 pub mod PauliTheorems
 pub mod Sets
-pub mod WriteAnswers
 pub mod Writing
 pub mod JoinAnswers
 pub mod JoinCalls

@@ -1,7 +1,5 @@
 -- What a call writes is read back: document 01, "Roll". So what is proved of lists of Paulis is said of bytes.
-use Rattle.std.specs.Prelude.{◌≡◌, ℕ, ◌<◌, List, [], ◌∷◌, ◌++◌, map, take, slice_index_or}
-use Rattle.pauli.specs.declared.write.Wrote.{Wrote}
-use Rattle.pauli.specs.WriteAnswers.{told_wrote}
+use Rattle.std.specs.Prelude.{◌≡◌, ℕ, ◌<◌, List, [], ◌∷◌, ◌++◌, map, take, slice_index_or, Result}
 use Rattle.pauli.specs.Told.{answer}
 use Rattle.pauli.specs.Support.{All}
 use Rattle.pauli.specs.Roll.{Sparse, read, encode}
@@ -10,6 +8,8 @@ use Rattle.pauli.specs.Sets.{pauli_of}
 use Rattle.pauli.specs.Condense.{nothing}
 use Rattle.pauli.specs.JoinContract.{JoinCall}
 use Rattle.pauli.specs.ProductContract.{ProductCall}
+use Rattle.pauli.specs.declared.refusal.Refusal.{Refusal}
+use Rattle.pauli.specs.Refusals.{told_of}
 
 -- these bytes are an accepted roll that holds exactly these Paulis, in this order, by value
 pub record Holds (bytes : List ℕ) (ps : List Pauli) : Type 0 where
@@ -23,12 +23,12 @@ pub record Holds (bytes : List ℕ) (ps : List Pauli) : Type 0 where
 -- joining the rolls of two lists told a size n: the first n bytes hold the left list, then the right list
 abbrev pub JoiningReadBack : Type 0
 JoiningReadBack =
-    (l r out : List ℕ) (wrote : Wrote) (out' : List ℕ) (ps qs : List Sparse) (n : ℕ) → JoinCall l r out wrote out'
-    → read l ≡ answer ps → read r ≡ answer qs → told_wrote wrote ≡ answer n → Holds (take n out') (map pauli_of (ps ++ qs))
+    (l r out : List ℕ) (wrote : Result ℕ Refusal) (out' : List ℕ) (ps qs : List Sparse) (n : ℕ) → JoinCall l r out wrote out'
+    → read l ≡ answer ps → read r ≡ answer qs → told_of wrote ≡ answer n → Holds (take n out') (map pauli_of (ps ++ qs))
 
 -- the product of factor i of the one list and factor j of the other: they hold the product alone
 abbrev pub ProductReadBack : Type 0
 ProductReadBack =
-    (l : List ℕ) (i : ℕ) (r : List ℕ) (j : ℕ) (out : List ℕ) (wrote : Wrote) (out' : List ℕ) (ps qs : List Sparse) (n : ℕ)
-    → ProductCall l i r j out wrote out' → read l ≡ answer ps → read r ≡ answer qs → told_wrote wrote ≡ answer n
+    (l : List ℕ) (i : ℕ) (r : List ℕ) (j : ℕ) (out : List ℕ) (wrote : Result ℕ Refusal) (out' : List ℕ) (ps qs : List Sparse) (n : ℕ)
+    → ProductCall l i r j out wrote out' → read l ≡ answer ps → read r ≡ answer qs → told_of wrote ≡ answer n
     → Holds (take n out') (times (pauli_of (slice_index_or ps i nothing)) (pauli_of (slice_index_or qs j nothing)) ∷ [])

@@ -1,9 +1,9 @@
 -- What a refusal tells.
-use Rattle.std.specs.Prelude.{ℕ}
+use Rattle.std.specs.Prelude.{ℕ, Result, Ok, Err}
 use Rattle.pauli.specs.declared.refusal.Reason.{Reason}
 use Rattle.pauli.specs.declared.refusal.Reason.TheVariants.{Length, Paulis, Entry, Exponent, Qubit, Rising, Qubits, Number, Work, Listing, Subgroup, Output}
 use Rattle.pauli.specs.declared.refusal.Refusal.{Refusal}
-use Rattle.pauli.specs.Told.{Told, refused}
+use Rattle.pauli.specs.Told.{Told, answer, refused}
 
 -- the table of "Turned back"
 abbrev pub number_of : Reason → ℕ
@@ -23,3 +23,13 @@ number_of Output = 12
 -- "A refusal carries its number and its place"
 abbrev pub told_refusal : {A : Type 0} → Refusal → Told A
 told_refusal r = refused (number_of r.reason) r.place
+
+-- a call tells its answer, seen by f, or its refusal
+abbrev pub told_by : {A B : Type 0} → (A → B) → Result A Refusal → Told B
+told_by f (Ok a) = answer (f a)
+told_by f (Err r) = told_refusal r
+
+-- a call whose answer is a number, or no more than that it passed, tells it as it is
+abbrev pub told_of : {A : Type 0} → Result A Refusal → Told A
+told_of (Ok a) = answer a
+told_of (Err r) = told_refusal r

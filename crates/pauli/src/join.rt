@@ -6,10 +6,10 @@ ghost use Rattle.pauli.specs.Condense.{list_of};
 ghost use Rattle.pauli.specs.JoinContract.{JoinCall};
 ghost use Rattle.pauli.specs.Writing.{put_bytes};
 
-use crate::joined::{CountsFound, joined_bytes, joined_counts, numbers_of};
+use crate::joined::{joined_bytes, joined_counts, numbers_of};
 use crate::refusal::{Reason, Refusal};
 use crate::roll::entry_at;
-use crate::write::{Wrote, put_entry, put_u16};
+use crate::write::{put_entry, put_u16};
 
 // Writes the entries of an accepted roll of n Paulis from byte at on, where `before` qubit numbers stand in earlier bodies.
 fn copy_entries(out: &mut [u8], at: usize, b: &[u8], n: usize, before: usize)
@@ -56,25 +56,16 @@ fn put_joined(out: &mut [u8], left: &[u8], nl: usize, right: &[u8], nr: usize)
 }
 
 // Writes the joined roll, if the output has room.
-pub fn join(left: &[u8], right: &[u8], out: &mut [u8]) -> Wrote
+pub fn join(left: &[u8], right: &[u8], out: &mut [u8]) -> Result<usize, Refusal>
     ensures { JoinCall left.now right.now out.old result out.new }
 {
-    let found = joined_counts(left, right);
-    let counts = match found {
-        CountsFound::Refused(r) => {
-            return Wrote::Refused(r);
-        }
-        CountsFound::Counts(counts) => counts,
-    };
+    let counts = joined_counts(left, right)?;
     let nl = counts.left;
     let nr = counts.right;
     let size = joined_bytes(left, nl, right, nr);
     if out.len() < size {
-        return Wrote::Refused(Refusal {
-            reason: Reason::Output,
-            place: 0,
-        });
+        return Err(Reason::Output.into());
     }
     put_joined(out, left, nl, right, nr);
-    Wrote::Bytes(size)
+    Ok(size)
 }

@@ -3,13 +3,14 @@ ghost use Rattle.std.specs.Prelude.{◌≡◌, suc, ◌+◌, ◌*◌, min, ◌++
 ghost use Rattle.pauli.specs.Roll.{numbers, support, count_of, write};
 ghost use Rattle.pauli.specs.Support.{most_qubits};
 ghost use Rattle.pauli.specs.Told.{answer};
-ghost use Rattle.pauli.specs.JoinAnswers.{told_counts};
 ghost use Rattle.pauli.specs.Known.{Gathered};
 ghost use Rattle.pauli.specs.Condense.{list_of};
 ghost use Rattle.pauli.specs.JoinCalls.{counts_of};
+ghost use Rattle.pauli.specs.JoinAnswers.{counts_in};
+ghost use Rattle.pauli.specs.Refusals.{told_by};
 
 use crate::refusal::{Reason, Refusal};
-use crate::roll::{Checked, MOST_PAULIS, check_roll};
+use crate::roll::{MOST_PAULIS, check_roll};
 use crate::support::{MOST_QUBITS, Support};
 
 // How many Paulis each of two rolls has.
@@ -17,13 +18,6 @@ use crate::support::{MOST_QUBITS, Support};
 pub struct RollCounts {
     pub left: usize,
     pub right: usize,
-}
-
-// What checking two rolls for joining tells: their counts, or why they are refused.
-#[derive(Drop)]
-pub enum CountsFound {
-    Counts(RollCounts),
-    Refused(Refusal),
 }
 
 // How many qubit numbers the bodies of an accepted roll of n Paulis hold.
@@ -62,36 +56,18 @@ pub fn joined_qubits(left: &[u8], nl: usize, right: &[u8], nr: usize) -> usize
 }
 
 // Checks two rolls, then the limits of the joined list.
-pub fn joined_counts(left: &[u8], right: &[u8]) -> CountsFound
-    ensures { told_counts result ≡ counts_of left.now right.now }
+pub fn joined_counts(left: &[u8], right: &[u8]) -> Result<RollCounts, Refusal>
+    ensures { told_by counts_in result ≡ counts_of left.now right.now }
 {
-    let l = check_roll(left);
-    let nl = match l {
-        Checked::Refused(r) => {
-            return CountsFound::Refused(r);
-        }
-        Checked::Count(n) => n,
-    };
-    let r = check_roll(right);
-    let nr = match r {
-        Checked::Refused(r) => {
-            return CountsFound::Refused(r);
-        }
-        Checked::Count(n) => n,
-    };
+    let nl = check_roll(left)?;
+    let nr = check_roll(right)?;
     if nl + nr > MOST_PAULIS {
-        return CountsFound::Refused(Refusal {
-            reason: Reason::Paulis,
-            place: 0,
-        });
+        return Err(Reason::Paulis.into());
     }
     if joined_qubits(left, nl, right, nr) > MOST_QUBITS {
-        return CountsFound::Refused(Refusal {
-            reason: Reason::Qubits,
-            place: 0,
-        });
+        return Err(Reason::Qubits.into());
     }
-    CountsFound::Counts(RollCounts {
+    Ok(RollCounts {
         left: nl,
         right: nr,
     })

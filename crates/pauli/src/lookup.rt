@@ -2,11 +2,12 @@
 ghost use Rattle.std.specs.Prelude.{◌≡◌, ◌+◌, ◌*◌, ◌<◌, slice_index_or};
 ghost use Rattle.pauli.specs.Roll.{count_of};
 ghost use Rattle.pauli.specs.Told.{answer};
-ghost use Rattle.pauli.specs.Lookups.{looked_in, told_looked};
+ghost use Rattle.pauli.specs.Lookups.{looked_in};
 ghost use Rattle.pauli.specs.Condense.{list_of, nothing};
 ghost use Rattle.pauli.specs.JoinCalls.{looked_up as looked_up_spec, entry_of, stretch_in, stretch_of, body_in as body_in_spec, body_of, bytes_past, address_of};
+ghost use Rattle.pauli.specs.Refusals.{told_by};
 
-use crate::joined::{CountsFound, joined_counts};
+use crate::joined::joined_counts;
 use crate::refusal::{Reason, Refusal};
 use crate::roll::entry_at;
 
@@ -16,13 +17,6 @@ pub struct JoinedEntry {
     pub exponent: u8,
     pub xcount: usize,
     pub zcount: usize,
-}
-
-// What looking a generator of a joined list up tells.
-#[derive(Drop)]
-pub enum EntryFound {
-    Entry(JoinedEntry),
-    Refused(Refusal),
 }
 
 // The exponent value and the counts of Pauli i of an accepted roll of n.
@@ -39,28 +33,19 @@ fn looked_up(b: &[u8], n: usize, i: usize) -> JoinedEntry
 }
 
 // Generator n of the joined list: its exponent value and its counts.
-pub fn joined_entry(left: &[u8], right: &[u8], n: usize) -> EntryFound
-    ensures { told_looked result ≡ entry_of left.now right.now n }
+pub fn joined_entry(left: &[u8], right: &[u8], n: usize) -> Result<JoinedEntry, Refusal>
+    ensures { told_by looked_in result ≡ entry_of left.now right.now n }
 {
-    let found = joined_counts(left, right);
-    let counts = match found {
-        CountsFound::Refused(r) => {
-            return EntryFound::Refused(r);
-        }
-        CountsFound::Counts(counts) => counts,
-    };
+    let counts = joined_counts(left, right)?;
     let nl = counts.left;
     let nr = counts.right;
     if n < nl {
-        return EntryFound::Entry(looked_up(left, nl, n));
+        return Ok(looked_up(left, nl, n));
     }
     if n - nl < nr {
-        return EntryFound::Entry(looked_up(right, nr, n - nl));
+        return Ok(looked_up(right, nr, n - nl));
     }
-    EntryFound::Refused(Refusal {
-        reason: Reason::Number,
-        place: 0,
-    })
+    Err(Reason::Number.into())
 }
 
 // The body of Pauli i of an accepted roll of n.
@@ -82,10 +67,10 @@ pub fn joined_body<'a>(left: &'a [u8], right: &'a [u8], n: usize) -> &'a [u8]
 {
     let found = joined_counts(left, right);
     let counts = match found {
-        CountsFound::Refused(r) => {
+        Err(r) => {
             return &left[0..0];
         }
-        CountsFound::Counts(counts) => counts,
+        Ok(counts) => counts,
     };
     let nl = counts.left;
     let nr = counts.right;

@@ -1,18 +1,18 @@
 // The call for the product of two Paulis of rolls.
 ghost use Rattle.std.specs.Prelude.{◌≡◌, ◌≤◌, length};
-ghost use Rattle.pauli.specs.WriteAnswers.{told_wrote};
 ghost use Rattle.pauli.specs.Condense.{Readable, list_of};
 ghost use Rattle.pauli.specs.Product.{product_bytes};
 ghost use Rattle.pauli.specs.ProductContract.{ProductCall};
 ghost use Rattle.pauli.specs.Told.{answer};
 ghost use Rattle.pauli.specs.Writing.{told_bytes, left_in};
+ghost use Rattle.pauli.specs.Refusals.{told_of};
 
 use crate::condense::condense_from;
 use crate::joined::join_support;
 use crate::refusal::{Reason, Refusal};
-use crate::roll::{Checked, check_roll};
+use crate::roll::check_roll;
 use crate::signed::store;
-use crate::write::{Wrote, write_roll};
+use crate::write::write_roll;
 
 // Writes the product of Pauli i of the one roll and Pauli j of the other, over a support that has their qubits.
 fn write_product(
@@ -24,9 +24,9 @@ fn write_product(
     j: usize,
     support: &[u32],
     out: &mut [u8],
-) -> Wrote
+) -> Result<usize, Refusal>
     requires { Readable left.now nl i support.now × Readable right.now nr j support.now × (length support.now ≤ 128) }
-    ensures told { told_wrote result ≡ told_bytes (answer (product_bytes support.now (list_of left.now) i (list_of right.now) j)) out.old }
+    ensures told { told_of result ≡ told_bytes (answer (product_bytes support.now (list_of left.now) i (list_of right.now) j)) out.old }
     ensures left { out.new ≡ left_in (answer (product_bytes support.now (list_of left.now) i (list_of right.now) j)) out.old }
 {
     let p = condense_from(left, nl, i, support);
@@ -38,41 +38,26 @@ fn write_product(
 }
 
 // Multiplies factor i of the one roll by factor j of the other, and writes the product as a roll.
-pub fn product(left: &[u8], i: usize, right: &[u8], j: usize, out: &mut [u8]) -> Wrote
+pub fn product(
+    left: &[u8],
+    i: usize,
+    right: &[u8],
+    j: usize,
+    out: &mut [u8],
+) -> Result<usize, Refusal>
     ensures { ProductCall left.now i right.now j out.old result out.new }
 {
-    let l = check_roll(left);
-    let nl = match l {
-        Checked::Refused(r) => {
-            return Wrote::Refused(r);
-        }
-        Checked::Count(n) => n,
-    };
-    let r = check_roll(right);
-    let nr = match r {
-        Checked::Refused(r) => {
-            return Wrote::Refused(r);
-        }
-        Checked::Count(n) => n,
-    };
+    let nl = check_roll(left)?;
+    let nr = check_roll(right)?;
     let support = join_support(left, nl, right, nr);
     if support.is_past_limit() {
-        return Wrote::Refused(Refusal {
-            reason: Reason::Qubits,
-            place: 0,
-        });
+        return Err(Reason::Qubits.into());
     }
     if i >= nl {
-        return Wrote::Refused(Refusal {
-            reason: Reason::Number,
-            place: 0,
-        });
+        return Err(Reason::Number.into());
     }
     if j >= nr {
-        return Wrote::Refused(Refusal {
-            reason: Reason::Number,
-            place: 0,
-        });
+        return Err(Reason::Number.into());
     }
     write_product(left, nl, i, right, nr, j, support.qubits(), out)
 }

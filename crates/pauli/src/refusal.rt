@@ -2,6 +2,8 @@
 ghost use Rattle.std.specs.Prelude.{◌≡◌};
 ghost use Rattle.pauli.specs.Refusals.{number_of};
 
+use std::fmt;
+
 // The reasons, with document 01's number of each.
 #[derive(Clone, Copy)]
 pub enum Reason {
@@ -36,6 +38,21 @@ pub enum Reason {
 pub struct Refusal {
     pub reason: Reason,
     pub place: usize,
+}
+
+// A call is refused as a whole: its place is 0.
+impl From<Reason> for Refusal {
+    ghost from_gives = { λ reason refusal. refusal ≡ record { reason = reason; place = 0 } };
+
+    fn from(reason: Reason) -> Refusal {
+        Refusal { reason, place: 0 }
+    }
+}
+
+impl fmt::Display for Refusal {
+    fn fmt<W: fmt::Write>(&self, f: &mut fmt::Formatter<W>) -> fmt::Result {
+        write!(f, "refused {} at {}", number_of(self.reason), self.place)
+    }
 }
 
 // Document 01's number of a reason.

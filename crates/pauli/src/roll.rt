@@ -4,8 +4,8 @@ ghost use Rattle.pauli.specs.Bytes.{numbers_at};
 ghost use Rattle.pauli.specs.Roll.{most_paulis, entry_at, entries_at, paulis_at, check_entries as check_entries_spec, check_set as check_set_spec, check_sets as check_sets_spec, numbers, count_of};
 ghost use Rattle.pauli.specs.Support.{most_qubits, insert_all};
 ghost use Rattle.pauli.specs.Told.{refused};
-ghost use Rattle.pauli.specs.RollAnswers.{told_entry, told_numbers, told_passed, told_count};
-ghost use Rattle.pauli.specs.Refusals.{number_of};
+ghost use Rattle.pauli.specs.RollAnswers.{told_entry};
+ghost use Rattle.pauli.specs.Refusals.{number_of, told_of};
 
 use crate::bytes::{u16_at, u32_at};
 use crate::refusal::{Reason, Refusal};
@@ -25,27 +25,6 @@ pub struct Entry {
     pub start: usize,
     pub xcount: usize,
     pub zcount: usize,
-}
-
-// What checking the entries tells: how many qubit numbers the bodies hold, or why the roll is refused.
-#[derive(Drop)]
-pub(crate) enum EntriesChecked {
-    Numbers(usize),
-    Refused(Refusal),
-}
-
-// What checking the numbers of sets tells: that they pass, or why the roll is refused.
-#[derive(Drop)]
-pub(crate) enum SetsChecked {
-    Passed,
-    Refused(Refusal),
-}
-
-// What checking a roll tells: how many Paulis it has, or why it is refused.
-#[derive(Drop)]
-pub enum Checked {
-    Count(usize),
-    Refused(Refusal),
 }
 
 // The entry of Pauli i.
@@ -69,86 +48,74 @@ pub fn entry_at(b: &[u8], i: usize) -> Entry
 }
 
 // Checks the n entries in turn.
-fn check_entries(b: &[u8], n: usize) -> EntriesChecked
+fn check_entries(b: &[u8], n: usize) -> Result<usize, Refusal>
     requires { (2 + 10 * n ≤ length b.now) × (n ≤ most_paulis) }
-    ensures { told_numbers result ≡ check_entries_spec 0 0 (entries_at b.now 2 n) }
+    ensures { told_of result ≡ check_entries_spec 0 0 (entries_at b.now 2 n) }
 {
     let mut before: usize = 0;
     for i in 0..n {
         let e = entry_at(b, i);
         if e.given > 1 {
-            return EntriesChecked::Refused(Refusal {
+            return Err(Refusal {
                 reason: Reason::Entry,
                 place: i,
             });
         }
         if e.start != before {
-            return EntriesChecked::Refused(Refusal {
+            return Err(Refusal {
                 reason: Reason::Entry,
                 place: i,
             });
         }
         if e.given == 0 {
-            return EntriesChecked::Refused(Refusal {
+            return Err(Refusal {
                 reason: Reason::Exponent,
                 place: i,
             });
         }
         before = before + e.xcount + e.zcount;
     }
-    EntriesChecked::Numbers(before)
+    Ok(before)
 }
 
 // Checks a set of Pauli i in turn: the `total` numbers from byte `at` on.
-fn check_set(b: &[u8], i: usize, at: usize, total: usize) -> SetsChecked
+fn check_set(b: &[u8], i: usize, at: usize, total: usize) -> Result<(), Refusal>
     requires { at + 4 * total ≤ length b.now }
-    ensures { told_passed result ≡ check_set_spec i 0 (numbers_at b.now at total) }
+    ensures { told_of result ≡ check_set_spec i 0 (numbers_at b.now at total) }
 {
     let mut least: u32 = 0;
     for k in 0..total {
         let number = u32_at(b, at + 4 * k);
         if number > HIGHEST_QUBIT {
-            return SetsChecked::Refused(Refusal {
+            return Err(Refusal {
                 reason: Reason::Qubit,
                 place: i,
             });
         }
         if number < least {
-            return SetsChecked::Refused(Refusal {
+            return Err(Refusal {
                 reason: Reason::Rising,
                 place: i,
             });
         }
         least = number + 1;
     }
-    SetsChecked::Passed
+    Ok(())
 }
 
 // Checks the sets of the n Paulis in turn, whose bodies fill the rest of the roll.
-fn check_sets(b: &[u8], n: usize) -> SetsChecked
+fn check_sets(b: &[u8], n: usize) -> Result<(), Refusal>
     requires { 2 + 10 * n + 4 * length (numbers (paulis_at b.now (2 + 10 * n) (entries_at b.now 2 n))) ≡ length b.now }
-    ensures { told_passed result ≡ check_sets_spec 0 (paulis_at b.now (2 + 10 * n) (entries_at b.now 2 n)) }
+    ensures { told_of result ≡ check_sets_spec 0 (paulis_at b.now (2 + 10 * n) (entries_at b.now 2 n)) }
 {
     let mut at = 2 + 10 * n;
     for i in 0..n {
         let e = entry_at(b, i);
-        let x = check_set(b, i, at, e.xcount);
-        match x {
-            SetsChecked::Refused(r) => {
-                return SetsChecked::Refused(r);
-            }
-            SetsChecked::Passed => {}
-        }
-        let z = check_set(b, i, at + 4 * e.xcount, e.zcount);
-        match z {
-            SetsChecked::Refused(r) => {
-                return SetsChecked::Refused(r);
-            }
-            SetsChecked::Passed => {}
-        }
+        check_set(b, i, at, e.xcount)?;
+        check_set(b, i, at + 4 * e.xcount, e.zcount)?;
         at = at + 4 * (e.xcount + e.zcount);
     }
-    SetsChecked::Passed
+    Ok(())
 }
 
 // How many distinct numbers stand among the `total` from byte `at` on; where there are more than a list may have, one more
@@ -162,49 +129,27 @@ fn distinct(b: &[u8], at: usize, total: usize) -> usize
     support.len()
 }
 
-// Refuses a roll as a whole.
-fn refuse(reason: Reason) -> Checked
-    ensures { told_count result ≡ refused (number_of reason) 0 }
-{
-    Checked::Refused(Refusal {
-        reason: reason,
-        place: 0,
-    })
-}
-
 // Checks a roll; tells how many Paulis it has.
-pub fn check_roll(b: &[u8]) -> Checked
-    ensures { told_count result ≡ count_of b.now }
+pub fn check_roll(b: &[u8]) -> Result<usize, Refusal>
+    ensures { told_of result ≡ count_of b.now }
 {
     if b.len() < 2 {
-        return refuse(Reason::Length);
+        return Err(Reason::Length.into());
     }
     let n = u16_at(b, 0);
     if n > MOST_PAULIS {
-        return refuse(Reason::Paulis);
+        return Err(Reason::Paulis.into());
     }
     if b.len() < 2 + 10 * n {
-        return refuse(Reason::Length);
+        return Err(Reason::Length.into());
     }
-    let e = check_entries(b, n);
-    let total = match e {
-        EntriesChecked::Refused(r) => {
-            return Checked::Refused(r);
-        }
-        EntriesChecked::Numbers(total) => total,
-    };
+    let total = check_entries(b, n)?;
     if b.len() != 2 + 10 * n + 4 * total {
-        return refuse(Reason::Length);
+        return Err(Reason::Length.into());
     }
-    let s = check_sets(b, n);
-    match s {
-        SetsChecked::Refused(r) => {
-            return Checked::Refused(r);
-        }
-        SetsChecked::Passed => {}
-    }
+    check_sets(b, n)?;
     if distinct(b, 2 + 10 * n, total) > MOST_QUBITS {
-        return refuse(Reason::Qubits);
+        return Err(Reason::Qubits.into());
     }
-    Checked::Count(n)
+    Ok(n)
 }

@@ -56,9 +56,9 @@ impl Support {
 
     // How many qubits are known.
     pub fn len(&self) -> usize
-        ensures { (result ≡ length self.now) × (result ≤ 129) }
+        ensures { result ≡ length self.now }
     {
-        self.count
+        self.qubits().len()
     }
 
     // Whether more qubits are known than a list may have.

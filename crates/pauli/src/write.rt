@@ -3,23 +3,16 @@ ghost use Rattle.std.specs.Prelude.{◌≡◌, ℕ, ◌+◌, ◌*◌, ◌%◌, �
 ghost use Rattle.pauli.specs.Bytes.{le16, le32, le32s};
 ghost use Rattle.pauli.specs.Pauli.{select};
 ghost use Rattle.pauli.specs.Roll.{numbers};
-ghost use Rattle.pauli.specs.WriteAnswers.{told_wrote};
 ghost use Rattle.pauli.specs.Signed.{list_in};
 ghost use Rattle.pauli.specs.PlaceSet.{set_in};
 ghost use Rattle.pauli.specs.Told.{answer};
 ghost use Rattle.pauli.specs.Writing.{put_bytes, entry_bytes, numbers_of, table_of, sparse_over, OnPlaces, roll_over, told_bytes, left_in};
+ghost use Rattle.pauli.specs.Refusals.{told_of};
 
 use crate::places::Places;
 use crate::refusal::{Reason, Refusal};
 use crate::signed::load;
 use crate::support::{Place, qubit_at};
-
-// What a call that writes a roll tells: how many bytes it wrote, or why it is refused.
-#[derive(Drop)]
-pub enum Wrote {
-    Bytes(usize),
-    Refused(Refusal),
-}
 
 // Writes a number as two bytes.
 pub fn put_u16(out: &mut [u8], at: usize, v: usize)
@@ -121,21 +114,24 @@ fn put_bodies(out: &mut [u8], at: usize, w: &[u64], base: usize, n: usize, suppo
 }
 
 // Writes the roll of the n Paulis from word base on, which stand over the places of a support, if the output has room.
-pub fn write_roll(w: &[u64], base: usize, n: usize, support: &[u32], out: &mut [u8]) -> Wrote
+pub fn write_roll(
+    w: &[u64],
+    base: usize,
+    n: usize,
+    support: &[u32],
+    out: &mut [u8],
+) -> Result<usize, Refusal>
     requires { (base + 5 * n ≤ length w.now) × (n ≤ 256) × (length support.now ≤ 128) × OnPlaces (length support.now) (list_in w.now base n) }
-    ensures told { told_wrote result ≡ told_bytes (answer (roll_over support.now (list_in w.now base n))) out.old }
+    ensures told { told_of result ≡ told_bytes (answer (roll_over support.now (list_in w.now base n))) out.old }
     ensures left { out.new ≡ left_in (answer (roll_over support.now (list_in w.now base n))) out.old }
 {
     let table = 2 + 10 * n;
     let size = table + 4 * numbers_in(w, base, n);
     if out.len() < size {
-        return Wrote::Refused(Refusal {
-            reason: Reason::Output,
-            place: 0,
-        });
+        return Err(Reason::Output.into());
     }
     put_u16(out, 0, n);
     put_table(out, w, base, n);
     put_bodies(out, table, w, base, n, support);
-    Wrote::Bytes(size)
+    Ok(size)
 }

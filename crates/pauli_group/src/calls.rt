@@ -1,33 +1,32 @@
 // The calls on one list.
 ghost use Rattle.std.specs.Prelude.{◌≡◌, ◌<◌, ◌≤◌, length, ◌≢◌};
-ghost use Rattle.pauli.specs.WriteAnswers.{told_wrote};
 ghost use Rattle.pauli.specs.Condense.{list_of};
 ghost use Rattle.pauli.specs.Roll.{count_of};
 ghost use Rattle.pauli.specs.Told.{answer};
 ghost use Rattle.pauli.specs.Writing.{told_bytes, left_in};
 ghost use Rattle.pauli_group.specs.Promises.{promise_of};
-ghost use Rattle.pauli_group.specs.Answers.{told_decided};
 ghost use Rattle.pauli_group.specs.WorkArea.{cleared};
 ghost use Rattle.pauli_group.specs.Calls.{paulis, standard_bytes};
 ghost use Rattle.pauli_group.specs.Inner.Groups.{DescriptionCall};
 ghost use Rattle.pauli_group.specs.Inner.Lists.{step_told};
 ghost use Rattle.pauli_group.specs.CallContracts.{StandardCall, RankCall, PhasesCall, AbelianCall, StabilizerCall, SizeCall};
+ghost use Rattle.pauli.specs.Refusals.{told_by, told_of};
+ghost use Rattle.pauli_group.specs.Answers.{yes_number};
 
-use crate::answers::{Decided, Phases, PhasesFound, RankFound, SizeFound};
+use crate::answers::Phases;
 use crate::area::{STANDARD, WORK_WORDS};
 use crate::checks::check_list;
 use crate::group::{Description, describe_once, group_of};
 use crate::promise::Promise;
 use binar::row::clear_bits;
 use pauli::refusal::Refusal;
-use pauli::roll::Checked;
 use pauli::support::Support;
-use pauli::write::{Wrote, write_roll};
+use pauli::write::write_roll;
 
 // Writes the standard generators of an accepted roll of n Paulis, and clears the work area.
-fn write_standard(b: &[u8], n: usize, w: &mut [u64], out: &mut [u8]) -> Wrote
+fn write_standard(b: &[u8], n: usize, w: &mut [u64], out: &mut [u8]) -> Result<usize, Refusal>
     requires { (count_of b.now ≡ answer n) × (length w.old ≡ 4096) }
-    ensures told { told_wrote result ≡ told_bytes (answer (standard_bytes (paulis (list_of b.now)))) out.old }
+    ensures told { told_of result ≡ told_bytes (answer (standard_bytes (paulis (list_of b.now)))) out.old }
     ensures left { out.new ≡ left_in (answer (standard_bytes (paulis (list_of b.now)))) out.old }
     ensures area { w.new ≡ cleared w.old }
 {
@@ -39,50 +38,27 @@ fn write_standard(b: &[u8], n: usize, w: &mut [u64], out: &mut [u8]) -> Wrote
 }
 
 // Writes the standard generators of a list as a roll.
-pub fn standard_generators(b: &[u8], work: &mut [u64], out: &mut [u8]) -> Wrote
+pub fn standard_generators(b: &[u8], work: &mut [u64], out: &mut [u8]) -> Result<usize, Refusal>
     ensures { StandardCall b.now work.old out.old result work.new out.new }
 {
-    let checked = check_list(b, work.len());
-    let n = match checked {
-        Checked::Refused(r) => {
-            return Wrote::Refused(r);
-        }
-        Checked::Count(n) => n,
-    };
+    let n = check_list(b, work.len())?;
     write_standard(b, n, &mut work[..WORK_WORDS], out)
 }
 
-// What the calls tell of the group of a list, or why they are refused.
-#[derive(Drop)]
-pub enum DescriptionFound {
-    Description(Description),
-    Refused(Refusal),
-}
-
 // Describes the group of a list, and clears the work area.
-pub fn describe_list(b: &[u8], promise: Promise, work: &mut [u64]) -> DescriptionFound
+pub fn describe_list(b: &[u8], promise: Promise, work: &mut [u64]) -> Result<Description, Refusal>
     ensures { DescriptionCall (promise_of promise) b.now work.old result work.new }
 {
-    let checked = check_list(b, work.len());
-    let n = match checked {
-        Checked::Refused(r) => {
-            return DescriptionFound::Refused(r);
-        }
-        Checked::Count(n) => n,
-    };
-    let d = describe_once(b, n, promise, &mut work[..WORK_WORDS]);
-    DescriptionFound::Description(d)
+    let n = check_list(b, work.len())?;
+    Ok(describe_once(b, n, promise, &mut work[..WORK_WORDS]))
 }
 
 // The rank of a list: the dimension of the space of its rows.
-pub fn rank(b: &[u8], work: &mut [u64]) -> RankFound
+pub fn rank(b: &[u8], work: &mut [u64]) -> Result<usize, Refusal>
     ensures { RankCall b.now work.old result work.new }
 {
-    let found = describe_list(b, Promise::None, work);
-    match found {
-        DescriptionFound::Refused(r) => RankFound::Refused(r),
-        DescriptionFound::Description(d) => RankFound::Rank(d.rank),
-    }
+    let d = describe_list(b, Promise::None, work)?;
+    Ok(d.rank)
 }
 
 // The phases with this step.
@@ -100,56 +76,33 @@ fn phases_by(step: u64) -> Phases
 }
 
 // The phases of the group: the powers of i in it.
-pub fn phases(b: &[u8], promise: Promise, work: &mut [u64]) -> PhasesFound
+pub fn phases(b: &[u8], promise: Promise, work: &mut [u64]) -> Result<Phases, Refusal>
     ensures { PhasesCall (promise_of promise) b.now work.old result work.new }
 {
-    let found = describe_list(b, promise, work);
-    match found {
-        DescriptionFound::Refused(r) => PhasesFound::Refused(r),
-        DescriptionFound::Description(d) => PhasesFound::Phases(phases_by(d.step)),
-    }
-}
-
-// Yes for 1.
-fn decided(n: u64) -> Decided
-    requires { n ≤ 1 }
-    ensures { told_decided result ≡ answer n }
-{
-    if n == 1 {
-        return Decided::Yes;
-    }
-    Decided::No
+    let d = describe_list(b, promise, work)?;
+    Ok(phases_by(d.step))
 }
 
 // Whether no two generators anticommute, or what is promised.
-pub fn is_abelian(b: &[u8], promise: Promise, work: &mut [u64]) -> Decided
+pub fn is_abelian(b: &[u8], promise: Promise, work: &mut [u64]) -> Result<bool, Refusal>
     ensures { AbelianCall (promise_of promise) b.now work.old result work.new }
 {
-    let found = describe_list(b, promise, work);
-    match found {
-        DescriptionFound::Refused(r) => Decided::Refused(r),
-        DescriptionFound::Description(d) => decided(1 - d.clash),
-    }
+    let d = describe_list(b, promise, work)?;
+    Ok(d.clash == 0)
 }
 
 // Whether the group is abelian and does not have -I.
-pub fn is_stabilizer_group(b: &[u8], promise: Promise, work: &mut [u64]) -> Decided
+pub fn is_stabilizer_group(b: &[u8], promise: Promise, work: &mut [u64]) -> Result<bool, Refusal>
     ensures { StabilizerCall (promise_of promise) b.now work.old result work.new }
 {
-    let found = describe_list(b, promise, work);
-    match found {
-        DescriptionFound::Refused(r) => Decided::Refused(r),
-        DescriptionFound::Description(d) => decided(d.stabilizer),
-    }
+    let d = describe_list(b, promise, work)?;
+    Ok(d.stabilizer == 1)
 }
 
 // The binary logarithm of the number of elements.
-pub fn log2_size(b: &[u8], promise: Promise, work: &mut [u64]) -> SizeFound
+pub fn log2_size(b: &[u8], promise: Promise, work: &mut [u64]) -> Result<usize, Refusal>
     ensures { SizeCall (promise_of promise) b.now work.old result work.new }
 {
-    let found = describe_list(b, promise, work);
-    match found {
-        DescriptionFound::Refused(r) => SizeFound::Refused(r),
-        DescriptionFound::Description(d) => SizeFound::Log2(d.rank + (2 - (d.step / 2) as usize)),
-    }
+    let d = describe_list(b, promise, work)?;
+    Ok(d.rank + (2 - (d.step / 2) as usize))
 }

@@ -3,7 +3,6 @@ ghost use Rattle.std.specs.Prelude.{◌≡◌, ◌+◌, ◌*◌, ◌^◌, ◌<�
 ghost use Rattle.pauli.specs.Roll.{support, count_of, write};
 ghost use Rattle.pauli.specs.Support.{most_qubits, All};
 ghost use Rattle.pauli.specs.Told.{answer};
-ghost use Rattle.pauli.specs.WriteAnswers.{told_wrote};
 ghost use Rattle.pauli.specs.Condense.{list_of};
 ghost use Rattle.pauli.specs.Signed.{held, pauli_in, list_in};
 ghost use Rattle.pauli.specs.Writing.{OnPlaces, told_bytes, left_in};
@@ -19,8 +18,8 @@ ghost use Rattle.pauli_group.specs.Answers.{order_of};
 ghost use Rattle.pauli_group.specs.CallContracts.{CommonCall};
 ghost use Rattle.pauli_group.specs.Inner.Moved.{MovablePauli};
 ghost use Rattle.pauli_group.specs.Inner.Shared.{Solving, exponent_over, exponent_for, noted, shared_noted, exponent_found};
+ghost use Rattle.pauli.specs.Refusals.{told_of};
 
-use crate::answers::Order;
 use crate::area::{FURTHER, LIST, WORK_WORDS};
 use crate::basis::common_basis;
 use crate::checks::check_pair;
@@ -32,10 +31,12 @@ use crate::promise::Promise;
 use crate::scan::put_phase;
 use crate::standard::signs_of;
 use binar::row::clear_bits;
-use pauli::joined::{CountsFound, join_support};
+use pauli::joined::join_support;
+use pauli::refusal::Refusal;
 use pauli::signed::{Pauli, indexed_product, load, store};
 use pauli::support::Support;
-use pauli::write::{Wrote, write_roll};
+use pauli::write::write_roll;
+use std::cmp::Ordering;
 
 // The exponent of the product of those of the n generators that solve for the Pauli at word at, by their group over the places of
 // own; the Pauli is over the places of joint.
@@ -155,9 +156,9 @@ fn write_part(
     right_promise: Promise,
     w: &mut [u64],
     out: &mut [u8],
-) -> Wrote
+) -> Result<usize, Refusal>
     requires { Joinable left.now right.now nl nr × (length w.old ≡ 4096) }
-    ensures told { told_wrote result ≡ told_bytes (answer (list_bytes (common_part (promise_of left_promise) (promise_of right_promise) (paulis (list_of left.now)) (paulis (list_of right.now))))) out.old }
+    ensures told { told_of result ≡ told_bytes (answer (list_bytes (common_part (promise_of left_promise) (promise_of right_promise) (paulis (list_of left.now)) (paulis (list_of right.now))))) out.old }
     ensures left { out.new ≡ left_in (answer (list_bytes (common_part (promise_of left_promise) (promise_of right_promise) (paulis (list_of left.now)) (paulis (list_of right.now))))) out.old }
 {
     let support = join_support(left, nl, right, nr);
@@ -171,9 +172,9 @@ fn write_part(
 }
 
 // Writes the Paulis of an accepted roll of n.
-fn write_list(b: &[u8], n: usize, w: &mut [u64], out: &mut [u8]) -> Wrote
+fn write_list(b: &[u8], n: usize, w: &mut [u64], out: &mut [u8]) -> Result<usize, Refusal>
     requires { (count_of b.now ≡ answer n) × (length w.old ≡ 4096) }
-    ensures told { told_wrote result ≡ told_bytes (answer (list_bytes (paulis (list_of b.now)))) out.old }
+    ensures told { told_of result ≡ told_bytes (answer (list_bytes (paulis (list_of b.now)))) out.old }
     ensures left { out.new ≡ left_in (answer (list_bytes (paulis (list_of b.now)))) out.old }
 {
     let mut known = Support::new();
@@ -183,7 +184,7 @@ fn write_list(b: &[u8], n: usize, w: &mut [u64], out: &mut [u8]) -> Wrote
 
 // Writes the lesser list where the order says one, else the common part.
 fn write_lesser(
-    order: Order,
+    order: Option<Ordering>,
     left: &[u8],
     nl: usize,
     right: &[u8],
@@ -192,16 +193,17 @@ fn write_lesser(
     right_promise: Promise,
     w: &mut [u64],
     out: &mut [u8],
-) -> Wrote
+) -> Result<usize, Refusal>
     requires { Joinable left.now right.now nl nr × (length w.old ≡ 4096) }
-    ensures told { told_wrote result ≡ told_bytes (answer (list_bytes (lesser (order_of order) (paulis (list_of left.now)) (paulis (list_of right.now)) (common_part (promise_of left_promise) (promise_of right_promise) (paulis (list_of left.now)) (paulis (list_of right.now)))))) out.old }
+    ensures told { told_of result ≡ told_bytes (answer (list_bytes (lesser (order_of order) (paulis (list_of left.now)) (paulis (list_of right.now)) (common_part (promise_of left_promise) (promise_of right_promise) (paulis (list_of left.now)) (paulis (list_of right.now)))))) out.old }
     ensures left { out.new ≡ left_in (answer (list_bytes (lesser (order_of order) (paulis (list_of left.now)) (paulis (list_of right.now)) (common_part (promise_of left_promise) (promise_of right_promise) (paulis (list_of left.now)) (paulis (list_of right.now)))))) out.old }
 {
     match order {
-        Order::Equal => write_list(left, nl, w, out),
-        Order::Less => write_list(left, nl, w, out),
-        Order::Greater => write_list(right, nr, w, out),
-        Order::NoOrder => write_part(left, nl, right, nr, left_promise, right_promise, w, out),
+        Some(lesser) => match lesser {
+            Ordering::Equal | Ordering::Less => write_list(left, nl, w, out),
+            Ordering::Greater => write_list(right, nr, w, out),
+        },
+        None => write_part(left, nl, right, nr, left_promise, right_promise, w, out),
     }
 }
 
@@ -215,9 +217,9 @@ fn write_common(
     right_promise: Promise,
     w: &mut [u64],
     out: &mut [u8],
-) -> Wrote
+) -> Result<usize, Refusal>
     requires { Joinable left.now right.now nl nr × (length w.old ≡ 4096) }
-    ensures told { told_wrote result ≡ told_bytes (answer (common_bytes (promise_of left_promise) (promise_of right_promise) (record { left = paulis (list_of left.entry.now); right = paulis (list_of right.now) }))) out.old }
+    ensures told { told_of result ≡ told_bytes (answer (common_bytes (promise_of left_promise) (promise_of right_promise) (record { left = paulis (list_of left.entry.now); right = paulis (list_of right.now) }))) out.old }
     ensures left { out.new ≡ left_in (answer (common_bytes (promise_of left_promise) (promise_of right_promise) (record { left = paulis (list_of left.entry.now); right = paulis (list_of right.now) }))) out.old }
     ensures area { w.new ≡ cleared w.old }
 {
@@ -245,16 +247,10 @@ pub fn bitand(
     right_promise: Promise,
     work: &mut [u64],
     out: &mut [u8],
-) -> Wrote
+) -> Result<usize, Refusal>
     ensures { CommonCall (promise_of left_promise) (promise_of right_promise) left.now right.now work.old out.old result work.new out.new }
 {
-    let found = check_pair(left, right, work.len());
-    let counts = match found {
-        CountsFound::Refused(r) => {
-            return Wrote::Refused(r);
-        }
-        CountsFound::Counts(counts) => counts,
-    };
+    let counts = check_pair(left, right, work.len())?;
     write_common(
         left,
         counts.left,

@@ -11,7 +11,7 @@ ghost use Rattle.pauli_group.specs.Calls.{paulis};
 ghost use Rattle.pauli_group.specs.CallContracts.{MemberCall};
 ghost use Rattle.pauli_group.specs.Inner.Members.{factoring_told};
 
-use crate::answers::{Factors, MemberFound};
+use crate::answers::Factors;
 use crate::area::WORK_WORDS;
 use crate::checks::check_question;
 use crate::group::group_of;
@@ -19,7 +19,6 @@ use crate::member::{Factoring, factor, put_indexes};
 use crate::promise::Promise;
 use crate::standard::signs_of;
 use binar::row::clear_bits;
-use pauli::joined::CountsFound;
 use pauli::refusal::{Reason, Refusal};
 use pauli::support::Support;
 
@@ -54,16 +53,10 @@ pub fn indexed_factorization_of(
     promise: Promise,
     work: &mut [u64],
     out: &mut [u8],
-) -> MemberFound
+) -> Result<Option<Factors>, Refusal>
     ensures { MemberCall (promise_of promise) b.now elements.now number work.old out.old result work.new out.new }
 {
-    let checked = check_question(b, elements, number, work.len());
-    let counts = match checked {
-        CountsFound::Refused(r) => {
-            return MemberFound::Refused(r);
-        }
-        CountsFound::Counts(counts) => counts,
-    };
+    let counts = check_question(b, elements, number, work.len())?;
     let factoring = factor_once(
         b,
         counts.left,
@@ -75,21 +68,18 @@ pub fn indexed_factorization_of(
     );
     let found = match factoring {
         Factoring::NotFound => {
-            return MemberFound::NotMember;
+            return Ok(None);
         }
         Factoring::Found(found) => found,
     };
     let set = found.set;
     let count = set.weight();
     if out.len() < 2 * count {
-        return MemberFound::Refused(Refusal {
-            reason: Reason::Output,
-            place: 0,
-        });
+        return Err(Reason::Output.into());
     }
     put_indexes(out, set, counts.left);
-    MemberFound::Member(Factors {
-        count: count,
+    Ok(Some(Factors {
+        count,
         exponent: found.exponent,
-    })
+    }))
 }

@@ -1,6 +1,5 @@
 // The call for the listing of a group's elements.
 ghost use Rattle.std.specs.Prelude.{◌≡◌, ◌+◌, ◌-◌, ◌*◌, ◌/◌, ◌^◌, ◌<◌, ◌≤◌, min, length, nat_lt};
-ghost use Rattle.pauli.specs.WriteAnswers.{told_wrote};
 ghost use Rattle.pauli.specs.Condense.{list_of};
 ghost use Rattle.pauli.specs.Roll.{count_of};
 ghost use Rattle.pauli.specs.Signed.{list_in};
@@ -15,6 +14,7 @@ ghost use Rattle.pauli_group.specs.WorkArea.{cleared};
 ghost use Rattle.pauli_group.specs.Calls.{paulis, most_listed, page_bytes};
 ghost use Rattle.pauli_group.specs.CallContracts.{ElementsCall};
 ghost use Rattle.pauli_group.specs.Inner.Listed.{RowOf, elements_from};
+ghost use Rattle.pauli.specs.Refusals.{told_of};
 
 use crate::area::{FURTHER, STANDARD, WORK_WORDS};
 use crate::checks::check_list;
@@ -24,10 +24,9 @@ use crate::standard::signs_of;
 use binar::row::clear_bits;
 use pauli::places::Places;
 use pauli::refusal::{Reason, Refusal};
-use pauli::roll::Checked;
 use pauli::signed::{Pauli, indexed_product, store};
 use pauli::support::Support;
-use pauli::write::{Wrote, write_roll};
+use pauli::write::write_roll;
 
 // The highest rank whose group is listed.
 pub const MOST_LISTED: usize = 16;
@@ -195,9 +194,9 @@ fn write_page(
     count: u32,
     w: &mut [u64],
     out: &mut [u8],
-) -> Wrote
+) -> Result<usize, Refusal>
     requires { (count_of b.now ≡ answer n) × (length w.old ≡ 4096) }
-    ensures told { told_wrote result ≡ told_bytes (refuse_if (nat_lt most_listed (rank (paulis (list_of b.now)))) 10 0 (answer (page_bytes (promise_of promise) start count (paulis (list_of b.now))))) out.old }
+    ensures told { told_of result ≡ told_bytes (refuse_if (nat_lt most_listed (rank (paulis (list_of b.now)))) 10 0 (answer (page_bytes (promise_of promise) start count (paulis (list_of b.now))))) out.old }
     ensures left { out.new ≡ left_in (refuse_if (nat_lt most_listed (rank (paulis (list_of b.now)))) 10 0 (answer (page_bytes (promise_of promise) start count (paulis (list_of b.now))))) out.old }
     ensures area { w.new ≡ cleared w.old }
 {
@@ -205,10 +204,7 @@ fn write_page(
     let g = group_of(b, n, &mut known, w);
     if g.rank > MOST_LISTED {
         clear_bits(w, 0, WORK_WORDS);
-        return Wrote::Refused(Refusal {
-            reason: Reason::Listing,
-            place: 0,
-        });
+        return Err(Reason::Listing.into());
     }
     let signs = signs_of(w, g.total, promise);
     let length = page_elements(g.rank, signs.step, start, count);
@@ -226,15 +222,9 @@ pub fn elements(
     count: u32,
     work: &mut [u64],
     out: &mut [u8],
-) -> Wrote
+) -> Result<usize, Refusal>
     ensures { ElementsCall (promise_of promise) start count b.now work.old out.old result work.new out.new }
 {
-    let checked = check_list(b, work.len());
-    let n = match checked {
-        Checked::Refused(r) => {
-            return Wrote::Refused(r);
-        }
-        Checked::Count(n) => n,
-    };
+    let n = check_list(b, work.len())?;
     write_page(b, n, promise, start, count, &mut work[..WORK_WORDS], out)
 }

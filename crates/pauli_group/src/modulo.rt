@@ -3,7 +3,6 @@ ghost use Rattle.std.specs.Prelude.{◌≡◌, ◌+◌, ◌*◌, ◌^◌, ◌<�
 ghost use Rattle.pauli.specs.Roll.{support, count_of};
 ghost use Rattle.pauli.specs.Support.{most_qubits, All};
 ghost use Rattle.pauli.specs.Told.{answer};
-ghost use Rattle.pauli.specs.WriteAnswers.{told_wrote};
 ghost use Rattle.pauli.specs.Condense.{list_of};
 ghost use Rattle.pauli.specs.Pauli.{normal};
 ghost use Rattle.pauli.specs.Signed.{held, list_in};
@@ -18,6 +17,7 @@ ghost use Rattle.pauli_group.specs.Calls.{paulis, list_bytes};
 ghost use Rattle.pauli_group.specs.Promises.{promise_of};
 ghost use Rattle.pauli_group.specs.CallContracts.{ModuloCall};
 ghost use Rattle.pauli_group.specs.Inner.Remainder.{Other, remainder_by, Remainder};
+ghost use Rattle.pauli.specs.Refusals.{told_of};
 
 use crate::area::{FURTHER, STANDARD, WORK_WORDS};
 use crate::checks::check_pair;
@@ -28,10 +28,11 @@ use crate::promise::Promise;
 use crate::scan::take_mod;
 use crate::standard::signs_of;
 use binar::row::clear_bits;
-use pauli::joined::{CountsFound, join_support};
+use pauli::joined::join_support;
+use pauli::refusal::Refusal;
 use pauli::signed::{Pauli, load, store};
 use pauli::support::{Place, Support, place_of, qubit_at};
-use pauli::write::{Wrote, write_roll};
+use pauli::write::write_roll;
 
 // The Pauli times other, if it has a one at the place: in x, or else in z.
 fn multiplied(p: Pauli, is_x: bool, place: Place, other: Pauli) -> Pauli
@@ -112,9 +113,9 @@ pub(crate) fn write_modulo(
     promise: Promise,
     w: &mut [u64],
     out: &mut [u8],
-) -> Wrote
+) -> Result<usize, Refusal>
     requires { Joinable left.now right.now nl nr × (length w.old ≡ 4096) }
-    ensures told { told_wrote result ≡ told_bytes (answer (list_bytes (modulo (promise_of promise) (paulis (list_of left.now)) (paulis (list_of right.now))))) out.old }
+    ensures told { told_of result ≡ told_bytes (answer (list_bytes (modulo (promise_of promise) (paulis (list_of left.now)) (paulis (list_of right.now))))) out.old }
     ensures left { out.new ≡ left_in (answer (list_bytes (modulo (promise_of promise) (paulis (list_of left.now)) (paulis (list_of right.now))))) out.old }
     ensures area { w.new ≡ cleared w.old }
 {
@@ -134,16 +135,10 @@ pub fn modulo(
     right_promise: Promise,
     work: &mut [u64],
     out: &mut [u8],
-) -> Wrote
+) -> Result<usize, Refusal>
     ensures { ModuloCall (promise_of right_promise) left.now right.now work.old out.old result work.new out.new }
 {
-    let found = check_pair(left, right, work.len());
-    let counts = match found {
-        CountsFound::Refused(r) => {
-            return Wrote::Refused(r);
-        }
-        CountsFound::Counts(counts) => counts,
-    };
+    let counts = check_pair(left, right, work.len())?;
     write_modulo(
         left,
         counts.left,

@@ -13,13 +13,13 @@ ghost use Rattle.pauli_group.specs.Calls.{paulis};
 ghost use Rattle.pauli_group.specs.Inner.Compare.{ranks_in, order_by};
 ghost use Rattle.pauli_group.specs.CallContracts.{OrderCall};
 
-use crate::answers::{Order, OrderFound};
 use crate::area::WORK_WORDS;
 use crate::checks::check_pair;
 use crate::group::{Description, describe, describe_two};
 use crate::promise::Promise;
 use binar::row::clear_bits;
-use pauli::joined::CountsFound;
+use pauli::refusal::Refusal;
+use std::cmp::Ordering;
 
 // How many phases a group has, and its rank.
 #[derive(Clone, Copy)]
@@ -67,19 +67,19 @@ fn both_hold(a: bool, b: bool) -> bool
 }
 
 // The order of two groups, by their numbers and those of the two joined.
-fn order_by(a: GroupRanks, b: GroupRanks, both: GroupRanks) -> Order
+fn order_by(a: GroupRanks, b: GroupRanks, both: GroupRanks) -> Option<Ordering>
     ensures { order_of result ≡ order_by (ranks_in a) (ranks_in b) (ranks_in both) }
 {
     if both_hold(same_ranks(a, b), same_ranks(a, both)) {
-        return Order::Equal;
+        return Some(Ordering::Equal);
     }
     if both_hold(no_more(a, b), same_ranks(b, both)) {
-        return Order::Less;
+        return Some(Ordering::Less);
     }
     if same_ranks(a, both) {
-        return Order::Greater;
+        return Some(Ordering::Greater);
     }
-    Order::NoOrder
+    None
 }
 
 // How the groups of two accepted rolls of nl and nr Paulis, which can be joined, compare.
@@ -91,7 +91,7 @@ pub(crate) fn order_of(
     left_promise: Promise,
     right_promise: Promise,
     w: &mut [u64],
-) -> Order
+) -> Option<Ordering>
     requires { Joinable left.now right.now nl nr × (length w.old ≡ 4096) }
     ensures { order_of result ≡ partial_cmp (promise_of left_promise) (promise_of right_promise) (paulis (list_of left.now)) (paulis (list_of right.now)) }
 {
@@ -110,7 +110,7 @@ fn compare(
     left_promise: Promise,
     right_promise: Promise,
     w: &mut [u64],
-) -> Order
+) -> Option<Ordering>
     requires { Joinable left.now right.now nl nr × (length w.old ≡ 4096) }
     ensures told { order_of result ≡ partial_cmp (promise_of left_promise) (promise_of right_promise) (paulis (list_of left.now)) (paulis (list_of right.now)) }
     ensures area { w.new ≡ cleared w.old }
@@ -127,16 +127,10 @@ pub fn partial_cmp(
     left_promise: Promise,
     right_promise: Promise,
     work: &mut [u64],
-) -> OrderFound
+) -> Result<Option<Ordering>, Refusal>
     ensures { OrderCall (promise_of left_promise) (promise_of right_promise) left.now right.now work.old result work.new }
 {
-    let found = check_pair(left, right, work.len());
-    let counts = match found {
-        CountsFound::Refused(r) => {
-            return OrderFound::Refused(r);
-        }
-        CountsFound::Counts(counts) => counts,
-    };
+    let counts = check_pair(left, right, work.len())?;
     let order = compare(
         left,
         counts.left,
@@ -146,5 +140,5 @@ pub fn partial_cmp(
         right_promise,
         &mut work[..WORK_WORDS],
     );
-    OrderFound::Order(order)
+    Ok(order)
 }

@@ -3,7 +3,6 @@ ghost use Rattle.std.specs.Prelude.{◌≡◌, ◌+◌, ◌≤◌, ◌++◌, len
 ghost use Rattle.pauli.specs.Roll.{support, count_of};
 ghost use Rattle.pauli.specs.Support.{most_qubits};
 ghost use Rattle.pauli.specs.Told.{answer};
-ghost use Rattle.pauli.specs.WriteAnswers.{told_wrote};
 ghost use Rattle.pauli.specs.Condense.{list_of};
 ghost use Rattle.pauli.specs.Writing.{told_bytes, left_in};
 ghost use Rattle.pauli_theory.specs.Modulo.{try_quotient as try_quotient_spec};
@@ -14,28 +13,22 @@ ghost use Rattle.pauli_group.specs.Promises.{promise_of};
 ghost use Rattle.pauli_group.specs.Answers.{order_of};
 ghost use Rattle.pauli_group.specs.Inner.Compare.{is_below as is_below_spec};
 ghost use Rattle.pauli_group.specs.CallContracts.{QuotientCall};
+ghost use Rattle.pauli.specs.Refusals.{told_of};
 
-use crate::answers::Order;
 use crate::area::WORK_WORDS;
 use crate::checks::check_pair;
 use crate::modulo::write_modulo;
 use crate::order::order_of;
 use crate::promise::Promise;
 use binar::row::clear_bits;
-use pauli::joined::CountsFound;
 use pauli::refusal::{Reason, Refusal};
-use pauli::write::Wrote;
+use std::cmp::Ordering;
 
 // Whether the left group is inside the right one.
-fn is_below(order: Order) -> bool
+fn is_below(order: Option<Ordering>) -> bool
     ensures { result ≡ is_below_spec (order_of order) }
 {
-    match order {
-        Order::Equal => true,
-        Order::Less => true,
-        Order::Greater => false,
-        Order::NoOrder => false,
-    }
+    matches!(order, Some(Ordering::Equal | Ordering::Less))
 }
 
 // Writes the quotient of two accepted rolls of nl and nr Paulis, which can be joined, if the right group is inside the left one, and
@@ -49,19 +42,16 @@ fn write_quotient(
     right_promise: Promise,
     w: &mut [u64],
     out: &mut [u8],
-) -> Wrote
+) -> Result<usize, Refusal>
     requires { Joinable left.now right.now nl nr × (length w.old ≡ 4096) }
-    ensures told { told_wrote result ≡ told_bytes (quotient_bytes (try_quotient_spec (promise_of left_promise) (promise_of right_promise) (paulis (list_of left.now)) (paulis (list_of right.now)))) out.old }
+    ensures told { told_of result ≡ told_bytes (quotient_bytes (try_quotient_spec (promise_of left_promise) (promise_of right_promise) (paulis (list_of left.now)) (paulis (list_of right.now)))) out.old }
     ensures left { out.new ≡ left_in (quotient_bytes (try_quotient_spec (promise_of left_promise) (promise_of right_promise) (paulis (list_of left.now)) (paulis (list_of right.now)))) out.old }
     ensures area { w.new ≡ cleared w.old }
 {
     let order = order_of(right, nr, left, nl, right_promise, left_promise, w);
     if !is_below(order) {
         clear_bits(w, 0, WORK_WORDS);
-        return Wrote::Refused(Refusal {
-            reason: Reason::Subgroup,
-            place: 0,
-        });
+        return Err(Reason::Subgroup.into());
     }
     write_modulo(left, nl, right, nr, right_promise, w, out)
 }
@@ -74,16 +64,10 @@ pub fn try_quotient(
     right_promise: Promise,
     work: &mut [u64],
     out: &mut [u8],
-) -> Wrote
+) -> Result<usize, Refusal>
     ensures { QuotientCall (promise_of left_promise) (promise_of right_promise) left.now right.now work.old out.old result work.new out.new }
 {
-    let found = check_pair(left, right, work.len());
-    let counts = match found {
-        CountsFound::Refused(r) => {
-            return Wrote::Refused(r);
-        }
-        CountsFound::Counts(counts) => counts,
-    };
+    let counts = check_pair(left, right, work.len())?;
     write_quotient(
         left,
         counts.left,

@@ -1,6 +1,5 @@
 // The call for symplectic pairing.
 ghost use Rattle.std.specs.Prelude.{◌≡◌, ◌+◌, ◌-◌, ◌*◌, ◌<◌, ◌≤◌, map, length};
-ghost use Rattle.pauli.specs.WriteAnswers.{told_wrote};
 ghost use Rattle.pauli.specs.Condense.{list_of};
 ghost use Rattle.pauli.specs.Pauli.{normal};
 ghost use Rattle.pauli.specs.Roll.{count_of};
@@ -13,16 +12,17 @@ ghost use Rattle.pauli_group.specs.WorkArea.{cleared};
 ghost use Rattle.pauli_group.specs.Calls.{paulis, symplectic_bytes};
 ghost use Rattle.pauli_group.specs.CallContracts.{SymplecticCall};
 ghost use Rattle.pauli_group.specs.Inner.Pairs.{PairedTo};
+ghost use Rattle.pauli.specs.Refusals.{told_of};
 
 use crate::area::{FURTHER, LIST, STANDARD, WORK_WORDS};
 use crate::checks::check_list;
 use crate::list::read_list;
 use binar::row::clear_bits;
 use pauli::joined::numbers_of;
-use pauli::roll::Checked;
+use pauli::refusal::Refusal;
 use pauli::signed::{Pauli, load, store};
 use pauli::support::Support;
-use pauli::write::{Wrote, write_roll};
+use pauli::write::write_roll;
 
 // How many Paulis are left in the list, how many conjugate elements stand at the standard generators' place, and how many
 // commuting ones at the further list's.
@@ -129,9 +129,9 @@ fn pair_up(w: &mut [u64], n: usize)
 }
 
 // Writes the paired list of an accepted roll of n Paulis, and clears the work area.
-fn write_symplectic(b: &[u8], n: usize, w: &mut [u64], out: &mut [u8]) -> Wrote
+fn write_symplectic(b: &[u8], n: usize, w: &mut [u64], out: &mut [u8]) -> Result<usize, Refusal>
     requires { (count_of b.now ≡ answer n) × (length w.old ≡ 4096) }
-    ensures told { told_wrote result ≡ told_bytes (answer (symplectic_bytes (paulis (list_of b.now)))) out.old }
+    ensures told { told_of result ≡ told_bytes (answer (symplectic_bytes (paulis (list_of b.now)))) out.old }
     ensures left { out.new ≡ left_in (answer (symplectic_bytes (paulis (list_of b.now)))) out.old }
     ensures area { w.new ≡ cleared w.old }
 {
@@ -146,15 +146,9 @@ fn write_symplectic(b: &[u8], n: usize, w: &mut [u64], out: &mut [u8]) -> Wrote
 }
 
 // Writes a list that generates the same group, in pairs that anticommute; all else commutes.
-pub fn symplectic_form_of(b: &[u8], work: &mut [u64], out: &mut [u8]) -> Wrote
+pub fn symplectic_form_of(b: &[u8], work: &mut [u64], out: &mut [u8]) -> Result<usize, Refusal>
     ensures { SymplecticCall b.now work.old out.old result work.new out.new }
 {
-    let checked = check_list(b, work.len());
-    let n = match checked {
-        Checked::Refused(r) => {
-            return Wrote::Refused(r);
-        }
-        Checked::Count(n) => n,
-    };
+    let n = check_list(b, work.len())?;
     write_symplectic(b, n, &mut work[..WORK_WORDS], out)
 }

@@ -8,7 +8,6 @@
 
 ghost use Rattle.std.specs.Prelude.{◌≤◌, IfOk, length};
 
-use crate::lines::{text, word_of};
 use crate::runs::{promise_of, run_group, run_rolls};
 use pauli::bytes::u32_at;
 use std::io;
@@ -27,23 +26,9 @@ const MOST_WORDS: usize = 40960;
 
 const MOST_REQUESTS: u64 = 4294967295;
 
-fn fill(out: &mut [u8], f: u8) {
-    out.fill(f);
-}
-
-fn fill_words(work: &mut [u64], value: u64) {
-    work.fill(value);
-}
-
 // Whether the promises and the fill are in range.
 fn is_allowed(request: &[u8; 28]) -> bool {
-    if request[1] > 2 {
-        return false;
-    }
-    if request[2] > 2 {
-        return false;
-    }
-    request[3] > 0
+    request[1] <= 2 && request[2] <= 2 && request[3] > 0
 }
 
 // Reads until the slice is full or the input ends, and tells how many bytes were read.
@@ -80,8 +65,8 @@ fn run<'a, W: Write>(
     work: &mut [u64],
 ) -> io::Result<bool> {
     let f = request[3];
-    fill(out, f);
-    fill_words(work, word_of(f));
+    out.fill(f);
+    work.fill(u64::from_le_bytes([f; 8]));
     if run_rolls(to, request[0], a, b, first, second, out, f)? {
         return Ok(true);
     }
@@ -120,22 +105,10 @@ fn answer<R: Read, W: Write>(
     let words = u32_at(request, 16) as usize;
     let n = u32_at(request, 20) as usize;
     let m = u32_at(request, 24) as usize;
-    if words > work.len() {
+    if words > work.len() || lent > out.len() || n > first.len() || m > second.len() {
         return Ok(false);
     }
-    if lent > out.len() {
-        return Ok(false);
-    }
-    if n > first.len() {
-        return Ok(false);
-    }
-    if m > second.len() {
-        return Ok(false);
-    }
-    if !read_string(from, first, n)? {
-        return Ok(false);
-    }
-    if !read_string(from, second, m)? {
+    if !read_string(from, first, n)? || !read_string(from, second, m)? {
         return Ok(false);
     }
     run(
@@ -174,7 +147,7 @@ fn main(rt: HostRuntime) -> io::Result<()> {
                 &mut work,
             )?
         {
-            text(&mut to, b"bad request\n")?;
+            writeln!(to, "bad request")?;
             break;
         }
     }

@@ -1,16 +1,14 @@
 // The calls, by the number of the operation.
 use crate::MOST_BYTES;
-use crate::lines::{
-    end_line, end_work_line, number, print_bytes, print_refusal, print_wrote, text,
-};
+use crate::lines::{end_line, end_work_line, print_bytes, print_wrote};
 use crate::tells::{
-    print_compared, print_decided, print_member, print_phases, print_rank, print_size,
+    print_compared, print_decided, print_entry, print_member, print_number, print_phases,
 };
 use closing_report::report::closing_report;
 use pauli::join::join;
-use pauli::lookup::{EntryFound, joined_body, joined_entry};
+use pauli::lookup::{joined_body, joined_entry};
 use pauli::product::product;
-use pauli::roll::{Checked, check_roll};
+use pauli::roll::check_roll;
 use pauli_group::calls::{
     is_abelian, is_stabilizer_group, log2_size, phases, rank, standard_generators,
 };
@@ -25,17 +23,6 @@ use pauli_group::symplectic::symplectic_form_of;
 use std::io;
 use std::io::Write;
 
-fn run_check<W: Write>(to: &mut W, first: &[u8], out: &[u8], f: u8) -> io::Result<()> {
-    match check_roll(first) {
-        Checked::Refused(r) => print_refusal(to, r)?,
-        Checked::Count(n) => {
-            text(to, b"count ")?;
-            number(to, n as u64)?;
-        }
-    }
-    end_line(to, out, 0, f)
-}
-
 fn run_body<'a, W: Write>(
     to: &mut W,
     first: &'a [u8],
@@ -44,41 +31,17 @@ fn run_body<'a, W: Write>(
     out: &[u8],
     f: u8,
 ) -> io::Result<()> {
-    text(to, b"body ")?;
+    write!(to, "body ")?;
     print_bytes(to, joined_body(first, second, n))?;
     end_line(to, out, 0, f)
 }
 
-fn run_entry<W: Write>(
-    to: &mut W,
-    first: &[u8],
-    second: &[u8],
-    n: usize,
-    out: &[u8],
-    f: u8,
-) -> io::Result<()> {
-    match joined_entry(first, second, n) {
-        EntryFound::Refused(r) => print_refusal(to, r)?,
-        EntryFound::Entry(e) => {
-            text(to, b"entry ")?;
-            number(to, e.exponent as u64)?;
-            text(to, b" ")?;
-            number(to, e.xcount as u64)?;
-            text(to, b" ")?;
-            number(to, e.zcount as u64)?;
-        }
-    }
-    end_line(to, out, 0, f)
-}
-
 pub(crate) fn promise_of(n: u8) -> Promise {
-    if n == 1 {
-        return Promise::Abelian;
+    match n {
+        1 => Promise::Abelian,
+        2 => Promise::NotAbelian,
+        _ => Promise::None,
     }
-    if n == 2 {
-        return Promise::NotAbelian;
-    }
-    Promise::None
 }
 
 // A call on one list that writes nothing.
@@ -90,11 +53,11 @@ fn run_list<W: Write>(
     work: &mut [u64],
 ) -> io::Result<()> {
     match op {
-        2 => print_rank(to, rank(first, work)),
+        2 => print_number(to, "rank", rank(first, work)),
         3 => print_phases(to, phases(first, promise, work)),
-        4 => print_decided(to, b"abelian", is_abelian(first, promise, work)),
-        5 => print_decided(to, b"stabilizer", is_stabilizer_group(first, promise, work)),
-        _ => print_size(to, log2_size(first, promise, work)),
+        4 => print_decided(to, "abelian", is_abelian(first, promise, work)),
+        5 => print_decided(to, "stabilizer", is_stabilizer_group(first, promise, work)),
+        _ => print_number(to, "log2", log2_size(first, promise, work)),
     }
 }
 
@@ -214,7 +177,10 @@ pub(crate) fn run_rolls<'a, W: Write>(
     f: u8,
 ) -> io::Result<bool> {
     match op {
-        0 => run_check(to, first, out, f)?,
+        0 => {
+            print_number(to, "count", check_roll(first))?;
+            end_line(to, out, 0, f)?;
+        }
         10 => {
             let n = print_wrote(to, product(first, a, second, b, out))?;
             end_line(to, out, n, f)?;
@@ -224,7 +190,10 @@ pub(crate) fn run_rolls<'a, W: Write>(
             end_line(to, out, n, f)?;
         }
         12 => run_body(to, first, second, a, out, f)?,
-        13 => run_entry(to, first, second, a, out, f)?,
+        13 => {
+            print_entry(to, joined_entry(first, second, a))?;
+            end_line(to, out, 0, f)?;
+        }
         _ => return Ok(false),
     }
     Ok(true)

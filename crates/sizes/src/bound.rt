@@ -5,9 +5,9 @@ ghost use Rattle.pauli.specs.Roll.{support, count_of};
 ghost use Rattle.pauli.specs.Told.{answer};
 ghost use Rattle.sizes.specs.SizeContracts.{StandardBoundCall};
 
-use crate::answers::BoundFound;
 use pauli::joined::numbers_of;
-use pauli::roll::{Checked, check_roll};
+use pauli::refusal::Refusal;
+use pauli::roll::check_roll;
 use pauli::support::Support;
 
 // How many distinct qubits an accepted roll of n Paulis has.
@@ -32,15 +32,9 @@ fn full_roll(n: usize, s: usize) -> usize
 }
 
 // The length that the standard roll of a list cannot exceed.
-pub fn standard_bound(b: &[u8]) -> BoundFound
+pub fn standard_bound(b: &[u8]) -> Result<usize, Refusal>
     ensures { StandardBoundCall b.now result }
 {
-    let checked = check_roll(b);
-    let n = match checked {
-        Checked::Refused(r) => {
-            return BoundFound::Refused(r);
-        }
-        Checked::Count(n) => n,
-    };
-    BoundFound::Bytes(full_roll(n, qubits_of(b, n)))
+    let n = check_roll(b)?;
+    Ok(full_roll(n, qubits_of(b, n)))
 }

@@ -4,36 +4,35 @@ ghost use Rattle.pauli.specs.Told.{answer, refuse_if};
 ghost use Rattle.pauli_theory.specs.Listing.{page_size as page_size_spec};
 ghost use Rattle.pauli_group.specs.Calls.{most_listed};
 ghost use Rattle.pauli_group.specs.Promises.{promise_of};
-ghost use Rattle.sizes.specs.Answers.{told_page};
 ghost use Rattle.sizes.specs.SizeContracts.{PageSizeCall};
+ghost use Rattle.pauli.specs.Refusals.{told_of};
 
-use crate::answers::PageFound;
 use pauli::refusal::{Reason, Refusal};
-use pauli_group::calls::{DescriptionFound, describe_list};
+use pauli_group::calls::describe_list;
 use pauli_group::listing::{MOST_LISTED, page_elements};
 use pauli_group::promise::Promise;
 
 // How many elements a page holds of a group of this rank, whose phases have this step.
-fn page_of(rank: usize, step: u64, start: u32, count: u32) -> PageFound
+fn page_of(rank: usize, step: u64, start: u32, count: u32) -> Result<usize, Refusal>
     requires { (0 < step) × (step ≤ 4) }
-    ensures { told_page result ≡ refuse_if (nat_lt most_listed rank) 10 0 (answer (min (page_size_spec count) (2 ^ rank * (4 / step) - start))) }
+    ensures { told_of result ≡ refuse_if (nat_lt most_listed rank) 10 0 (answer (min (page_size_spec count) (2 ^ rank * (4 / step) - start))) }
 {
     if rank > MOST_LISTED {
-        return PageFound::Refused(Refusal {
-            reason: Reason::Listing,
-            place: 0,
-        });
+        return Err(Reason::Listing.into());
     }
-    PageFound::Elements(page_elements(rank, step, start, count))
+    Ok(page_elements(rank, step, start, count))
 }
 
 // How many elements a page of the listing of a list's group holds.
-pub fn page_size(b: &[u8], promise: Promise, start: u32, count: u32, work: &mut [u64]) -> PageFound
+pub fn page_size(
+    b: &[u8],
+    promise: Promise,
+    start: u32,
+    count: u32,
+    work: &mut [u64],
+) -> Result<usize, Refusal>
     ensures { PageSizeCall (promise_of promise) start count b.now work.old result work.new }
 {
-    let found = describe_list(b, promise, work);
-    match found {
-        DescriptionFound::Refused(r) => PageFound::Refused(r),
-        DescriptionFound::Description(d) => page_of(d.rank, d.step, start, count),
-    }
+    let d = describe_list(b, promise, work)?;
+    page_of(d.rank, d.step, start, count)
 }

@@ -9,8 +9,7 @@ use lib.Seq.{take_all}
 use Rattle.pauli.specs.Bytes.{u32_at}
 use Rattle.pauli.specs.Told.{answer, refused}
 use Rattle.pauli.proofs.roll.Told.{test_pass, test_refuses}
-use Rattle.closing_report.specs.declared.input.Split.{Split}
-use Rattle.closing_report.specs.declared.input.Split.TheVariants.{At}
+use Rattle.std.proofs.Common.{Option, Some}
 use Rattle.closing_report.specs.InputRolls.{most_input, rolls_in}
 use Rattle.closing_report.specs.Split.{rolls_told, SplitWithin}
 
@@ -45,7 +44,7 @@ pub record Parted (input : List ℕ) (k : ℕ) : Type 0 where
   pub low : 4 ≤ k
   pub high : k ≤ length input
 
-pub parted : (input : List ℕ) (r : Split) → rolls_told input r ≡ rolls_in input → SplitWithin (length input) r → (k : ℕ) → r ≡ At k → Parted input k
+pub parted : (input : List ℕ) (r : Option ℕ) → rolls_told input r ≡ rolls_in input → SplitWithin (length input) r → (k : ℕ) → r ≡ Some k → Parted input k
 parted input r h w k e =
     let rest : take (length input - k) (drop k input) ≡ drop k input = take_all (length input - k) (drop k input) (rw length-drop (omega arith)) in
     let within : (4 ≤ k) × (k ≤ length input) = rw e at w in

@@ -6,10 +6,7 @@ use Prim.Native.Nat.{ℕ, ◌≤◌, ◌<◌}
 use borrow.Author.Tests.{lt-ltb, le-ltb}
 use lib.ListN.{length, take, drop}
 use Rattle.pauli.specs.declared.refusal.Refusal.{Refusal}
-use Rattle.pauli.specs.declared.write.Wrote.{Wrote}
-use Rattle.pauli.specs.declared.write.Wrote.TheVariants.{Refused}
-use Rattle.pauli.specs.Refusals.{told_refusal}
-use Rattle.pauli.specs.WriteAnswers.{told_wrote}
+use Rattle.pauli.specs.Refusals.{told_refusal, told_of}
 use Rattle.pauli.specs.Condense.{list_of}
 use Rattle.pauli.specs.Pauli.{Pauli}
 use Rattle.pauli.specs.Roll.{count_of}
@@ -27,6 +24,7 @@ use Rattle.closing_report.specs.Lines.{first_line, member_lines, refused_line}
 use Rattle.closing_report.specs.InputRolls.{Rolls, rolls_in}
 use Rattle.closing_report.specs.Listing.{report, or_refused_in, text_of, listing}
 use Rattle.closing_report.proofs.text.PutLaws.{text_told, text_left}
+use Rattle.std.proofs.Common.{Err, Result}
 
 module _ (input : List ℕ) where
   pub input_refused : (n k : ℕ) → rolls_in input ≡ refused n k → text_of input ≡ refused_line n k 1
@@ -72,12 +70,12 @@ report_text gs es rank' step clash os p q r s = rw (p, q, r, s)
 
 module _ (input work out : List ℕ) where
   -- the work area is too short
-  pub call_short : (q : Refusal) → listing input (length work) ≡ told_refusal q → ReportCall input work out (Refused q) work out
+  pub call_short : (q : Refusal) → listing input (length work) ≡ told_refusal q → ReportCall input work out (Err q) work out
   unfolding told_bytes left_in area_after
   call_short q h = record { told = rw h; left = rw h; area = rw h }
 
   -- the text is written, or there is no room for it, and the first words of the area are cleared
-  pub call_done : work_words ≤ length work → {r : Wrote} {x u : List ℕ} → told_wrote r ≡ told_bytes (answer (text_of input)) out
+  pub call_done : work_words ≤ length work → {r : Result ℕ Refusal} {x u : List ℕ} → told_of r ≡ told_bytes (answer (text_of input)) out
       → u ≡ left_in (answer (text_of input)) out → x ≡ cleared (take work_words work)
       → ReportCall input work out r (x ++ drop work_words work) u
   unfolding area_after
@@ -86,12 +84,12 @@ module _ (input work out : List ℕ) where
       record { told = rw h t; left = rw h w; area = rw h (ap (◌++ drop work_words work) c ∙ cleared_part work room) }
 
 -- with a work area that is large enough, a text that the output has room for is told and put, and the area is cleared
-module _ {input work out : List ℕ} {r : Wrote} {work' out' : List ℕ} (c : ReportCall input work out r work' out')
+module _ {input work out : List ℕ} {r : Result ℕ Refusal} {work' out' : List ℕ} (c : ReportCall input work out r work' out')
     (words : work_words ≤ length work) (text : List ℕ) (is : text_of input ≡ text) (room : length text ≤ length out) where
   listed : listing input (length work) ≡ answer text
   listed = work_enough input (length work) words ∙ ap answer is
 
-  pub call_told : told_wrote r ≡ answer (length text)
+  pub call_told : told_of r ≡ answer (length text)
   call_told = c.told ∙ ap (λ (t : Told (List ℕ)). told_bytes t out) listed ∙ text_told text out room
 
   pub call_put : out' ≡ put_bytes out 0 text

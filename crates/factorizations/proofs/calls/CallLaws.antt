@@ -1,20 +1,15 @@
 -- Laws for the call: what the checks tell, and the contract from what is then written.
-use Rattle.std.proofs.Common.{◌≡◌, refl, sym, ap, ◌∙◌, subst, List, ◌++◌, map, ℕ, ◌≤◌, ◌<◌, ltb, length, take, drop}
+use Rattle.std.proofs.Common.{◌≡◌, refl, sym, ap, ◌∙◌, subst, List, ◌++◌, map, ℕ, ◌≤◌, ◌<◌, ltb, length, take, drop, Err, Ok, Result}
 use mathlib.Core.Option.{Option}
 use borrow.Author.Tests.{lt-ltb, le-ltb, ltb-false}
 use lib.ListN.{length-map}
-use Rattle.pauli.specs.declared.joined.CountsFound.{CountsFound}
-use Rattle.pauli.specs.declared.joined.CountsFound.TheVariants.{Counts as CountsTold, Refused as CountsRefused}
 use Rattle.pauli.specs.declared.joined.RollCounts.{RollCounts}
 use Rattle.pauli.specs.declared.refusal.Refusal.{Refusal}
-use Rattle.pauli.specs.declared.write.Wrote.{Wrote}
-use Rattle.pauli.specs.declared.write.Wrote.TheVariants.{Bytes, Refused as WroteRefused}
 use Rattle.pauli.specs.Condense.{list_of}
-use Rattle.pauli.specs.JoinAnswers.{counts_in, told_counts}
+use Rattle.pauli.specs.JoinAnswers.{counts_in}
 use Rattle.pauli.specs.JoinCalls.{read_both, Counts}
-use Rattle.pauli.specs.Refusals.{told_refusal}
+use Rattle.pauli.specs.Refusals.{told_refusal, told_by, told_of}
 use Rattle.pauli.specs.Told.{Told, answer, refused, and_then, map_told}
-use Rattle.pauli.specs.WriteAnswers.{told_wrote}
 use Rattle.pauli.specs.Writing.{told_bytes, left_in}
 use Rattle.pauli.proofs.joined.JoinLaws.{accepted}
 use Rattle.pauli.proofs.roll.Told.{refused_none, test_pass, test_refuses, test_passed, map_test, map_refused, map_answer}
@@ -24,7 +19,6 @@ use Rattle.pauli_group.specs.Calls.{paulis, roll_counts}
 use Rattle.pauli_group.specs.WorkArea.{work_words, enough, cleared, area_after}
 use Rattle.pauli_group.proofs.checks.Rolls.{Accepted, both}
 use Rattle.pauli_group.proofs.group.GroupedLaws.{cleared_part, list_length}
-use Rattle.factorizations.specs.declared.answers.ResultsFound.TheVariants.{Results as ResultsTold, Refused}
 use Rattle.factorizations.specs.Calls.{questions, questions_counts, results_of, factorizations_call, Totals, totals, told_results}
 use Rattle.factorizations.specs.Contract.{FactorizationsCall}
 use Rattle.factorizations.specs.Records.{results_bytes}
@@ -84,12 +78,12 @@ module _ (b e : List ℕ) (words : ℕ) where
           subst (λ (x : Counts). Asking x.left x.right) counts_same (record { rolls = a; room = room })
 
   -- by what check_questions tells
-  module _ {r : CountsFound} (h : told_counts r ≡ map_told questions_counts (questions b e words)) where
-    pub counts_asking : (c : RollCounts) → r ≡ CountsTold c → Asking c.left c.right
-    counts_asking c k = asking (counts_in c) (sym (ap told_counts k) ∙ h)
+  module _ {r : Result RollCounts Refusal} (h : told_by counts_in r ≡ map_told questions_counts (questions b e words)) where
+    pub counts_asking : (c : RollCounts) → r ≡ Ok c → Asking c.left c.right
+    counts_asking c k = asking (counts_in c) (sym (ap (told_by counts_in) k) ∙ h)
 
-    pub counts_none : (q : Refusal) → r ≡ CountsRefused q → questions b e words ≡ told_refusal q
-    counts_none q k = map_refused questions_counts (questions b e words) _ _ (sym (sym (ap told_counts k) ∙ h))
+    pub counts_none : (q : Refusal) → r ≡ Err q → questions b e words ≡ told_refusal q
+    counts_none q k = map_refused questions_counts (questions b e words) _ _ (sym (sym (ap (told_by counts_in) k) ∙ h))
 
 -- ---- the call
 
@@ -108,7 +102,7 @@ results_by promise b e = map (factorization_of promise (paulis (list_of b))) (pa
 
 module _ (promise : Promise) (b e work out : List ℕ) where
   pub call_refused : (q : Refusal) → questions b e (length work) ≡ told_refusal q
-      → FactorizationsCall promise b e work out (Refused q) work out
+      → FactorizationsCall promise b e work out (Err q) work out
   unfolding factorizations_call map_told told_results left_in area_after
   call_refused q h = record { told = rw h; left = rw h; area = rw h }
 
@@ -137,14 +131,14 @@ module _ (promise : Promise) (b e work out : List ℕ) where
     told_is h = rw (call_is, h) (rw number at (both_told (results_by promise b e) out))
 
     -- the records are written, or there is no room for them, and the first words of the area are cleared
-    module _ (w : Wrote) (t : told_wrote w ≡ told_bytes (answer (results_bytes (results_by promise b e))) out) {x u : List ℕ}
+    module _ (w : Result ℕ Refusal) (t : told_of w ≡ told_bytes (answer (results_bytes (results_by promise b e))) out) {x u : List ℕ}
         (v : u ≡ left_in (answer (results_bytes (results_by promise b e))) out) (c : x ≡ cleared (take work_words work)) where
-      pub call_short : (q : Refusal) → w ≡ WroteRefused q
-          → FactorizationsCall promise b e work out (Refused q) (x ++ drop work_words work) u
+      pub call_short : (q : Refusal) → w ≡ Err q
+          → FactorizationsCall promise b e work out (Err q) (x ++ drop work_words work) u
       unfolding map_told
-      call_short q h = record { told = ap (λ (y : Wrote). map_told (with_count m) (told_wrote y)) (sym h) ∙ told_is t; left = left_is v; area = area_is c }
+      call_short q h = record { told = ap (λ (y : Result ℕ Refusal). map_told (with_count m) (told_of y)) (sym h) ∙ told_is t; left = left_is v; area = area_is c }
 
-      pub call_done : (k : ℕ) → w ≡ Bytes k
-          → FactorizationsCall promise b e work out (ResultsTold (record { count = m; bytes = k })) (x ++ drop work_words work) u
+      pub call_done : (k : ℕ) → w ≡ Ok k
+          → FactorizationsCall promise b e work out (Ok (record { count = m; bytes = k })) (x ++ drop work_words work) u
       unfolding map_told
-      call_done k h = record { told = ap (λ (y : Wrote). map_told (with_count m) (told_wrote y)) (sym h) ∙ told_is t; left = left_is v; area = area_is c }
+      call_done k h = record { told = ap (λ (y : Result ℕ Refusal). map_told (with_count m) (told_of y)) (sym h) ∙ told_is t; left = left_is v; area = area_is c }

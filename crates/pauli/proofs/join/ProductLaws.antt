@@ -1,5 +1,5 @@
 -- Laws of the product of two Paulis of rolls: the refusals in turn, and the product over the joined support.
-use Rattle.std.proofs.Common.{◌≡◌, ℕ, ◌<◌, ◌≤◌, List, [], ◌∷◌, ◌++◌, length, get_or, sym, refl, ap, ◌∙◌, subst, ap₂, arith, le-ltb, lt-ltb, le-leb}
+use Rattle.std.proofs.Common.{◌≡◌, ℕ, ◌<◌, ◌≤◌, List, [], ◌∷◌, ◌++◌, length, get_or, sym, refl, ap, ◌∙◌, subst, ap₂, arith, le-ltb, lt-ltb, le-leb, Result}
 use mathlib.Core.List.Memᴰ
 use mathlib.Core.List.{Memᴰ as Mem}
 use borrow.Author.Tests.{lt-leb}
@@ -19,8 +19,6 @@ use Rattle.pauli.specs.PauliTheorems.{PauliOn}
 use Rattle.pauli.specs.Known.{Gathered}
 use Rattle.pauli.specs.Writing.{sparse_over, roll_over, told_bytes, left_in, OnPlaces}
 use Rattle.pauli.specs.Condense.{list_of, nothing, condensed, Covered, Readable}
-use Rattle.pauli.specs.declared.write.Wrote.{Wrote}
-use Rattle.pauli.specs.WriteAnswers.{told_wrote}
 use Rattle.pauli.specs.Product.{product_over, product_bytes}
 use Rattle.pauli.specs.ProductContract.{ProductCall}
 use Rattle.pauli.specs.JoinCalls.{read_both, few_qubits, within, product_of}
@@ -33,6 +31,8 @@ use Rattle.pauli.proofs.condense.Places.{condense_lt, condense_sum}
 use Rattle.pauli.proofs.condense.Rows.{on_times}
 use Rattle.pauli.proofs.condense.PauliTheorems.{support_law}
 use Rattle.pauli.proofs.roll.RollLaws.{answer_parts}
+use Rattle.pauli.specs.declared.refusal.Refusal.{Refusal}
+use Rattle.pauli.specs.Refusals.{told_of}
 
 -- ---- what checking a roll tells
 
@@ -167,15 +167,15 @@ module _ (ps : List Sparse) (i : ℕ) (rs : List Sparse) (j : ℕ) (hi : i < len
 
 module _ (l : List ℕ) (i : ℕ) (r : List ℕ) (j : ℕ) (out : List ℕ) where
   -- a refusal tells itself and leaves the output alone
-  refusing : (w : Wrote) (m p : ℕ) → told_wrote w ≡ refused m p → product_of l i r j ≡ refused m p → ProductCall l i r j out w out
+  refusing : (w : Result ℕ Refusal) (m p : ℕ) → told_of w ≡ refused m p → product_of l i r j ≡ refused m p → ProductCall l i r j out w out
   unfolding told_bytes left_in
   refusing w m p t e = record { told = t ∙ rw e; left = rw e }
 
-  pub left_refused : (w : Wrote) (m p : ℕ) → told_wrote w ≡ refused m p → count_of l ≡ refused m p → ProductCall l i r j out w out
+  pub left_refused : (w : Result ℕ Refusal) (m p : ℕ) → told_of w ≡ refused m p → count_of l ≡ refused m p → ProductCall l i r j out w out
   left_refused w m p t e = refusing w m p t (product_left_refused l i r j m p (count_refused l m p e))
 
   module _ (nl : ℕ) (el : count_of l ≡ answer nl) where
-    pub right_refused : (w : Wrote) (m p : ℕ) → told_wrote w ≡ refused m p → count_of r ≡ refused m p → ProductCall l i r j out w out
+    pub right_refused : (w : Result ℕ Refusal) (m p : ℕ) → told_of w ≡ refused m p → count_of r ≡ refused m p → ProductCall l i r j out w out
     right_refused w m p t e = refusing w m p t (product_right_refused l i r j nl (count_accepted l nl el) m p (count_refused r m p e))
 
     module _ (nr : ℕ) (er : count_of r ≡ answer nr) (qs : List ℕ) (J : Gathered (support (list_of l ++ list_of r)) qs) where
@@ -188,18 +188,18 @@ module _ (l : List ℕ) (i : ℕ) (r : List ℕ) (j : ℕ) (out : List ℕ) wher
       abbrev joined : List Sparse
       joined = list_of l ++ list_of r
 
-      pub many_refused : most_qubits < length qs → (w : Wrote) → told_wrote w ≡ refused 7 0 → ProductCall l i r j out w out
+      pub many_refused : most_qubits < length qs → (w : Result ℕ Refusal) → told_of w ≡ refused 7 0 → ProductCall l i r j out w out
       many_refused h w t = refusing w 7 0 t (product_many l i r j nl al nr ar (omega (arith, h, J.count)))
 
       module _ (few : length qs ≤ most_qubits) where
         few_joined : length (support joined) ≤ most_qubits
         few_joined = omega (arith, few, J.count)
 
-        pub past_left_refused : nl ≤ i → (w : Wrote) → told_wrote w ≡ refused 8 0 → ProductCall l i r j out w out
+        pub past_left_refused : nl ≤ i → (w : Result ℕ Refusal) → told_of w ≡ refused 8 0 → ProductCall l i r j out w out
         past_left_refused h w t = refusing w 8 0 t (product_past_left l i r j nl al nr ar few_joined h)
 
         module _ (hi : i < nl) where
-          pub past_right_refused : nr ≤ j → (w : Wrote) → told_wrote w ≡ refused 8 0 → ProductCall l i r j out w out
+          pub past_right_refused : nr ≤ j → (w : Result ℕ Refusal) → told_of w ≡ refused 8 0 → ProductCall l i r j out w out
           past_right_refused h w t = refusing w 8 0 t (product_past_right l i r j nl al nr ar few_joined hi h)
 
           pub left_readable : Readable l nl i qs
@@ -215,7 +215,7 @@ module _ (l : List ℕ) (i : ℕ) (r : List ℕ) (j : ℕ) (out : List ℕ) wher
                 ∙ product_roll (list_of l) i (list_of r) j (rw al.count hi) (rw ar.count hj))
                 ∙ sym (product_answer l i r j nl al nr ar few_joined hi hj)
 
-            pub written : (w : Wrote) (left : List ℕ) → told_wrote w ≡ told_bytes (answer (product_bytes qs (list_of l) i (list_of r) j)) out
+            pub written : (w : Result ℕ Refusal) (left : List ℕ) → told_of w ≡ told_bytes (answer (product_bytes qs (list_of l) i (list_of r) j)) out
                 → left ≡ left_in (answer (product_bytes qs (list_of l) i (list_of r) j)) out → ProductCall l i r j out w left
             written w left et eleft = record {
               told = et ∙ ap (λ (u : Told (List ℕ)). told_bytes u out) bytes_written;

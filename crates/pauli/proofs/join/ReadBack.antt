@@ -1,12 +1,10 @@
 -- Lists of Paulis within the limits, written and read back; and what the first bytes of an output are, by what its call told and left.
-use Rattle.std.proofs.Common.{◌≡◌, ℕ, ◌+◌, ◌≤◌, List, [], ◌∷◌, ◌++◌, map, length, get_or, take, drop, sym, refl, ap, ◌∙◌, subst, ap₂, ⊎_elim, arith, take_at, ltb-false, leb-false}
+use Rattle.std.proofs.Common.{◌≡◌, ℕ, ◌+◌, ◌≤◌, List, [], ◌∷◌, ◌++◌, map, length, get_or, take, drop, sym, refl, ap, ◌∙◌, subst, ap₂, ⊎_elim, arith, take_at, ltb-false, leb-false, Result}
 use mathlib.Core.List.Memᴰ
 use mathlib.Core.List.Memᴰ.{append_cases as in-append}
 use mathlib.Core.List.{map-map, Memᴰ as Mem}
 use lib.ListN.{length-map}
 use Rattle.binar.proofs.Lists.{all_join, all_map, all_over}
-use Rattle.pauli.specs.declared.write.Wrote.{Wrote}
-use Rattle.pauli.specs.WriteAnswers.{told_wrote}
 use Rattle.pauli.specs.Told.{Told, answer, refused, and_then}
 use Rattle.pauli.specs.Roll.{most_paulis, highest_qubit, Sparse, numbers, support, read, write, by_value}
 use Rattle.pauli.specs.Support.{most_qubits, All, Rising}
@@ -29,6 +27,8 @@ use Rattle.pauli.proofs.roll.ListSupport.{in_support, support_only, support_rise
 use Rattle.pauli.proofs.roll.RollLaws.{answer_parts, by_value_exponents}
 use Rattle.pauli.proofs.roll.Told.{refused_none, test_passed}
 use Rattle.pauli.proofs.join.JoinedLists.{written_read, joined_law}
+use Rattle.pauli.specs.declared.refusal.Refusal.{Refusal}
+use Rattle.pauli.specs.Refusals.{told_of}
 
 -- ---- Paulis from the lists that a roll holds
 
@@ -130,8 +130,8 @@ told_bytes_lem (answer bs) out n e =
     (bs, refl, rw (room, same) (put_front out bs))
 
 -- so they hold what the result's bytes hold
-pub call_holds : (t : Told (List ℕ)) (out : List ℕ) (wrote : Wrote) (out' : List ℕ) (n : ℕ) → told_wrote wrote ≡ told_bytes t out → out' ≡ left_in t out
-    → told_wrote wrote ≡ answer n → (ps : List Pauli) → ((bs : List ℕ) → t ≡ answer bs → Holds bs ps) → Holds (take n out') ps
+pub call_holds : (t : Told (List ℕ)) (out : List ℕ) (wrote : Result ℕ Refusal) (out' : List ℕ) (n : ℕ) → told_of wrote ≡ told_bytes t out → out' ≡ left_in t out
+    → told_of wrote ≡ answer n → (ps : List Pauli) → ((bs : List ℕ) → t ≡ answer bs → Holds bs ps) → Holds (take n out') ps
 call_holds t out wrote out' n told left e ps holds =
     let (bs, s, front) = told_bytes_lem t out n (sym told ∙ e) in
     subst (λ (b : List ℕ). Holds b ps) (sym (ap (take n) left ∙ front)) (holds bs s)

@@ -1,5 +1,5 @@
 -- Laws of two rolls joined: what is told of them, where a joined generator stands, and the roll that is written.
-use Rattle.std.proofs.Common.{◌≡◌, ℕ, suc, ◌+◌, ◌-◌, ◌*◌, ◌%◌, ◌<◌, ◌≤◌, min, Bool, true, false, ltb, List, [], ◌∷◌, ◌++◌, map, length, get_or, take, drop, set, sym, refl, ap, ◌∙◌, subst, ap₂, append_assoc, append-nil, add-zero, zero-add, add-one, arith, length-append, length-set, drop_of_length-le, drop-cons, get_or-append-add, ltb-false, le-ltb, lt-ltb, le-leb}
+use Rattle.std.proofs.Common.{◌≡◌, ℕ, suc, ◌+◌, ◌-◌, ◌*◌, ◌%◌, ◌<◌, ◌≤◌, min, Bool, true, false, ltb, List, [], ◌∷◌, ◌++◌, map, length, get_or, take, drop, sym, refl, ap, ◌∙◌, subst, ap₂, append_assoc, append-nil, add-zero, zero-add, add-one, arith, length-append, drop_of_length-le, drop-cons, get_or-append-add, ltb-false, le-ltb, lt-ltb, le-leb, Result}
 use mathlib.Core.List.{map-append}
 use borrow.Author.Tests.{lt-leb}
 use lib.ListN.{length-map, get_or-append}
@@ -13,13 +13,11 @@ use Rattle.pauli.specs.Roll.{most_paulis, Sparse, entry_at, numbers, support, re
 use Rattle.pauli.specs.Support.{most_qubits, insert_all}
 use Rattle.pauli.specs.Known.{Gathered}
 use Rattle.pauli.specs.Condense.{list_of, nothing}
-use Rattle.pauli.specs.declared.write.Wrote.{Wrote}
-use Rattle.pauli.specs.WriteAnswers.{told_wrote}
 use Rattle.pauli.specs.JoinContract.{JoinCall}
 use Rattle.pauli.specs.JoinCalls.{Lists, read_both, few_qubits, within, joined_of, Counts, counts_of, join_of, looked_up, entry_of, stretch_in, stretch_of, bytes_of, body_in, or_empty, body_of}
 use Rattle.pauli.specs.Writing.{put_bytes, entry_bytes, told_bytes, left_in}
 use Rattle.pauli.proofs.roll.Told.{refused_none, test_pass, test_refuses, test_passed}
-use Rattle.pauli.proofs.support.Lists.{AllBytes, drop_one}
+use Rattle.pauli.proofs.support.Lists.{AllBytes}
 use Rattle.pauli.proofs.roll.BytesLaws.{length_numbers, length_le16, le32s_append, numbers_written}
 use Rattle.pauli.proofs.roll.ListSupport.{numbers_append, numbers_by_value}
 use Rattle.pauli.proofs.roll.Paulis.{table_entries, length_entries_of, length_bodies}
@@ -27,8 +25,10 @@ use Rattle.pauli.proofs.roll.Entries.{length_entries_bytes}
 use Rattle.pauli.proofs.roll.RollLaws.{answer_parts, length_encode}
 use Rattle.pauli.proofs.roll.ReaderLaws.{count_read, counted_bound, read_numbers, read_length, read_joined}
 use Rattle.pauli.proofs.condense.BodyLaws.{read_count, entry_room, body_room, exponent_is, xs_is, zs_is}
-use Rattle.pauli.proofs.write.Puts.{put_byte, put_nothing, Left, left_start, left_step, left_room, left_done}
+use Rattle.pauli.proofs.write.Puts.{Left, left_start, left_step, left_room, left_done}
 use Rattle.pauli.proofs.write.Writers.{length_entry_bytes}
+use Rattle.pauli.specs.declared.refusal.Refusal.{Refusal}
+use Rattle.pauli.specs.Refusals.{told_of}
 
 -- ---- an accepted roll
 
@@ -337,7 +337,7 @@ module _ (l r : List ℕ) (nl nr : ℕ) (el : count_of l ≡ answer nl) (er : co
 
 -- what is told and left
 module _ (l r out : List ℕ) where
-  pub join_refused : (w : Wrote) (m p : ℕ) → told_wrote w ≡ refused m p → counts_of l r ≡ refused m p → JoinCall l r out w out
+  pub join_refused : (w : Result ℕ Refusal) (m p : ℕ) → told_of w ≡ refused m p → counts_of l r ≡ refused m p → JoinCall l r out w out
   unfolding join_of map_told told_bytes left_in
   join_refused w m p t e = let j = counts_refused l r m p e in record { told = t ∙ rw j; left = rw j }
 
@@ -346,13 +346,13 @@ module _ (l r out : List ℕ) where
     unfolding join_of map_told
     joined_roll = rw j.joined
 
-    pub join_short : length out < size → (w : Wrote) → told_wrote w ≡ refused 12 0 → JoinCall l r out w out
+    pub join_short : length out < size → (w : Result ℕ Refusal) → told_of w ≡ refused 12 0 → JoinCall l r out w out
     unfolding told_bytes left_in refuse_if
     join_short h w e =
         let t = lt-ltb (length out) (length (write (list_of l ++ list_of r))) (rw s h) in
         record { told = e ∙ rw (joined_roll, t); left = rw (joined_roll, t) }
 
-    pub join_long : size ≤ length out → (w : Wrote) → told_wrote w ≡ answer size → (u : List ℕ) → u ≡ put_bytes out 0 (write (list_of l ++ list_of r))
+    pub join_long : size ≤ length out → (w : Result ℕ Refusal) → told_of w ≡ answer size → (u : List ℕ) → u ≡ put_bytes out 0 (write (list_of l ++ list_of r))
         → JoinCall l r out w u
     unfolding told_bytes left_in refuse_if
     join_long h w e u k =

@@ -1,41 +1,48 @@
 -- Laws of the calls on one list: what they pick from the description, and the standard generators written.
-use Rattle.std.proofs.Common.{◌≡◌, ℕ, zero, suc, ◌+◌, ◌-◌, ◌/◌, ◌≤◌, List, [], ◌∷◌, length, sym, refl, ap, ◌∙◌, ap₂, arith}
+use Rattle.std.proofs.Common.{◌≡◌, ℕ, zero, suc, eqb, ◌+◌, ◌-◌, ◌/◌, ◌≤◌, List, [], ◌∷◌, length, sym, refl, ap, ◌∙◌, ap₂, arith, Err, Ok, Result}
+use Rattle.std.proofs.Math.Dec.{eqb-suc-zero}
 use Rattle.pauli.specs.Pauli.{Pauli}
 use Rattle.pauli.specs.Signed.{list_in}
 use Rattle.pauli.specs.declared.refusal.Refusal.{Refusal}
 use Rattle.pauli.specs.Condense.{list_of}
-use Rattle.pauli.specs.Refusals.{told_refusal}
+use Rattle.pauli.specs.Refusals.{told_refusal, told_by}
 use Rattle.pauli.specs.Told.{answer, map_told}
 use Rattle.pauli.proofs.roll.Told.{map_refused, map_answer}
 use Rattle.pauli.specs.Writing.{roll_over}
 use Rattle.pauli_theory.specs.Group.{Promise}
-use Rattle.pauli_theory.specs.Standard.{if_zero, standard, rank, nonabelian, phases_of, phase_step, log2_size}
+use Rattle.pauli_theory.specs.Standard.{if_zero, standard, rank, nonabelian, stabilizer, phases_of, phase_step, log2_size}
 use Rattle.pauli_theory.proofs.Phases.{phases_cases}
 use Rattle.pauli_theory.proofs.OverPlaces.{placed}
 use Rattle.pauli_theory.proofs.Written.{written_standard}
 use Rattle.pauli_group.specs.Inner.Area.{standard_at}
 use Rattle.pauli_group.specs.declared.answers.Phases.{Phases}
 use Rattle.pauli_group.specs.declared.answers.Phases.TheVariants.{Zero, ZeroTwo, All}
-use Rattle.pauli_group.specs.Answers.{phases_told}
+use Rattle.pauli_group.specs.Answers.{phases_told, yes_number}
 use Rattle.pauli_group.specs.Inner.Lists.{step_told}
 use Rattle.pauli_group.specs.declared.group.Description.{Description}
-use Rattle.pauli_group.specs.declared.calls.DescriptionFound.{DescriptionFound}
-use Rattle.pauli_group.specs.declared.calls.DescriptionFound.TheVariants.{Description as DescriptionTold, Refused as DescriptionRefused}
-use Rattle.pauli_group.specs.Inner.Groups.{facts_of, facts_in, told_facts, over_support, Grouped}
+use Rattle.pauli_group.specs.Inner.Groups.{facts_of, facts_in, over_support, Grouped}
 use Rattle.pauli_group.specs.Calls.{paulis, one_list, standard_bytes}
 use Rattle.pauli_group.proofs.checks.OneList.{Given, given}
 use Rattle.pauli_group.proofs.group.GroupLaws.{Described, facts_told}
-use Rattle.pauli_group.proofs.group.GroupedLaws.{nonabelian_le}
+use Rattle.pauli_group.proofs.group.GroupedLaws.{stabilizer_le}
 
 -- what the code makes of the description
 pub abelian_told : (promise : Promise) (gs : List Pauli) (clash : ℕ) → clash ≡ nonabelian promise gs
-    → 1 - clash ≡ if_zero (nonabelian promise gs) 1 0
+    → yes_number (eqb clash 0) ≡ if_zero (nonabelian promise gs) 1 0
 unfolding if_zero
-abelian_told promise gs clash e = ap (1 -◌) e ∙ other (nonabelian promise gs) (nonabelian_le promise gs)
+abelian_told promise gs clash e = rw e (zero_told (nonabelian promise gs))
   where
-    other : (k : ℕ) → k ≤ 1 → 1 - k ≡ if_zero k 1 0
-    other zero h = refl
-    other (suc k) h = omega arith
+    zero_told : (k : ℕ) → yes_number (eqb k 0) ≡ if_zero k 1 0
+    zero_told zero = refl
+    zero_told (suc k) = rw eqb-suc-zero refl
+
+pub stabilizer_told : (promise : Promise) (gs : List Pauli) (n : ℕ) → n ≡ stabilizer promise gs → yes_number (eqb n 1) ≡ stabilizer promise gs
+stabilizer_told promise gs n e = rw e (one_told (stabilizer promise gs) (stabilizer_le promise gs))
+  where
+    one_told : (k : ℕ) → k ≤ 1 → yes_number (eqb k 1) ≡ k
+    one_told zero h = refl
+    one_told (suc zero) h = refl
+    one_told (suc (suc k)) h = absurd (omega arith)
 
 -- the phases by their step
 pub phases_told_lem : (promise : Promise) (gs : List Pauli) (p : Phases) → step_told p ≡ phase_step promise gs → phases_told p ≡ phases_of promise gs
@@ -68,14 +75,14 @@ pub record ListDescribed (promise : Promise) (b : List ℕ) (size : ℕ) (d : De
   pub given : Given b size count
   pub facts : Described promise (paulis (list_of b)) d.rank d.step d.clash d.stabilizer
 
-module _ (promise : Promise) (b : List ℕ) (size : ℕ) {r : DescriptionFound} (e : told_facts r ≡ map_told (facts_of promise) (one_list b size)) where
-  pub facts_none : (q : Refusal) → r ≡ DescriptionRefused q → one_list b size ≡ told_refusal q
-  facts_none q h = map_refused (facts_of promise) (one_list b size) _ _ (sym (sym (ap told_facts h) ∙ e))
+module _ (promise : Promise) (b : List ℕ) (size : ℕ) {r : Result Description Refusal} (e : told_by facts_in r ≡ map_told (facts_of promise) (one_list b size)) where
+  pub facts_none : (q : Refusal) → r ≡ Err q → one_list b size ≡ told_refusal q
+  facts_none q h = map_refused (facts_of promise) (one_list b size) _ _ (sym (sym (ap (told_by facts_in) h) ∙ e))
 
-  pub facts_given : (d : Description) → r ≡ DescriptionTold d → ListDescribed promise b size d
+  pub facts_given : (d : Description) → r ≡ Ok d → ListDescribed promise b size d
   unfolding map_told
   facts_given d h =
-      let (gs, told, same) = map_answer (facts_of promise) (one_list b size) (facts_in d) (sym (sym (ap told_facts h) ∙ e)) in
+      let (gs, told, same) = map_answer (facts_of promise) (one_list b size) (facts_in d) (sym (sym (ap (told_by facts_in) h) ∙ e)) in
       let g = given b size (length gs) (sym (ap (map_told length) told)) in
       let read : one_list b size ≡ answer (paulis (list_of b)) = g.told in
       let list : gs ≡ paulis (list_of b) = cc in

@@ -1,12 +1,9 @@
 -- An element put to a list: what the checks tell.
-use Rattle.std.proofs.Common.{◌≡◌, ℕ, ◌<◌, ◌≤◌, Bool, true, false, ltb, leb, List, length, get_or, sym, refl, ap, ◌∙◌, arith, ltb-false, le-ltb, lt-ltb, le-leb, leb-false}
+use Rattle.std.proofs.Common.{◌≡◌, ℕ, ◌<◌, ◌≤◌, Bool, true, false, ltb, leb, List, length, get_or, sym, refl, ap, ◌∙◌, arith, ltb-false, le-ltb, lt-ltb, le-leb, leb-false, Err, Ok, Result}
 use borrow.Author.Tests.{lt-leb}
-use Rattle.pauli.specs.declared.joined.CountsFound.{CountsFound}
-use Rattle.pauli.specs.declared.joined.CountsFound.TheVariants.{Counts as CountsTold, Refused as CountsRefused}
 use Rattle.pauli.specs.declared.joined.RollCounts.{RollCounts}
 use Rattle.pauli.specs.declared.refusal.Refusal.{Refusal}
-use Rattle.pauli.specs.Refusals.{told_refusal}
-use Rattle.pauli.specs.JoinAnswers.{told_counts}
+use Rattle.pauli.specs.Refusals.{told_refusal, told_by}
 use Rattle.pauli.specs.JoinCalls.{Lists, read_both, within, Counts}
 use Rattle.pauli.specs.Condense.{list_of, nothing}
 use Rattle.pauli.specs.Roll.{most_paulis, count_of}
@@ -17,6 +14,7 @@ use Rattle.pauli.proofs.roll.Told.{refused_none, test_pass, test_refuses, test_p
 use Rattle.pauli_group.specs.WorkArea.{work_words, enough}
 use Rattle.pauli_group.specs.Calls.{paulis, question, roll_counts, question_counts}
 use Rattle.pauli_group.proofs.checks.Rolls.{Accepted, both}
+use Rattle.pauli.specs.JoinAnswers.{counts_in}
 
 -- what they let pass, changed by f
 unfoldable passed : {A : Type 0} → Told Lists → ℕ → ℕ → (Lists → A) → Told A
@@ -111,9 +109,9 @@ module _ (b e : List ℕ) (number words : ℕ) where
       rw (left, right, lt-leb (length (list_of e)) number (rw size a.inside), le-ltb words work_words a.room)
 
   -- by what check_question tells
-  module _ {r : CountsFound} (h : told_counts r ≡ question_counts b e number words) where
-    pub counts_asking : (c : RollCounts) → r ≡ CountsTold c → Asking c.left c.right
-    counts_asking c k = asking c.left c.right (sym (ap told_counts k) ∙ h)
+  module _ {r : Result RollCounts Refusal} (h : told_by counts_in r ≡ question_counts b e number words) where
+    pub counts_asking : (c : RollCounts) → r ≡ Ok c → Asking c.left c.right
+    counts_asking c k = asking c.left c.right (sym (ap (told_by counts_in) k) ∙ h)
 
-    pub counts_none : (q : Refusal) → r ≡ CountsRefused q → question b e number words ≡ told_refusal q
-    counts_none q k = question_none _ _ (sym (sym (ap told_counts k) ∙ h))
+    pub counts_none : (q : Refusal) → r ≡ Err q → question b e number words ≡ told_refusal q
+    counts_none q k = question_none _ _ (sym (sym (ap (told_by counts_in) k) ∙ h))

@@ -1,17 +1,15 @@
 -- The generators' roll and the elements' roll: what their check tells.
-use Rattle.std.proofs.Common.{◌≡◌, ℕ, List, length, sym, refl, ap, ◌∙◌}
-use Rattle.pauli.specs.declared.joined.CountsFound.{CountsFound}
-use Rattle.pauli.specs.declared.joined.CountsFound.TheVariants.{Counts as CountsTold, Refused as CountsRefused}
+use Rattle.std.proofs.Common.{◌≡◌, ℕ, List, length, sym, refl, ap, ◌∙◌, Err, Ok, Result}
 use Rattle.pauli.specs.declared.joined.RollCounts.{RollCounts}
 use Rattle.pauli.specs.declared.refusal.Refusal.{Refusal}
-use Rattle.pauli.specs.Refusals.{told_refusal}
-use Rattle.pauli.specs.JoinAnswers.{told_counts}
+use Rattle.pauli.specs.Refusals.{told_refusal, told_by}
 use Rattle.pauli.specs.JoinCalls.{read_both, Counts}
 use Rattle.pauli.specs.Roll.{read, count_of}
 use Rattle.pauli.specs.Told.{Told, answer, refused, and_then, map_told}
 use Rattle.pauli.proofs.joined.JoinLaws.{accepted}
 use Rattle.pauli.proofs.roll.Told.{refused_none, map_refused}
 use Rattle.pauli_group.specs.Calls.{roll_counts}
+use Rattle.pauli.specs.JoinAnswers.{counts_in}
 
 module _ (b e : List ℕ) where
   pub rolls_left : (m p : ℕ) → count_of b ≡ refused m p → refused m p ≡ roll_counts b e
@@ -50,10 +48,10 @@ module _ (b e : List ℕ) where
       left (answer k) f = right k f (count_of e) refl
 
   -- by what check_rolls tells
-  module _ {r : CountsFound} (h : told_counts r ≡ roll_counts b e) where
-    pub rolls_given : (c : RollCounts) → r ≡ CountsTold c → Accepted c.left c.right
-    rolls_given c k = both c.left c.right (sym (ap told_counts k) ∙ h)
+  module _ {r : Result RollCounts Refusal} (h : told_by counts_in r ≡ roll_counts b e) where
+    pub rolls_given : (c : RollCounts) → r ≡ Ok c → Accepted c.left c.right
+    rolls_given c k = both c.left c.right (sym (ap (told_by counts_in) k) ∙ h)
 
-    pub rolls_none : (q : Refusal) → r ≡ CountsRefused q → read_both b e ≡ told_refusal q
+    pub rolls_none : (q : Refusal) → r ≡ Err q → read_both b e ≡ told_refusal q
     unfolding roll_counts
-    rolls_none q k = map_refused _ (read_both b e) _ _ (sym (sym (ap told_counts k) ∙ h))
+    rolls_none q k = map_refused _ (read_both b e) _ _ (sym (sym (ap (told_by counts_in) k) ∙ h))

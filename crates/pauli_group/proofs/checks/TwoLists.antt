@@ -1,13 +1,11 @@
 -- Two lists: what their checks tell, and what is told and left after them.
-use Rattle.std.proofs.Common.{◌≡◌, ℕ, ◌+◌, ◌<◌, ◌≤◌, ltb, List, ◌++◌, length, take, drop, sym, refl, ap, ◌∙◌, subst, ltb-false, le-ltb, lt-ltb}
+use Rattle.std.proofs.Common.{◌≡◌, ℕ, ◌+◌, ◌<◌, ◌≤◌, ltb, List, ◌++◌, length, take, drop, sym, refl, ap, ◌∙◌, subst, ltb-false, le-ltb, lt-ltb, Err, Ok, Result}
 use Rattle.pauli.specs.declared.refusal.Refusal.{Refusal}
-use Rattle.pauli.specs.declared.joined.CountsFound.{CountsFound}
-use Rattle.pauli.specs.declared.joined.CountsFound.TheVariants.{Counts as CountsTold, Refused as CountsRefused}
 use Rattle.pauli.specs.declared.joined.RollCounts.{RollCounts}
-use Rattle.pauli.specs.JoinAnswers.{counts_in, told_counts}
+use Rattle.pauli.specs.JoinAnswers.{counts_in}
 use Rattle.pauli.specs.JoinCalls.{Counts, counts_of, read_both, few_qubits}
 use Rattle.pauli.specs.Condense.{list_of}
-use Rattle.pauli.specs.Refusals.{told_refusal}
+use Rattle.pauli.specs.Refusals.{told_refusal, told_by}
 use Rattle.pauli.specs.Roll.{most_paulis, support}
 use Rattle.pauli.specs.Support.{most_qubits}
 use Rattle.pauli.specs.Told.{Told, answer, refused, and_then, map_told}
@@ -79,12 +77,12 @@ module _ (l r : List ℕ) (size : ℕ) where
           subst (λ (x : Counts). Paired x.left x.right) counts_same (record { joining = j; room = room })
 
   -- by what check_pair tells
-  module _ {f : CountsFound} (e : told_counts f ≡ map_told pair_counts (two_lists l r size)) where
-    pub pair_given : (c : RollCounts) → f ≡ CountsTold c → Paired c.left c.right
-    pair_given c h = paired (counts_in c) (sym (ap told_counts h) ∙ e)
+  module _ {f : Result RollCounts Refusal} (e : told_by counts_in f ≡ map_told pair_counts (two_lists l r size)) where
+    pub pair_given : (c : RollCounts) → f ≡ Ok c → Paired c.left c.right
+    pair_given c h = paired (counts_in c) (sym (ap (told_by counts_in) h) ∙ e)
 
-    pub pair_none : (q : Refusal) → f ≡ CountsRefused q → two_lists l r size ≡ told_refusal q
-    pair_none q h = map_refused pair_counts (two_lists l r size) _ _ (sym (sym (ap told_counts h) ∙ e))
+    pub pair_none : (q : Refusal) → f ≡ Err q → two_lists l r size ≡ told_refusal q
+    pair_none q h = map_refused pair_counts (two_lists l r size) _ _ (sym (sym (ap (told_by counts_in) h) ∙ e))
 
 -- ---- the work area after the checks
 

@@ -1,5 +1,5 @@
 -- Laws of the call for membership: what is told, and the output and the work area that are left.
-use Rattle.std.proofs.Common.{◌≡◌, ℕ, ◌*◌, ◌%◌, ◌^◌, ◌<◌, ◌≤◌, true, false, ltb, List, ◌++◌, map, length, get_or, take, drop, sym, ap, ◌∙◌, arith, le-ltb, lt-ltb}
+use Rattle.std.proofs.Common.{◌≡◌, ℕ, ◌*◌, ◌%◌, ◌^◌, ◌<◌, ◌≤◌, true, false, ltb, List, ◌++◌, map, length, get_or, take, drop, sym, ap, ◌∙◌, arith, le-ltb, lt-ltb, Err, Ok, Some, None}
 use mathlib.Core.Option.{Option, some, none, some-injective}
 use lib.ListN.{length-map}
 use Rattle.binar.specs.Row.{weight}
@@ -17,7 +17,6 @@ use Rattle.pauli_theory.specs.Membership.{Factorization, outside, exponent_left,
 use Rattle.pauli_theory.specs.Standard.{support_of, form_of, phase_step}
 use Rattle.pauli_theory.proofs.Phases.{with_phase_lem}
 use Rattle.pauli_theory.proofs.IfZero.{if_zero_some}
-use Rattle.pauli_group.specs.declared.answers.MemberFound.TheVariants.{Member, NotMember, Refused}
 use Rattle.pauli_group.specs.WorkArea.{work_words, cleared, area_after}
 use Rattle.pauli_group.specs.Calls.{paulis, question, factorization_call, index_bytes, factored, told_member, member_left, le16s}
 use Rattle.pauli_group.specs.CallContracts.{MemberCall}
@@ -48,7 +47,7 @@ indexes_below promise gs p f e =
 
 module _ (promise : Promise) (b e : List ℕ) (number : ℕ) (work out : List ℕ) where
   pub call_refused : (q : Refusal) → question b e number (length work) ≡ told_refusal q
-      → MemberCall promise b e number work out (Refused q) work out
+      → MemberCall promise b e number work out (Err q) work out
   unfolding factorization_call map_told told_member member_left area_after
   call_refused q h = record { told = rw h; left = rw h; area = rw h }
 
@@ -64,7 +63,7 @@ module _ (promise : Promise) (b e : List ℕ) (number : ℕ) (work out : List �
     unfolding area_after
     area_is = rw (question_told b e number (length work) a) (ap (◌++ drop work_words work) ex ∙ cleared_part work a.room)
 
-    pub call_none : none ≡ F → MemberCall promise b e number work out NotMember (x ++ drop work_words work) out
+    pub call_none : none ≡ F → MemberCall promise b e number work out (Ok None) (x ++ drop work_words work) out
     unfolding told_member member_left
     call_none h =
         let same : factorization_call promise b e number (length work) ≡ answer none = call_is ∙ ap answer (sym h) in
@@ -82,7 +81,7 @@ module _ (promise : Promise) (b e : List ℕ) (number : ℕ) (work out : List �
       bytes = length_indexes f.indexes
 
       pub call_short : length out < 2 * weight f.indexes
-          → MemberCall promise b e number work out (Refused (record { reason = Output; place = 0 })) (x ++ drop work_words work) out
+          → MemberCall promise b e number work out (Err (record { reason = Output; place = 0 })) (x ++ drop work_words work) out
       unfolding told_member member_left refuse_if
       call_short l =
           let short : ltb (length out) (length (index_bytes f)) ≡ true = lt-ltb (length out) (length (index_bytes f)) (rw bytes l) in
@@ -90,7 +89,7 @@ module _ (promise : Promise) (b e : List ℕ) (number : ℕ) (work out : List �
 
       pub call_found : (count : ℕ) → count ≡ weight f.indexes → 2 * count ≤ length out
           → (out' : List ℕ) → out' ≡ put_bytes out 0 (le16s (members f.indexes))
-          → MemberCall promise b e number work out (Member (record { count = count; exponent = f.exponent })) (x ++ drop work_words work) out'
+          → MemberCall promise b e number work out (Ok (Some (record { count = count; exponent = f.exponent }))) (x ++ drop work_words work) out'
       unfolding told_member member_left refuse_if factored index_bytes
       call_found count c l out' w =
           let room : ltb (length out) (length (index_bytes f)) ≡ false = le-ltb (length out) (length (index_bytes f)) (rw (bytes, ← c) l) in

@@ -1,21 +1,20 @@
 -- What the inner functions leave in the work area, and what they tell.
-use Rattle.std.specs.Prelude.{◌≡◌, ℕ, ◌*◌, List, map, length}
+use Rattle.std.specs.Prelude.{◌≡◌, ℕ, ◌*◌, List, map, length, Result}
 use Rattle.binar.specs.Echelon.{EchelonForm, rank as echelon_rank}
 use Rattle.binar.specs.Layout.{form_in}
 use Rattle.pauli.specs.Condense.{condensed}
 use Rattle.pauli.specs.Pauli.{Pauli, normal, indexed_product}
 use Rattle.pauli.specs.Signed.{list_in}
-use Rattle.pauli.specs.Refusals.{told_refusal}
-use Rattle.pauli.specs.Told.{Told, answer, map_told}
+use Rattle.pauli.specs.Refusals.{told_by}
+use Rattle.pauli.specs.Told.{map_told}
 use Rattle.pauli_theory.specs.Group.{Promise}
 use Rattle.pauli_theory.specs.Standard.{support_of, form_of, standard, rank, nonabelian, phase_step, stabilizer}
 use Rattle.pauli_group.specs.declared.group.Description.{Description}
-use Rattle.pauli_group.specs.declared.calls.DescriptionFound.{DescriptionFound}
-use Rattle.pauli_group.specs.declared.calls.DescriptionFound.TheVariants.{Description as Described, Refused as DescriptionRefused}
 use Rattle.pauli_group.specs.WorkArea.{area_after}
 use Rattle.pauli_group.specs.Calls.{one_list}
 use Rattle.pauli_group.specs.Inner.Area.{list_at, standard_at, further_at, row_words, stride_of, Outside}
 use Rattle.pauli_group.specs.Inner.Lists.{form_over, from_products}
+use Rattle.pauli.specs.declared.refusal.Refusal.{Refusal}
 
 -- the products of the Paulis ps that the rows of T name
 unfoldable pub products_named : EchelonForm → List Pauli → List Pauli
@@ -60,11 +59,7 @@ facts_of promise gs =
 abbrev pub facts_in : Description → Facts
 facts_in d = record { rank = d.rank; step = d.step; clash = d.clash; stabilizer = d.stabilizer }
 
-abbrev pub told_facts : DescriptionFound → Told Facts
-told_facts (Described d) = answer (facts_in d)
-told_facts (DescriptionRefused r) = told_refusal r
-
 -- what the description of a list promises: what it tells, and the work area at exit
-pub record DescriptionCall (promise : Promise) (b work : List ℕ) (r : DescriptionFound) (work' : List ℕ) : Type 0 where
-  pub told : told_facts r ≡ map_told (facts_of promise) (one_list b (length work))
+pub record DescriptionCall (promise : Promise) (b work : List ℕ) (r : Result Description Refusal) (work' : List ℕ) : Type 0 where
+  pub told : told_by facts_in r ≡ map_told (facts_of promise) (one_list b (length work))
   pub area : work' ≡ area_after (one_list b (length work)) work

@@ -5,7 +5,7 @@ use Rattle.closing_report.proofs.report.CallLaws.{work_short, call_short, call_d
 use Rattle.closing_report.proofs.report.closing_report.Goals as goal
 
 pub returns-then-work-lt-WORK_WORDS : goal.returns-then-work-lt-WORK_WORDS
-returns-then-work-lt-WORK_WORDS c = call_short _ _ _ _ (work_short _ _ c.if-work-lt-WORK_WORDS.true)
+returns-then-work-lt-WORK_WORDS c = rw c.into.ensures (call_short _ _ _ _ (work_short _ _ c.if-work-lt-WORK_WORDS.true))
 
 pub slice_bounds-write_and_clear-end-2 : goal.slice_bounds-write_and_clear-end-2
 slice_bounds-write_and_clear-end-2 c =

@@ -19,6 +19,11 @@ unfolding most_paulis
 overflow_mul-k c =
     omega (arith, accepted_few _ _ c.requires.0, c.loop-k-test.true)
 
+pub overflow_add-k : goal.overflow_add-k
+unfolding most_paulis
+overflow_add-k c =
+    omega (arith, accepted_few _ _ c.requires.0, c.loop-k-test.true)
+
 pub store_result-requires : goal.store_result-requires
 unfolding most_paulis asked_now
 store_result-requires c =
@@ -27,10 +32,6 @@ store_result-requires c =
       omega (arith, accepted_few _ _ c.requires.0, c.loop-k-test.true, factor.rest.size, inv.1),
       storable _ _ _ _ (sym (factor.told (asked_now c.requires.4 _ (inv.2 c.requires.4)))),
     )
-
-pub overflow_add-k : goal.overflow_add-k
-unfolding most_paulis
-overflow_add-k c = omega (arith, accepted_few _ _ c.requires.0, c.loop-k-test.true)
 
 pub loop-k-preserved : goal.loop-k-preserved
 unfolding asked_now

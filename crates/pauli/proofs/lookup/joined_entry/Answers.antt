@@ -1,24 +1,26 @@
 -- Of left, of right, or past both.
 use Rattle.pauli.proofs.joined.JoinLaws.{counts_joining, entry_refused, entry_left, entry_right, entry_past}
-use Rattle.pauli.specs.JoinAnswers.{told_counts}
 use Rattle.pauli.specs.Told.{answer}
 use Rattle.std.proofs.Common.{sym, ap, ◌∙◌, arith}
+use Rattle.pauli.specs.Lookups.{looked_in}
+use Rattle.pauli.specs.Refusals.{told_by, told_refusal}
+use Rattle.pauli.proofs.refusal.HandedOn.{handed_on}
 use Rattle.pauli.proofs.lookup.joined_entry.Goals as goal
 
-pub returns-in-Refused : goal.returns-in-Refused
-returns-in-Refused c = sym (entry_refused c.args.left.now c.args.right.now c.args.n _ _ (sym c.joined_counts-found.ensures ∙ ap told_counts c.in-Refused.is))
+pub returns-in_err-counts : goal.returns-in_err-counts
+returns-in_err-counts c = ap (told_by looked_in) (handed_on _ _ c.from_residual.ensures.1) ∙ sym (entry_refused c.args.left.now c.args.right.now c.args.n _ _ (sym c.in_err-counts.ensures))
 
 pub looked_up-requires : goal.looked_up-requires
-looked_up-requires c = ((counts_joining c.args.left.now c.args.right.now _ (sym c.joined_counts-found.ensures ∙ ap told_counts c.in-Counts.is)).left, c.if-n-nl.true)
+looked_up-requires c = ((counts_joining c.args.left.now c.args.right.now _ (sym c.in_ok-counts.ensures)).left, c.if-n-nl.true)
 
 pub returns-then-n-nl : goal.returns-then-n-nl
-returns-then-n-nl c = ap answer c.looked_up.ensures ∙ sym (entry_left c.args.left.now c.args.right.now c.args.n _ _ (counts_joining c.args.left.now c.args.right.now _ (sym c.joined_counts-found.ensures ∙ ap told_counts c.in-Counts.is)) c.if-n-nl.true)
+returns-then-n-nl c = ap answer c.looked_up.ensures ∙ sym (entry_left c.args.left.now c.args.right.now c.args.n _ _ (counts_joining c.args.left.now c.args.right.now _ (sym c.in_ok-counts.ensures)) c.if-n-nl.true)
 
 pub looked_up-requires-then-n-nl-2 : goal.looked_up-requires-then-n-nl-2
-looked_up-requires-then-n-nl-2 c = ((counts_joining c.args.left.now c.args.right.now _ (sym c.joined_counts-found.ensures ∙ ap told_counts c.in-Counts.is)).right, c.if-n-nl-2.true)
+looked_up-requires-then-n-nl-2 c = ((counts_joining c.args.left.now c.args.right.now _ (sym c.in_ok-counts.ensures)).right, c.if-n-nl-2.true)
 
 pub returns-then-n-nl-2 : goal.returns-then-n-nl-2
-returns-then-n-nl-2 c = ap answer c.looked_up-then-n-nl-2.ensures ∙ sym (entry_right c.args.left.now c.args.right.now c.args.n _ _ (counts_joining c.args.left.now c.args.right.now _ (sym c.joined_counts-found.ensures ∙ ap told_counts c.in-Counts.is)) c.if-n-nl.false c.if-n-nl-2.true)
+returns-then-n-nl-2 c = ap answer c.looked_up-then-n-nl-2.ensures ∙ sym (entry_right c.args.left.now c.args.right.now c.args.n _ _ (counts_joining c.args.left.now c.args.right.now _ (sym c.in_ok-counts.ensures)) c.if-n-nl.false c.if-n-nl-2.true)
 
 pub returns : goal.returns
-returns c = sym (entry_past c.args.left.now c.args.right.now c.args.n _ _ (counts_joining c.args.left.now c.args.right.now _ (sym c.joined_counts-found.ensures ∙ ap told_counts c.in-Counts.is)) (omega (arith, c.if-n-nl-2.false, c.if-n-nl.false)))
+returns c = ap told_refusal c.into.ensures ∙ sym (entry_past c.args.left.now c.args.right.now c.args.n _ _ (counts_joining c.args.left.now c.args.right.now _ (sym c.in_ok-counts.ensures)) (omega (arith, c.if-n-nl-2.false, c.if-n-nl.false)))

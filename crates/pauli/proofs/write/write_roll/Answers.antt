@@ -1,6 +1,7 @@
 -- The length is known before the first byte is written.
-use Rattle.std.proofs.Common.{◌∙◌, arith}
+use Rattle.std.proofs.Common.{ap, ◌∙◌, arith}
 use Rattle.pauli.proofs.write.Writers.{numbers_room, roll_short, roll_long}
+use Rattle.pauli.specs.Refusals.{told_refusal}
 use Rattle.pauli.proofs.write.write_roll.Goals as goal
 
 pub overflow_mul-table : goal.overflow_mul-table
@@ -19,7 +20,7 @@ pub overflow_add-size : goal.overflow_add-size
 overflow_add-size c = omega (arith, c.numbers_in.ensures.1)
 
 pub returns-then-out-size : goal.returns-then-out-size
-returns-then-out-size c = let all = roll_short c.args.w.now c.args.base c.args.n c.args.support.now c.args.out.now c.requires.3 c.numbers_in.result c.numbers_in.ensures.0 c.if-out-size.true in record { told = all.0; left = all.1 }
+returns-then-out-size c = let all = roll_short c.args.w.now c.args.base c.args.n c.args.support.now c.args.out.now c.requires.3 c.numbers_in.result c.numbers_in.ensures.0 c.if-out-size.true in record { told = ap told_refusal c.into.ensures ∙ all.0; left = all.1 }
 
 pub put_u16-requires : goal.put_u16-requires
 put_u16-requires c = omega arith

@@ -1,33 +1,27 @@
 -- The refusal of the description is told on; else its number for a stabilizer group is told.
-use Rattle.std.proofs.Common.{◌∙◌}
-use Rattle.pauli.specs.Condense.{list_of}
+use Rattle.std.proofs.Common.{◌∙◌, ap}
 use Rattle.pauli_theory.specs.Standard.{stabilizer}
 use Rattle.pauli_group.specs.Promises.{promise_of}
-use Rattle.pauli_group.specs.Calls.{paulis, stabilizer_call}
-use Rattle.pauli_group.proofs.calls.CallLaws.{facts_none, facts_given}
-use Rattle.pauli_group.proofs.group.GroupedLaws.{stabilizer_le}
+use Rattle.pauli_group.specs.Calls.{stabilizer_call}
+use Rattle.pauli_group.proofs.calls.CallLaws.{facts_none, facts_given, stabilizer_told}
 use Rattle.pauli_group.proofs.checks.OneList.{answers, refuses}
+use Rattle.pauli.proofs.refusal.HandedOn.{handed_on}
+use Rattle.pauli.specs.Refusals.{told_by}
+use Rattle.pauli_group.specs.Answers.{yes_number}
 use Rattle.pauli_group.proofs.calls.is_stabilizer_group.Goals as goal
 
-pub decided-requires : goal.decided-requires
-decided-requires c =
-    let promise = promise_of c.args.promise in
-    let e = c.describe_list-found.ensures in
-    let found = facts_given promise _ _ e.told _ c.in-Description.is in
-    rw found.facts.stabilizer_is (stabilizer_le promise (paulis (list_of c.args.b.now)))
-
-pub returns-in-Refused : goal.returns-in-Refused
+pub returns-in_err-d : goal.returns-in_err-d
 unfolding stabilizer_call
-returns-in-Refused c =
+returns-in_err-d c =
     let promise = promise_of c.args.promise in
-    let e = c.describe_list-found.ensures in
-    let refused = facts_none promise _ _ e.told _ c.in-Refused.is in
-    record { told = refuses c.args.b.now c.args.work.now refused (stabilizer promise); area = e.area }
+    let e = c.describe_list.ensures in
+    let refused = facts_none promise _ _ e.told _ c.in_err-d.was in
+    record { told = ap (told_by yes_number) (handed_on _ _ c.from_residual.ensures.1) ∙ refuses c.args.b.now c.args.work.now refused (stabilizer promise); area = e.area }
 
-pub returns-in-Description : goal.returns-in-Description
+pub returns : goal.returns
 unfolding stabilizer_call
-returns-in-Description c =
+returns c =
     let promise = promise_of c.args.promise in
-    let e = c.describe_list-found.ensures in
-    let found = facts_given promise _ _ e.told _ c.in-Description.is in
-    record { told = c.decided.ensures ∙ answers c.args.b.now c.args.work.now found.given (stabilizer promise) _ found.facts.stabilizer_is; area = e.area }
+    let e = c.describe_list.ensures in
+    let found = facts_given promise _ _ e.told _ c.in_ok-d.was in
+    record { told = answers c.args.b.now c.args.work.now found.given (stabilizer promise) _ (stabilizer_told promise _ _ found.facts.stabilizer_is); area = e.area }

@@ -1,5 +1,5 @@
 -- The refusal of the description is told on; else the phases with its step are told.
-use Rattle.std.proofs.Common.{◌∙◌}
+use Rattle.std.proofs.Common.{◌∙◌, ap}
 use Rattle.pauli.specs.Condense.{list_of}
 use Rattle.pauli_theory.specs.Standard.{phases_of}
 use Rattle.pauli_group.specs.Promises.{promise_of}
@@ -7,27 +7,30 @@ use Rattle.pauli_group.specs.Calls.{paulis, phases_call}
 use Rattle.pauli_group.proofs.calls.CallLaws.{facts_none, facts_given, phases_told_lem}
 use Rattle.pauli_group.proofs.group.GroupedLaws.{step_kinds}
 use Rattle.pauli_group.proofs.checks.OneList.{answers, refuses}
+use Rattle.pauli.proofs.refusal.HandedOn.{handed_on}
+use Rattle.pauli.specs.Refusals.{told_by}
+use Rattle.pauli_group.specs.Answers.{phases_told}
 use Rattle.pauli_group.proofs.calls.phases.Goals as goal
 
 pub phases_by-requires : goal.phases_by-requires
 phases_by-requires c =
     let promise = promise_of c.args.promise in
-    let e = c.describe_list-found.ensures in
-    let found = facts_given promise _ _ e.told _ c.in-Description.is in
+    let e = c.describe_list.ensures in
+    let found = facts_given promise _ _ e.told _ c.in_ok-d.was in
     rw found.facts.step_is (step_kinds promise (paulis (list_of c.args.b.now)))
 
-pub returns-in-Refused : goal.returns-in-Refused
+pub returns-in_err-d : goal.returns-in_err-d
 unfolding phases_call
-returns-in-Refused c =
+returns-in_err-d c =
     let promise = promise_of c.args.promise in
-    let e = c.describe_list-found.ensures in
-    let refused = facts_none promise _ _ e.told _ c.in-Refused.is in
-    record { told = refuses c.args.b.now c.args.work.now refused (phases_of promise); area = e.area }
+    let e = c.describe_list.ensures in
+    let refused = facts_none promise _ _ e.told _ c.in_err-d.was in
+    record { told = ap (told_by phases_told) (handed_on _ _ c.from_residual.ensures.1) ∙ refuses c.args.b.now c.args.work.now refused (phases_of promise); area = e.area }
 
-pub returns-in-Description : goal.returns-in-Description
+pub returns : goal.returns
 unfolding phases_call
-returns-in-Description c =
+returns c =
     let promise = promise_of c.args.promise in
-    let e = c.describe_list-found.ensures in
-    let found = facts_given promise _ _ e.told _ c.in-Description.is in
+    let e = c.describe_list.ensures in
+    let found = facts_given promise _ _ e.told _ c.in_ok-d.was in
     record { told = answers c.args.b.now c.args.work.now found.given (phases_of promise) _ (phases_told_lem promise _ c.phases_by.result (c.phases_by.ensures ∙ found.facts.step_is)); area = e.area }

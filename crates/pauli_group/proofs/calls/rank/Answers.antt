@@ -4,20 +4,23 @@ use Rattle.pauli_theory.specs.Standard.{rank}
 use Rattle.pauli_group.specs.Calls.{rank_call}
 use Rattle.pauli_group.proofs.calls.CallLaws.{facts_none, facts_given}
 use Rattle.pauli_group.proofs.checks.OneList.{answers, refuses}
+use Rattle.pauli.proofs.refusal.HandedOn.{handed_on}
+use Rattle.pauli.specs.Refusals.{told_of}
+use Rattle.std.proofs.Common.{ap, ◌∙◌}
 use Rattle.pauli_group.proofs.calls.rank.Goals as goal
 
-pub returns-in-Refused : goal.returns-in-Refused
+pub returns-in_err-d : goal.returns-in_err-d
 unfolding rank_call
-returns-in-Refused c =
+returns-in_err-d c =
     let promise = none in
-    let e = c.describe_list-found.ensures in
-    let refused = facts_none promise _ _ e.told _ c.in-Refused.is in
-    record { told = refuses c.args.b.now c.args.work.now refused rank; area = e.area }
+    let e = c.describe_list.ensures in
+    let refused = facts_none promise _ _ e.told _ c.in_err-d.was in
+    record { told = ap told_of (handed_on _ _ c.from_residual.ensures.1) ∙ refuses c.args.b.now c.args.work.now refused rank; area = e.area }
 
-pub returns-in-Description : goal.returns-in-Description
+pub returns : goal.returns
 unfolding rank_call
-returns-in-Description c =
+returns c =
     let promise = none in
-    let e = c.describe_list-found.ensures in
-    let found = facts_given promise _ _ e.told _ c.in-Description.is in
+    let e = c.describe_list.ensures in
+    let found = facts_given promise _ _ e.told _ c.in_ok-d.was in
     record { told = answers c.args.b.now c.args.work.now found.given rank _ found.facts.rank_is; area = e.area }

@@ -4,33 +4,35 @@ use Rattle.pauli.specs.Told.{Told}
 use Rattle.pauli.specs.Writing.{told_bytes, left_in}
 use Rattle.pauli_group.specs.Calls.{standard_bytes, standard_generators}
 use Rattle.pauli_group.proofs.checks.OneList.{list_given, list_none, answers, area_cleared, refuses, area_kept}
+use Rattle.pauli.proofs.refusal.HandedOn.{handed_on}
+use Rattle.pauli.specs.Refusals.{told_of}
 use Rattle.pauli_group.proofs.calls.standard_generators.Goals as goal
 
-pub returns-in-Refused : goal.returns-in-Refused
+pub returns-in_err-n : goal.returns-in_err-n
 unfolding standard_generators told_bytes left_in
-returns-in-Refused c =
+returns-in_err-n c =
     let b = c.args.b.now in
     let work = c.args.work.now in
     let out = c.args.out.now in
-    let none = list_none _ _ c.check_list-checked.ensures _ c.in-Refused.is in
+    let none = list_none _ _ c.check_list.ensures _ c.in_err-n.was in
     let same = refuses b work none standard_bytes in
     record {
-      told = ap (λ (t : Told (List ℕ)). told_bytes t out) same;
+      told = ap told_of (handed_on _ _ c.from_residual.ensures.1) ∙ ap (λ (t : Told (List ℕ)). told_bytes t out) same;
       left = ap (λ (t : Told (List ℕ)). left_in t out) same;
       area = area_kept b work none;
     }
 
 pub slice_bounds-write_standard-end : goal.slice_bounds-write_standard-end
-slice_bounds-write_standard-end c = (list_given _ _ c.check_list-checked.ensures _ c.in-Count.is).room
+slice_bounds-write_standard-end c = (list_given _ _ c.check_list.ensures _ c.in_ok-n.was).room
 
 pub slice_bounds-write_standard-end-2 : goal.slice_bounds-write_standard-end-2
 slice_bounds-write_standard-end-2 c =
-    let given = list_given _ _ c.check_list-checked.ensures _ c.in-Count.is in
+    let given = list_given _ _ c.check_list.ensures _ c.in_ok-n.was in
     sym (length-take-le 4096 c.args.work.now given.room)
 
 pub write_standard-requires : goal.write_standard-requires
 write_standard-requires c =
-    let given = list_given _ _ c.check_list-checked.ensures _ c.in-Count.is in
+    let given = list_given _ _ c.check_list.ensures _ c.in_ok-n.was in
     (given.count, length-take-le 4096 c.args.work.now given.room)
 
 pub returns : goal.returns
@@ -39,8 +41,8 @@ returns c =
     let b = c.args.b.now in
     let work = c.args.work.now in
     let out = c.args.out.now in
-    let given = list_given _ _ c.check_list-checked.ensures _
-    c.in-Count.is in
+    let given = list_given _ _ c.check_list.ensures _
+    c.in_ok-n.was in
     let same = answers b work given standard_bytes _ refl in
     let written = c.write_standard.ensures in
     record {

@@ -1,5 +1,4 @@
 -- Invariant: the phases below exponent k are appended.
-use Rattle.std.proofs.Common.{◌-◌}
 use Rattle.pauli_group.proofs.common.SharedLaws.{PhasesUpTo}
 use Rattle.pauli_group.proofs.common.append_phases.Given as goal
 

@@ -1,5 +1,4 @@
 -- Invariant: of the first i Paulis those with a shared exponent are kept.
-use Rattle.std.proofs.Common.{◌-◌}
 use Rattle.pauli_group.proofs.common.SharedLaws.{KeptUpTo}
 use Rattle.pauli_group.proofs.common.keep_shared.Given as goal
 

@@ -1,5 +1,5 @@
 -- Invariant: the answer is that from exponent e on.
-use Rattle.std.proofs.Common.{◌-◌, ◌≤◌}
+use Rattle.std.proofs.Common.{◌≤◌}
 use Rattle.pauli_group.proofs.common.SharedLaws.{SharedFrom}
 use Rattle.pauli_group.proofs.common.shared_exponent.Given as goal
 

@@ -3,42 +3,44 @@ use Rattle.pauli_group.proofs.factorization.QuestionLaws.{call_refused, call_non
 use Rattle.pauli_group.proofs.checks.Question.{asking_few, counts_asking, counts_none}
 use Rattle.pauli_group.specs.Inner.Members.{factoring_told}
 use Rattle.std.proofs.Common.{sym, ap, ◌∙◌, arith, length-take-le}
+use Rattle.pauli.proofs.refusal.HandedOn.{handed_on}
 use Rattle.pauli_group.proofs.factorization.indexed_factorization_of.Goals as goal
 
-pub returns-in-Refused : goal.returns-in-Refused
-returns-in-Refused c =
-    call_refused _ _ _ _ _ _ _ (counts_none _ _ _ _ c.check_question-checked.ensures _ c.in-Refused.is)
+pub returns-in_err-counts : goal.returns-in_err-counts
+returns-in_err-counts c =
+    rw (handed_on _ _ c.from_residual.ensures.1)
+    (call_refused _ _ _ _ _ _ _ (counts_none _ _ _ _ c.check_question.ensures _ c.in_err-counts.was))
 
 pub slice_bounds-factor_once-end : goal.slice_bounds-factor_once-end
 slice_bounds-factor_once-end c =
-    (counts_asking _ _ _ _ c.check_question-checked.ensures _ c.in-Counts.is).room
+    (counts_asking _ _ _ _ c.check_question.ensures _ c.in_ok-counts.was).room
 
 pub slice_bounds-factor_once-end-2 : goal.slice_bounds-factor_once-end-2
 slice_bounds-factor_once-end-2 c =
-    let asking = counts_asking _ _ _ _ c.check_question-checked.ensures _ c.in-Counts.is in
+    let asking = counts_asking _ _ _ _ c.check_question.ensures _ c.in_ok-counts.was in
     sym (length-take-le 4096 c.args.work.now asking.room)
 
 pub factor_once-factoring-requires : goal.factor_once-factoring-requires
 factor_once-factoring-requires c =
-    let asking = counts_asking _ _ _ _ c.check_question-checked.ensures _ c.in-Counts.is in
+    let asking = counts_asking _ _ _ _ c.check_question.ensures _ c.in_ok-counts.was in
     (asking.generators, asking.elements, asking.inside, length-take-le 4096 c.args.work.now asking.room)
 
 pub returns-in-NotFound : goal.returns-in-NotFound
 returns-in-NotFound c =
-    let asking = counts_asking _ _ _ _ c.check_question-checked.ensures _ c.in-Counts.is in
+    let asking = counts_asking _ _ _ _ c.check_question.ensures _ c.in_ok-counts.was in
     let factor = c.factor_once-factoring.ensures in
     call_none _ _ _ _ _ _ asking _ factor.area (sym (ap factoring_told c.in-NotFound.is) ∙ factor.told)
 
 pub returns-then-out-count : goal.returns-then-out-count
 returns-then-out-count c =
-    let asking = counts_asking _ _ _ _ c.check_question-checked.ensures _ c.in-Counts.is in
+    let asking = counts_asking _ _ _ _ c.check_question.ensures _ c.in_ok-counts.was in
     let factor = c.factor_once-factoring.ensures in
     let found = sym (ap factoring_told c.in-Found.is) ∙ factor.told in
-    call_short _ _ _ _ _ _ asking _ factor.area _ found (omega (arith, c.weight-count.ensures.0, c.if-out-count.true))
+    rw c.into.ensures (call_short _ _ _ _ _ _ asking _ factor.area _ found (omega (arith, c.weight-count.ensures.0, c.if-out-count.true)))
 
 pub put_indexes-requires : goal.put_indexes-requires
 put_indexes-requires c =
-    let asking = counts_asking _ _ _ _ c.check_question-checked.ensures _ c.in-Counts.is in
+    let asking = counts_asking _ _ _ _ c.check_question.ensures _ c.in_ok-counts.was in
     let factor = c.factor_once-factoring.ensures in
     let found = sym (ap factoring_told c.in-Found.is) ∙ factor.told in (
       asking_few _ _ _ _ asking,
@@ -48,7 +50,7 @@ put_indexes-requires c =
 
 pub returns : goal.returns
 returns c =
-    let asking = counts_asking _ _ _ _ c.check_question-checked.ensures _ c.in-Counts.is in
+    let asking = counts_asking _ _ _ _ c.check_question.ensures _ c.in_ok-counts.was in
     let factor = c.factor_once-factoring.ensures in
     let found = sym (ap factoring_told c.in-Found.is) ∙ factor.told in
     call_found _ _ _ _ _ _ asking _ factor.area _ found _ c.weight-count.ensures.0

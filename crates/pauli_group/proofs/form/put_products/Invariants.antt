@@ -1,5 +1,5 @@
 -- Invariant: the first i products are written.
-use Rattle.std.proofs.Common.{◌-◌, ◌*◌, ◌/◌, ◌^◌, ◌≤◌, take, drop}
+use Rattle.std.proofs.Common.{◌*◌, ◌/◌, ◌^◌, ◌≤◌, take, drop}
 use Rattle.pauli.specs.Signed.{list_in}
 use Rattle.binar.specs.Words.{matrix}
 use Rattle.pauli.specs.Pauli.{indexed_product}

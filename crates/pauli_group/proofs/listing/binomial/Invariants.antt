@@ -1,5 +1,5 @@
 -- Invariant: row i of the triangle.
-use Rattle.std.proofs.Common.{◌-◌, ◌≤◌}
+use Rattle.std.proofs.Common.{◌≤◌}
 use Rattle.pauli_group.specs.Inner.Listed.{RowOf}
 use Rattle.pauli_group.proofs.listing.binomial.Given as goal
 

@@ -5,33 +5,35 @@ use Rattle.pauli.specs.Writing.{told_bytes, left_in}
 use Rattle.pauli_group.specs.Promises.{promise_of}
 use Rattle.pauli_group.proofs.checks.OneList.{list_given, list_none, area_cleared, area_kept}
 use Rattle.pauli_group.proofs.listing.PageLaws.{call_refused, call_answered}
+use Rattle.pauli.proofs.refusal.HandedOn.{handed_on}
+use Rattle.pauli.specs.Refusals.{told_of}
 use Rattle.pauli_group.proofs.listing.elements.Goals as goal
 
-pub returns-in-Refused : goal.returns-in-Refused
+pub returns-in_err-n : goal.returns-in_err-n
 unfolding told_bytes left_in
-returns-in-Refused c =
+returns-in_err-n c =
     let b = c.args.b.now in
     let work = c.args.work.now in
     let out = c.args.out.now in
-    let none = list_none _ _ c.check_list-checked.ensures _ c.in-Refused.is in
+    let none = list_none _ _ c.check_list.ensures _ c.in_err-n.was in
     let same = sym (call_refused (promise_of c.args.promise) c.args.start c.args.count b _ _ _ none) in
     record {
-      told = ap (λ (t : Told (List ℕ)). told_bytes t out) same;
+      told = ap told_of (handed_on _ _ c.from_residual.ensures.1) ∙ ap (λ (t : Told (List ℕ)). told_bytes t out) same;
       left = ap (λ (t : Told (List ℕ)). left_in t out) same;
       area = area_kept b work none;
     }
 
 pub slice_bounds-write_page-end : goal.slice_bounds-write_page-end
-slice_bounds-write_page-end c = (list_given _ _ c.check_list-checked.ensures _ c.in-Count.is).room
+slice_bounds-write_page-end c = (list_given _ _ c.check_list.ensures _ c.in_ok-n.was).room
 
 pub slice_bounds-write_page-end-2 : goal.slice_bounds-write_page-end-2
 slice_bounds-write_page-end-2 c =
-    let given = list_given _ _ c.check_list-checked.ensures _ c.in-Count.is in
+    let given = list_given _ _ c.check_list.ensures _ c.in_ok-n.was in
     sym (length-take-le 4096 c.args.work.now given.room)
 
 pub write_page-requires : goal.write_page-requires
 write_page-requires c =
-    let given = list_given _ _ c.check_list-checked.ensures _ c.in-Count.is in
+    let given = list_given _ _ c.check_list.ensures _ c.in_ok-n.was in
     (given.count, length-take-le 4096 c.args.work.now given.room)
 
 pub returns : goal.returns
@@ -39,7 +41,7 @@ returns c =
     let b = c.args.b.now in
     let work = c.args.work.now in
     let out = c.args.out.now in
-    let given = list_given _ _ c.check_list-checked.ensures _ c.in-Count.is in
+    let given = list_given _ _ c.check_list.ensures _ c.in_ok-n.was in
     let same = sym (call_answered (promise_of c.args.promise) c.args.start c.args.count b _ _ given.told) in
     let written = c.write_page.ensures in
     record {

@@ -1,5 +1,5 @@
 -- Invariant: the first i elements are written.
-use Rattle.std.proofs.Common.{◌-◌, ◌≤◌}
+use Rattle.std.proofs.Common.{◌≤◌}
 use Rattle.pauli_group.proofs.listing.PageLaws.{Listed}
 use Rattle.pauli_group.proofs.listing.put_elements.Given as goal
 

@@ -8,6 +8,7 @@ use Rattle.pauli.specs.Writing.{told_bytes, left_in}
 use Rattle.pauli_group.proofs.group.GroupedLaws.{cleared_whole, group_total, group_places}
 use Rattle.pauli_group.proofs.member.FactorLaws.{places_known}
 use Rattle.pauli_group.proofs.listing.PageLaws.{signs_step, signs_some, signs_few, page_places, page_written, page_refused, page_answered}
+use Rattle.pauli.specs.Refusals.{told_refusal}
 use Rattle.pauli_group.proofs.listing.write_page.Goals as goal
 
 pub group_of-g-requires : goal.group_of-g-requires
@@ -19,7 +20,7 @@ returns-then-g-gt-MOST_LISTED c =
     let group = c.group_of-g in
     let pre = c.requires in
     let out = c.args.out.now in
-    let same = sym (page_refused (promise_of c.args.promise) c.args.start c.args.count (paulis (list_of c.args.b.now)) (rw (← group.ensures.group.rank_is) c.if-g-gt-MOST_LISTED.true)) in record { told = ap (λ (t : Told (List ℕ)). told_bytes t out) same; left = ap (λ (t : Told (List ℕ)). left_in t out) same; area = c.clear_bits.ensures ∙ cleared_whole _ _ (group.auto.w ∙ pre.1) pre.1 }
+    let same = sym (page_refused (promise_of c.args.promise) c.args.start c.args.count (paulis (list_of c.args.b.now)) (rw (← group.ensures.group.rank_is) c.if-g-gt-MOST_LISTED.true)) in record { told = ap told_refusal c.into.ensures ∙ ap (λ (t : Told (List ℕ)). told_bytes t out) same; left = ap (λ (t : Told (List ℕ)). left_in t out) same; area = c.clear_bits.ensures ∙ cleared_whole _ _ (group.auto.w ∙ pre.1) pre.1 }
 
 pub signs_of-signs-requires : goal.signs_of-signs-requires
 signs_of-signs-requires c =

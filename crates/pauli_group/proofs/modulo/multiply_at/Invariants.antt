@@ -1,5 +1,5 @@
 -- Invariant: the first i Paulis are multiplied, those behind stand as they were.
-use Rattle.std.proofs.Common.{◌-◌, ◌*◌, ◌≤◌}
+use Rattle.std.proofs.Common.{◌*◌, ◌≤◌}
 use Rattle.pauli.specs.Pauli.{normal}
 use Rattle.pauli.specs.Signed.{held, list_in}
 use Rattle.pauli_theory.specs.Inner.ModuloPlaces.{multiplied_at}

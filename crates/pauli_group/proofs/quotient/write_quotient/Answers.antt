@@ -4,6 +4,7 @@ use Rattle.pauli_group.specs.WorkArea.{cleared}
 use Rattle.pauli_group.proofs.group.GroupedLaws.{cleared_whole}
 use Rattle.pauli_group.proofs.quotient.QuotientLaws.{swapped, quotient_none, quotient_some}
 use Rattle.std.proofs.Common.{not}
+use Rattle.pauli.specs.Refusals.{told_refusal}
 use Rattle.pauli_group.proofs.quotient.write_quotient.Goals as goal
 
 pub order_of-order-requires : goal.order_of-order-requires
@@ -18,7 +19,7 @@ shape_of-w-then-not-is_below c = c.clear_bits.auto.w ∙ c.order_of-order.auto.w
 pub returns-then-not-is_below : goal.returns-then-not-is_below
 unfolding told_bytes left_in
 returns-then-not-is_below c =
-    let none = quotient_none _ _ _ _ _ c.order_of-order.ensures _ c.is_below.ensures (ap not c.if-not-is_below.true) in record { told = sym (ap (λ t. told_bytes t c.args.out.now) none); left = sym (ap (λ t. left_in t c.args.out.now) none); area = c.clear_bits.ensures ∙ cleared_whole _ c.args.w.now (c.order_of-order.auto.w ∙ c.requires.1) c.requires.1 }
+    let none = quotient_none _ _ _ _ _ c.order_of-order.ensures _ c.is_below.ensures (ap not c.if-not-is_below.true) in record { told = ap told_refusal c.into.ensures ∙ sym (ap (λ t. told_bytes t c.args.out.now) none); left = sym (ap (λ t. left_in t c.args.out.now) none); area = c.clear_bits.ensures ∙ cleared_whole _ c.args.w.now (c.order_of-order.auto.w ∙ c.requires.1) c.requires.1 }
 
 pub write_modulo-requires : goal.write_modulo-requires
 write_modulo-requires c = (c.requires.0, c.order_of-order.auto.w ∙ c.requires.1)

@@ -1,5 +1,5 @@
 -- Invariant: the first i rows are written, and the list behind the rows is as it was.
-use Rattle.std.proofs.Common.{◌-◌, ◌≤◌}
+use Rattle.std.proofs.Common.{◌≤◌}
 use Rattle.pauli_group.proofs.rows.RowLaws.{RowsUpTo}
 use Rattle.pauli_group.proofs.rows.put_rows.Given as goal
 

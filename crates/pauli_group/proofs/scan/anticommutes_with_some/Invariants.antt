@@ -1,5 +1,4 @@
 -- Invariant: the answer is that for the Paulis from number i on.
-use Rattle.std.proofs.Common.{◌-◌}
 use Rattle.pauli.specs.Signed.{held}
 use Rattle.pauli_theory.specs.Standard.{anticommutes_with_some}
 use Rattle.pauli_group.proofs.scan.ScanLaws.{From}

@@ -1,5 +1,4 @@
 -- Invariant: the modulus is m or that of the Paulis from number i on, whichever is less.
-use Rattle.std.proofs.Common.{◌-◌}
 use Rattle.pauli_group.proofs.scan.PhaseLaws.{Lowered}
 use Rattle.pauli_group.proofs.scan.modulus_of.Given as goal
 

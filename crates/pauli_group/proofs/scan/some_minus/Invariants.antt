@@ -1,5 +1,4 @@
 -- Invariant: the answer is that for the Paulis from number i on.
-use Rattle.std.proofs.Common.{◌-◌}
 use Rattle.pauli_theory.specs.Standard.{some_minus}
 use Rattle.pauli_group.proofs.scan.ScanLaws.{From}
 use Rattle.pauli_group.proofs.scan.some_minus.Given as goal

@@ -1,5 +1,4 @@
 -- Invariant: the first i Paulis have their phases mod m, and the rest is as it was.
-use Rattle.std.proofs.Common.{◌-◌}
 use Rattle.pauli_group.proofs.scan.PhaseLaws.{Taken}
 use Rattle.pauli_group.proofs.scan.take_mod.Given as goal
 

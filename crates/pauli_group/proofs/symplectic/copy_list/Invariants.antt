@@ -1,5 +1,5 @@
 -- Invariant: the first i Paulis are copied.
-use Rattle.std.proofs.Common.{◌-◌, ◌≤◌}
+use Rattle.std.proofs.Common.{◌≤◌}
 use Rattle.pauli.specs.Pauli.{normal}
 use Rattle.pauli.specs.Signed.{list_in}
 use Rattle.pauli_group.proofs.list.ListLaws.{StoredUpTo}

@@ -1,5 +1,4 @@
 -- Invariant: the first that anticommutes is the first from number i on.
-use Rattle.std.proofs.Common.{◌-◌}
 use Rattle.pauli.specs.Signed.{held}
 use Rattle.pauli_group.proofs.symplectic.PairLaws.{FirstFrom}
 use Rattle.pauli_group.proofs.symplectic.first_anticommuting.Given as goal

@@ -20,4 +20,4 @@ pub returns : goal.returns
 returns c =
     let total = c.numbers_of.ensures in
     let g = own_gathered c.args.b.now c.args.n c.requires _ total _ (rw c.new-known.ensures at c.gather.ensures) in
-    c.len.ensures.0 ∙ places_are _ _ g (own_few c.args.b.now c.args.n c.requires)
+    c.len.ensures ∙ places_are _ _ g (own_few c.args.b.now c.args.n c.requires)

@@ -1,38 +1,41 @@
 -- The refusal of the checks is told on; else the sizes.
 use Rattle.std.proofs.Common.{sym, ap, ◌∙◌, arith}
-use Rattle.pauli.specs.JoinAnswers.{told_counts}
 use Rattle.pauli.specs.Roll.{most_paulis}
 use Rattle.pauli.proofs.joined.JoinLaws.{counts_joining}
 use Rattle.sizes.proofs.joined.SizesLaws.{sizes_refused, sizes_told}
+use Rattle.pauli.specs.JoinAnswers.{counts_in}
+use Rattle.pauli.specs.Refusals.{told_by}
+use Rattle.pauli.proofs.refusal.HandedOn.{handed_on}
+use Rattle.sizes.specs.Answers.{sizes_in}
 use Rattle.sizes.proofs.joined.joined_sizes.Goals as goal
 
-pub returns-in-Refused : goal.returns-in-Refused
-returns-in-Refused c =
-    let told = sym c.joined_counts-found.ensures ∙ ap told_counts c.in-Refused.is in
-    record { told = sizes_refused c.args.left.now c.args.right.now _ _ told }
+pub returns-in_err-counts : goal.returns-in_err-counts
+returns-in_err-counts c =
+    let told = sizes_refused c.args.left.now c.args.right.now _ _ (sym c.in_err-counts.ensures) in
+    record { told = ap (told_by sizes_in) (handed_on _ _ c.from_residual.ensures.1) ∙ told }
 
 pub joined_bytes-bytes-requires : goal.joined_bytes-bytes-requires
 joined_bytes-bytes-requires c =
-    let told = sym c.joined_counts-found.ensures ∙ ap told_counts c.in-Counts.is in
+    let told = sym c.in_ok-counts.ensures in
     let j = counts_joining c.args.left.now c.args.right.now _ told in
     (j.left, j.right)
 
 pub overflow_add-count : goal.overflow_add-count
 unfolding most_paulis
 overflow_add-count c =
-    let told = sym c.joined_counts-found.ensures ∙ ap told_counts c.in-Counts.is in
+    let told = sym c.in_ok-counts.ensures in
     let j = counts_joining c.args.left.now c.args.right.now _ told in
     omega (arith, j.few)
 
 pub joined_qubits-qubits-requires : goal.joined_qubits-qubits-requires
 joined_qubits-qubits-requires c =
-    let told = sym c.joined_counts-found.ensures ∙ ap told_counts c.in-Counts.is in
+    let told = sym c.in_ok-counts.ensures in
     let j = counts_joining c.args.left.now c.args.right.now _ told in
     (j.left, j.right)
 
 pub returns : goal.returns
 returns c =
-    let told = sym c.joined_counts-found.ensures ∙ ap told_counts c.in-Counts.is in
+    let told = sym c.in_ok-counts.ensures in
     let j = counts_joining c.args.left.now c.args.right.now _ told in
     let bytes = c.joined_bytes-bytes.ensures in
     record { told = sizes_told c.args.left.now c.args.right.now _ _ j _ _ bytes c.joined_qubits-qubits.ensures }

@@ -3,26 +3,29 @@ use Rattle.pauli_group.specs.Promises.{promise_of}
 use Rattle.pauli_group.proofs.calls.CallLaws.{facts_none, facts_given}
 use Rattle.pauli_group.proofs.group.GroupedLaws.{step_kinds}
 use Rattle.sizes.proofs.page.PageLaws.{page_refused, page_told_lem}
+use Rattle.pauli.proofs.refusal.HandedOn.{handed_on}
+use Rattle.pauli.specs.Refusals.{told_of}
+use Rattle.std.proofs.Common.{ap, ◌∙◌}
 use Rattle.sizes.proofs.page.page_size.Goals as goal
 
 pub page_of-requires : goal.page_of-requires
 page_of-requires c =
-    let e = c.describe_list-found.ensures in
-    let found = facts_given (promise_of c.args.promise) _ _ e.told _ c.in-Description.is in
+    let e = c.describe_list.ensures in
+    let found = facts_given (promise_of c.args.promise) _ _ e.told _ c.in_ok-d.was in
     (rw found.facts.step_is (step_kinds _ _).0, rw found.facts.step_is (step_kinds _ _).1)
 
-pub returns-in-Refused : goal.returns-in-Refused
-returns-in-Refused c =
+pub returns-in_err-d : goal.returns-in_err-d
+returns-in_err-d c =
     let promise = promise_of c.args.promise in
-    let e = c.describe_list-found.ensures in
-    let none = facts_none promise _ _ e.told _ c.in-Refused.is in
-    record { told = page_refused promise c.args.start c.args.count c.args.b.now _ _ _ none; area = e.area }
+    let e = c.describe_list.ensures in
+    let none = facts_none promise _ _ e.told _ c.in_err-d.was in
+    record { told = ap told_of (handed_on _ _ c.from_residual.ensures.1) ∙ page_refused promise c.args.start c.args.count c.args.b.now _ _ _ none; area = e.area }
 
-pub returns-in-Description : goal.returns-in-Description
-returns-in-Description c =
+pub returns : goal.returns
+returns c =
     let promise = promise_of c.args.promise in
-    let e = c.describe_list-found.ensures in
-    let found = facts_given promise _ _ e.told _ c.in-Description.is in
+    let e = c.describe_list.ensures in
+    let found = facts_given promise _ _ e.told _ c.in_ok-d.was in
     let facts = found.facts in
     record {
       told =

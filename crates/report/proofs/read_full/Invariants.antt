@@ -1,6 +1,6 @@
 -- What was read lies in the slice.
 use Rattle.std.proofs.Common.{◌-◌, ◌≤◌, length}
-use Rattle.report.proofs.read_to_end.Given as goal
+use Rattle.report.proofs.read_full.Given as goal
 
 abbrev pub invariant-loop-done : goal.invariant-loop-done
 invariant-loop-done g l = l.done ≤ length l.bytes
