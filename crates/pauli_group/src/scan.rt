@@ -56,7 +56,7 @@ fn anticommutes_with_some(w: &[u64], base: usize, n: usize, p: Pauli) -> u64
     ensures { result ≡ anticommutes_with_some_spec (held p) (list_in w.now base n) }
 {
     for i in 0..n {
-        if p.anticommutes(load(w, base + 5 * i)) == 1 {
+        if p.anticommutes(load(w, base + 5 * i)) {
             return 1;
         }
     }

@@ -26,8 +26,8 @@ overflow_add-to c = omega arith
 pub move_pauli-requires : goal.move_pauli-requires
 move_pauli-requires c =
     let l = c.loop-i in
-    let m = kept_movable _ _ _ _ _ _ _ l.invariant.1.rest c.requires.0 c.loop-i-test.true _ _ _ c.requires.6 c.requires.7 _ c.load-p.ensures in
-    (c.requires.2, c.requires.3, c.requires.4, c.requires.5, m.0, m.1, m.2)
+    let m = kept_movable _ _ _ _ _ _ _ l.invariant.1.rest c.requires.0 c.loop-i-test.true _ _ _ c.requires.4 c.requires.5 _ c.load-p.ensures in
+    (c.requires.2, c.requires.3, m.0, m.1, m.2)
 
 pub store-requires : goal.store-requires
 store-requires c = omega (arith, c.loop-i.invariant.1.rest.size, c.requires.1)

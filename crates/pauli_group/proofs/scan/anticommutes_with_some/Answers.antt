@@ -1,4 +1,5 @@
-use Rattle.std.proofs.Common.{◌∙◌, arith}
+use Rattle.std.proofs.Common.{◌∙◌, arith, sym, eqb-true}
+use borrow.Author.Tests.{eqb-false}
 use Rattle.pauli.specs.Signed.{held}
 use Rattle.pauli.proofs.signed.SignedLaws.{zero_bit}
 use Rattle.pauli.proofs.signed.Algebra.{anticommute_lt}
@@ -18,17 +19,17 @@ overflow_add-base c = omega arith
 pub load-requires : goal.load-requires
 load-requires c = omega arith
 
-pub returns-then-anticommutes-eq1 : goal.returns-then-anticommutes-eq1
-returns-then-anticommutes-eq1 c =
+pub returns-then-anticommutes : goal.returns-then-anticommutes
+returns-then-anticommutes c =
     let load = c.load in
     from_hit (with_some_lem (held c.args.p)) c.loop-i.invariant c.loop-i-test.true load.result load.ensures
-    (omega (arith, c.anticommutes.ensures, c.if-anticommutes-eq1.true))
+    (omega (arith, eqb-true _ 1 (sym c.anticommutes.ensures ∙ c.if-anticommutes.true)))
 
 pub loop-i-preserved : goal.loop-i-preserved
 loop-i-preserved c =
     let load = c.load in
     from_miss (with_some_lem (held c.args.p)) c.loop-i.invariant c.loop-i-test.true load.result load.ensures
-    (zero_bit _ (anticommute_lt _ _) (λ e. c.if-anticommutes-eq1.false (c.anticommutes.ensures ∙ e)))
+    (zero_bit _ (anticommute_lt _ _) (eqb-false _ 1 (sym c.anticommutes.ensures ∙ c.if-anticommutes.false)))
 
 pub returns : goal.returns
 returns c = from_end (with_some_lem (held c.args.p)) c.loop-i.invariant c.loop-i-test.false

@@ -1,4 +1,5 @@
-use Rattle.std.proofs.Common.{sym, ◌∙◌, arith}
+use Rattle.std.proofs.Common.{sym, ◌∙◌, arith, eqb-true}
+use borrow.Author.Tests.{eqb-false}
 use Rattle.pauli.proofs.signed.SignedLaws.{zero_bit}
 use Rattle.pauli.proofs.signed.Algebra.{anticommute_lt}
 use Rattle.pauli_group.proofs.symplectic.PairLaws.{first_start, first_hit, first_miss, first_end}
@@ -19,14 +20,14 @@ load-requires c = omega arith
 pub anticommutes-requires : goal.anticommutes-requires
 anticommutes-requires c = omega arith
 
-pub returns-then-anticommutes-eq1 : goal.returns-then-anticommutes-eq1
-returns-then-anticommutes-eq1 c = let load = c.load in
-    first_hit c.loop-i.invariant c.loop-i-test.true load.result load.ensures (sym c.anticommutes.ensures ∙ c.if-anticommutes-eq1.true)
+pub returns-then-anticommutes : goal.returns-then-anticommutes
+returns-then-anticommutes c = let load = c.load in
+    first_hit c.loop-i.invariant c.loop-i-test.true load.result load.ensures (eqb-true _ 1 (sym c.anticommutes.ensures ∙ c.if-anticommutes.true))
 
 pub loop-i-preserved : goal.loop-i-preserved
 loop-i-preserved c = let load = c.load in
     first_miss c.loop-i.invariant c.loop-i-test.true load.result load.ensures
-    (zero_bit _ (anticommute_lt _ _) (λ e. c.if-anticommutes-eq1.false (c.anticommutes.ensures ∙ e)))
+    (zero_bit _ (anticommute_lt _ _) (eqb-false _ 1 (sym c.anticommutes.ensures ∙ c.if-anticommutes.false)))
 
 pub returns : goal.returns
 returns c = first_end c.loop-i.invariant c.loop-i-test.false

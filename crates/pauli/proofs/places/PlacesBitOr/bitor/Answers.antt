@@ -2,7 +2,7 @@
 use Rattle.pauli.proofs.places.Halves.{or_halves}
 use Rattle.pauli.specs.PlaceSet.{set_in}
 use Rattle.std.proofs.Common.{arith}
-use Rattle.pauli.proofs.places.Places.bitor.Goals as goal
+use Rattle.pauli.proofs.places.PlacesBitOr.bitor.Goals as goal
 
 pub returns : goal.returns
 unfolding set_in
