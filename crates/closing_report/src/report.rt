@@ -22,7 +22,7 @@ use crate::stored::{store_member, store_other};
 use binar::row::clear_bits;
 use pauli::refusal::{Reason, Refusal};
 use pauli::roll::check_roll;
-use pauli::support::MOST_QUBITS;
+use pauli::support::Support;
 use pauli_group::answers::Phases;
 use pauli_group::area::{FURTHER, WORK_WORDS};
 use pauli_group::group::{Group, group_of};
@@ -77,10 +77,10 @@ fn write_report(
     ensures told { told_of result ≡ told_bytes (answer (report (paulis (list_of b.now)) (paulis (list_of elements.now)))) out.old }
     ensures left { out.new ≡ left_in (answer (report (paulis (list_of b.now)) (paulis (list_of elements.now)))) out.old }
 {
-    let mut known = [0u32; MOST_QUBITS + 1];
+    let mut known = Support::new();
     let g = group_of(b, n, &mut known, w);
     let signs = signs_of(w, g.total, Promise::None);
-    factor_all(elements, m, &known, n, g, signs.phases, w);
+    factor_all(elements, m, known.qubits(), n, g, signs.phases, w);
     write_listing(g.rank, signs, w, FURTHER, m, out)
 }
 

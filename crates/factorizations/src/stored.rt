@@ -14,7 +14,7 @@ ghost use Rattle.pauli_group.specs.Inner.Members.{factoring_told, Asked};
 ghost use Rattle.factorizations.specs.Stored.{result_in, put_member, put_other, stored_in, Storable, Stored};
 
 use pauli::places::Places;
-use pauli::support::MOST_QUBITS;
+use pauli::support::Support;
 use pauli_group::answers::Phases;
 use pauli_group::area::FURTHER;
 use pauli_group::group::{Description, Group, group_of};
@@ -105,10 +105,10 @@ pub fn factor_rolls(
     ensures told { facts_in result ≡ facts_of (promise_of promise) (paulis (list_of b.now)) }
     ensures results { stored_in w.new further_at m ≡ map (factorization_of (promise_of promise) (paulis (list_of b.now))) (paulis (list_of elements.now)) }
 {
-    let mut known = [0u32; MOST_QUBITS + 1];
+    let mut known = Support::new();
     let g = group_of(b, n, &mut known, w);
     let signs = signs_of(w, g.total, promise);
-    factor_all(elements, m, &known, n, g, signs.phases, w);
+    factor_all(elements, m, known.qubits(), n, g, signs.phases, w);
     Description {
         rank: g.rank,
         signs,

@@ -1,7 +1,7 @@
--- The known qubit numbers: the first numbers of a slice, rising, with room for one more than a list may have.
+-- The known qubit numbers, rising: at most one more than a list may have.
 use Rattle.std.specs.Prelude.{◌≡◌, ℕ, suc, ◌≤◌, min, Bool, cond, not, List, [], ◌∷◌, ◌++◌, length, take, drop, ◌==◌, nat_lt}
 use mathlib.Core.List.{Memᴰ as Mem}
-use Rattle.pauli.specs.Support.{most_qubits, insert, Rising}
+use Rattle.pauli.specs.Support.{most_qubits, Rising}
 
 -- the first place whose number passes the test, or the list's length
 unfoldable pub first_place : (ℕ → Bool) → List ℕ → ℕ
@@ -20,22 +20,13 @@ put_at i q l = take i l ++ q ∷ drop i l
 unfoldable pub inserted_at : List ℕ → ℕ → ℕ → ℕ → List ℕ
 inserted_at l n i q = put_at i q (take n l) ++ drop (suc n) l
 
--- once q is noted in the slice `old`, of which n numbers are known: the slice is `new`, m numbers are known, p is the place past
--- q, and the rest of the slice is as it was
-pub record Noted (q n : ℕ) (old new : List ℕ) (m p : ℕ) : Type 0 where
-  pub known : take m new ≡ insert q (take n old)
-  pub count : m ≡ length (insert q (take n old))
-  pub next : p ≡ suc (lower q (take n old))
-  pub rest : drop m new ≡ drop m old
-
--- once the numbers S are gathered, at most one more than a list may have: the slice was `old` and is `new`, m numbers are known,
--- rising, each one of S, and they are S if no more than a list may have; the rest of the slice is as it was
-pub record Gathered (S old new : List ℕ) (m : ℕ) : Type 0 where
-  pub count : m ≡ min (length S) (suc most_qubits)
-  pub known : length S ≤ most_qubits → take m new ≡ S
-  pub among : (q : ℕ) → Mem q (take m new) → Mem q S
-  pub rises : Rising 0 (take m new)
-  pub rest : drop m new ≡ drop m old
+-- once the numbers S are gathered, at most one more than a list may have: those in qs are known, rising, each one of S, and they
+-- are S if no more than a list may have
+pub record Gathered (S qs : List ℕ) : Type 0 where
+  pub count : length qs ≡ min (length S) (suc most_qubits)
+  pub known : length S ≤ most_qubits → qs ≡ S
+  pub among : (q : ℕ) → Mem q qs → Mem q S
+  pub rises : Rising 0 qs
 
 -- "A qubit's number and its place in the support are two counters, as in `condense` and `expand`": the place of qubit q, which is
 -- the support's length if q is not in it; the qubit at place i is `get_or support i 0`

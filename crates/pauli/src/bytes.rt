@@ -2,19 +2,12 @@
 ghost use Rattle.std.specs.Prelude.{◌≡◌, ◌+◌, ◌<◌, length};
 ghost use Rattle.pauli.specs.Bytes.{u16_at as u16_at_spec, u32_at};
 
-// A byte as a number.
-fn wide(x: u8) -> u32
-    ensures { (result ≡ x) × (result < 256) }
-{
-    x as u32
-}
-
 // The number that the two bytes from byte i on write.
 pub(crate) fn u16_at(b: &[u8], i: usize) -> usize
     requires { i + 1 < length b.now }
     ensures { (result ≡ u16_at_spec b.now i) × (result < 65536) }
 {
-    (wide(b[i]) + 256 * wide(b[i + 1])) as usize
+    u16::from_le_bytes([b[i], b[i + 1]]) as usize
 }
 
 // The number that the four bytes from byte i on write.
@@ -22,5 +15,5 @@ pub fn u32_at(b: &[u8], i: usize) -> u32
     requires { i + 3 < length b.now }
     ensures { result ≡ u32_at b.now i }
 {
-    wide(b[i]) + 256 * wide(b[i + 1]) + 65536 * wide(b[i + 2]) + 16777216 * wide(b[i + 3])
+    u32::from_le_bytes([b[i], b[i + 1], b[i + 2], b[i + 3]])
 }

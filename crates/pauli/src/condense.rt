@@ -1,5 +1,5 @@
 // Paulis of a roll over the places of a support.
-ghost use Rattle.std.specs.Prelude.{◌≡◌, ◌+◌, ◌*◌, ◌^◌, ◌<◌, ◌≤◌, length, take, bit_or, slice_index_or};
+ghost use Rattle.std.specs.Prelude.{◌≡◌, ◌+◌, ◌*◌, ◌^◌, ◌<◌, ◌≤◌, length, bit_or, slice_index_or};
 ghost use Rattle.pauli.specs.Bytes.{numbers_at};
 ghost use Rattle.pauli.specs.Sets.{set_of, condense, pauli_of};
 ghost use Rattle.pauli.specs.Signed.{held};
@@ -31,15 +31,15 @@ pub fn with_place(set: Places, p: Place) -> Places
 }
 
 // The places of the rising numbers from byte at on, total of them.
-fn places_of(b: &[u8], at: usize, total: usize, support: &[u32], count: usize) -> Places
-    requires { (at + 4 * total ≤ length b.now) × (count ≤ 128) × (count ≤ length support.now) × Covered (numbers_at b.now at total) (take count support.now) }
-    ensures { set_in result ≡ condense (take count support.now) (set_of (numbers_at b.now at total)) }
+fn places_of(b: &[u8], at: usize, total: usize, support: &[u32]) -> Places
+    requires { (at + 4 * total ≤ length b.now) × (length support.now ≤ 128) × Covered (numbers_at b.now at total) support.now }
+    ensures { set_in result ≡ condense support.now (set_of (numbers_at b.now at total)) }
 {
     let mut set = Places::none();
     let mut from = Place(0);
     for k in 0..total {
         let q = Qubit(u32_at(b, at + 4 * k));
-        let place = place_from(support, count, from, q);
+        let place = place_from(support, from, q);
         set = with_place(set, place);
         from = Place(place.0 + 1);
     }
@@ -47,14 +47,14 @@ fn places_of(b: &[u8], at: usize, total: usize, support: &[u32], count: usize) -
 }
 
 // Pauli i of a roll over the places of a support that has its qubits.
-pub fn condense_from(b: &[u8], n: usize, i: usize, support: &[u32], count: usize) -> Pauli
-    requires { Readable b.now n i (take count support.now) × (count ≤ 128) × (count ≤ length support.now) }
-    ensures { held result ≡ condensed (take count support.now) (pauli_of (slice_index_or (list_of b.now) i nothing)) }
+pub fn condense_from(b: &[u8], n: usize, i: usize, support: &[u32]) -> Pauli
+    requires { Readable b.now n i support.now × (length support.now ≤ 128) }
+    ensures { held result ≡ condensed support.now (pauli_of (slice_index_or (list_of b.now) i nothing)) }
 {
     let e = entry_at(b, i);
     let at = 2 + 10 * n + 4 * e.start;
-    let x = places_of(b, at, e.xcount, support, count);
-    let z = places_of(b, at + 4 * e.xcount, e.zcount, support, count);
+    let x = places_of(b, at, e.xcount, support);
+    let z = places_of(b, at + 4 * e.xcount, e.zcount, support);
     Pauli {
         exponent: e.exponent,
         x: x,

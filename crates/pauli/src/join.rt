@@ -36,13 +36,8 @@ fn copy_bodies(out: &mut [u8], at: usize, b: &[u8], n: usize)
     requires { (count_of b.now ≡ answer n) × (at + 4 * length (numbers (list_of b.now)) ≤ length out.old) }
     ensures { out.new ≡ put_bytes out.old at (bodies (list_of b.now)) }
 {
-    let start = 2 + 10 * n;
-    let end = start + 4 * numbers_of(b, n);
-    let mut to = at;
-    for k in start..end {
-        out[to] = b[k];
-        to += 1;
-    }
+    let bodies = &b[2 + 10 * n..];
+    out[at..at + bodies.len()].copy_from_slice(bodies);
 }
 
 // Writes the roll of two accepted rolls of nl and nr Paulis joined.

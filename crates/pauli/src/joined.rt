@@ -1,5 +1,5 @@
 // Two rolls joined: left's Paulis, then right's.
-ghost use Rattle.std.specs.Prelude.{◌≡◌, suc, ◌+◌, ◌*◌, ◌<◌, min, ◌++◌, length};
+ghost use Rattle.std.specs.Prelude.{◌≡◌, suc, ◌+◌, ◌*◌, min, ◌++◌, length};
 ghost use Rattle.pauli.specs.Roll.{numbers, support, count_of, write};
 ghost use Rattle.pauli.specs.Support.{most_qubits};
 ghost use Rattle.pauli.specs.Told.{answer};
@@ -11,7 +11,7 @@ ghost use Rattle.pauli.specs.Refusals.{told_by};
 
 use crate::refusal::{Reason, Refusal};
 use crate::roll::{MOST_PAULIS, check_roll};
-use crate::support::{MOST_QUBITS, gather};
+use crate::support::{MOST_QUBITS, Support};
 
 // How many Paulis each of two rolls has.
 #[derive(Clone, Copy)]
@@ -28,13 +28,15 @@ pub fn numbers_of(b: &[u8], n: usize) -> usize
     (b.len() - (2 + 10 * n)) / 4
 }
 
-// Gathers the support of two accepted rolls of nl and nr Paulis; tells how many qubits are known.
-pub fn join_support(left: &[u8], nl: usize, right: &[u8], nr: usize, known: &mut [u32]) -> usize
-    requires { (count_of left.now ≡ answer nl) × (count_of right.now ≡ answer nr) × (most_qubits < length known.old) }
-    ensures { Gathered (support (list_of left.now ++ list_of right.now)) known.old known.new result }
+// Gathers the support of two accepted rolls of nl and nr Paulis.
+pub fn join_support(left: &[u8], nl: usize, right: &[u8], nr: usize) -> Support
+    requires { (count_of left.now ≡ answer nl) × (count_of right.now ≡ answer nr) }
+    ensures { Gathered (support (list_of left.now ++ list_of right.now)) result }
 {
-    let first = gather(left, 2 + 10 * nl, numbers_of(left, nl), known, 0);
-    gather(right, 2 + 10 * nr, numbers_of(right, nr), known, first)
+    let mut support = Support::new();
+    support.gather(left, 2 + 10 * nl, numbers_of(left, nl));
+    support.gather(right, 2 + 10 * nr, numbers_of(right, nr));
+    support
 }
 
 // How many bytes the roll of two accepted rolls of nl and nr Paulis joined has.
@@ -50,8 +52,7 @@ pub fn joined_qubits(left: &[u8], nl: usize, right: &[u8], nr: usize) -> usize
     requires { (count_of left.now ≡ answer nl) × (count_of right.now ≡ answer nr) }
     ensures { result ≡ min (length (support (list_of left.now ++ list_of right.now))) (suc most_qubits) }
 {
-    let mut known = [0u32; MOST_QUBITS + 1];
-    join_support(left, nl, right, nr, &mut known)
+    join_support(left, nl, right, nr).len()
 }
 
 // Checks two rolls, then the limits of the joined list.

@@ -4,6 +4,7 @@ ghost use Rattle.binar.specs.Row.{◌⊕◌, bit, dot, weight as weight_of};
 ghost use Rattle.pauli.specs.PlaceSet.{set_in, first_from as first_from_spec};
 
 use crate::support::Place;
+use std::ops::{BitOr, BitXor};
 
 // A set of at most 128 places: place p is bit p % 64 of low, or of high from 64 on.
 #[derive(Clone, Copy)]
@@ -19,16 +20,16 @@ impl Places {
         Places { low: 0, high: 0 }
     }
 
-    // 1 where the place is in the set, else 0.
-    pub fn index(self, p: Place) -> u64
+    // Whether the place is in the set.
+    pub fn contains(self, p: Place) -> bool
         requires { p.0 < 128 }
-        ensures { result ≡ bit (set_in self) p.0 }
+        ensures { result ≡ (bit (set_in self) p.0 == 1) }
     {
         let i = p.0;
         if i < 64 {
-            return (self.low >> i) % 2;
+            return (self.low >> i) % 2 == 1;
         }
-        (self.high >> (i - 64)) % 2
+        (self.high >> (i - 64)) % 2 == 1
     }
 
     // The first place of the set from p on, or 128.
@@ -53,26 +54,6 @@ impl Places {
         Place(128)
     }
 
-    // The places in one of the two sets and not in the other.
-    pub fn bitxor(self, other: Places) -> Places
-        ensures { set_in result ≡ set_in self ⊕ set_in other }
-    {
-        Places {
-            low: self.low ^ other.low,
-            high: self.high ^ other.high,
-        }
-    }
-
-    // The places in either set.
-    pub fn bitor(self, other: Places) -> Places
-        ensures { set_in result ≡ bit_or (set_in self) (set_in other) }
-    {
-        Places {
-            low: self.low | other.low,
-            high: self.high | other.high,
-        }
-    }
-
     // 1 where the two sets share an odd number of places, else 0.
     pub fn dot(self, other: Places) -> u64
         ensures { (result ≡ dot (set_in self) (set_in other)) × (result < 2) }
@@ -91,5 +72,33 @@ impl Places {
         ensures { result ≡ (set_in self == 0) }
     {
         (self.low | self.high) == 0
+    }
+}
+
+// The places in one of the two sets and not in the other.
+impl BitXor for Places {
+    type Output = Places;
+
+    ghost bitxor_gives = { λ s t r. set_in r ≡ set_in s ⊕ set_in t };
+
+    fn bitxor(self, other: Places) -> Places {
+        Places {
+            low: self.low ^ other.low,
+            high: self.high ^ other.high,
+        }
+    }
+}
+
+// The places in either set.
+impl BitOr for Places {
+    type Output = Places;
+
+    ghost bitor_gives = { λ s t r. set_in r ≡ bit_or (set_in s) (set_in t) };
+
+    fn bitor(self, other: Places) -> Places {
+        Places {
+            low: self.low | other.low,
+            high: self.high | other.high,
+        }
     }
 }

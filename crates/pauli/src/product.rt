@@ -1,5 +1,5 @@
 // The call for the product of two Paulis of rolls.
-ghost use Rattle.std.specs.Prelude.{◌≡◌, ◌≤◌, length, take};
+ghost use Rattle.std.specs.Prelude.{◌≡◌, ◌≤◌, length};
 ghost use Rattle.pauli.specs.Condense.{Readable, list_of};
 ghost use Rattle.pauli.specs.Product.{product_bytes};
 ghost use Rattle.pauli.specs.ProductContract.{ProductCall};
@@ -12,7 +12,6 @@ use crate::joined::join_support;
 use crate::refusal::{Reason, Refusal};
 use crate::roll::check_roll;
 use crate::signed::store;
-use crate::support::MOST_QUBITS;
 use crate::write::write_roll;
 
 // Writes the product of Pauli i of the one roll and Pauli j of the other, over a support that has their qubits.
@@ -24,19 +23,18 @@ fn write_product(
     nr: usize,
     j: usize,
     support: &[u32],
-    count: usize,
     out: &mut [u8],
 ) -> Result<usize, Refusal>
-    requires { Readable left.now nl i (take count support.now) × Readable right.now nr j (take count support.now) × (count ≤ 128) × (count ≤ length support.now) }
-    ensures told { told_of result ≡ told_bytes (answer (product_bytes (take count support.now) (list_of left.now) i (list_of right.now) j)) out.old }
-    ensures left { out.new ≡ left_in (answer (product_bytes (take count support.now) (list_of left.now) i (list_of right.now) j)) out.old }
+    requires { Readable left.now nl i support.now × Readable right.now nr j support.now × (length support.now ≤ 128) }
+    ensures told { told_of result ≡ told_bytes (answer (product_bytes support.now (list_of left.now) i (list_of right.now) j)) out.old }
+    ensures left { out.new ≡ left_in (answer (product_bytes support.now (list_of left.now) i (list_of right.now) j)) out.old }
 {
-    let p = condense_from(left, nl, i, support, count);
-    let q = condense_from(right, nr, j, support, count);
+    let p = condense_from(left, nl, i, support);
+    let q = condense_from(right, nr, j, support);
     let product = p.times(q).pauli;
     let mut w = [0u64; 5];
     store(&mut w, 0, product);
-    write_roll(&w, 0, 1, support, count, out)
+    write_roll(&w, 0, 1, support, out)
 }
 
 // Multiplies factor i of the one roll by factor j of the other, and writes the product as a roll.
@@ -51,9 +49,8 @@ pub fn product(
 {
     let nl = check_roll(left)?;
     let nr = check_roll(right)?;
-    let mut known = [0u32; MOST_QUBITS + 1];
-    let count = join_support(left, nl, right, nr, &mut known);
-    if count > MOST_QUBITS {
+    let support = join_support(left, nl, right, nr);
+    if support.is_past_limit() {
         return Err(Reason::Qubits.into());
     }
     if i >= nl {
@@ -62,5 +59,5 @@ pub fn product(
     if j >= nr {
         return Err(Reason::Number.into());
     }
-    write_product(left, nl, i, right, nr, j, &known, count, out)
+    write_product(left, nl, i, right, nr, j, support.qubits(), out)
 }

@@ -4,33 +4,33 @@ ghost use Rattle.pauli.specs.Refusals.{number_of};
 
 use std::fmt;
 
-// The reasons; the definition number_of gives document 01's number of each.
+// The reasons, with document 01's number of each.
 #[derive(Clone, Copy)]
 pub enum Reason {
     // The roll is cut, or its length is not that of its table.
-    Length,
+    Length = 1,
     // More Paulis than a list may have.
-    Paulis,
+    Paulis = 2,
     // An entry of the table is not as it has to be.
-    Entry,
+    Entry = 3,
     // The exponent is missing.
-    Exponent,
+    Exponent = 4,
     // A qubit number is too high.
-    Qubit,
+    Qubit = 5,
     // A set does not rise strictly.
-    Rising,
+    Rising = 6,
     // More distinct qubits than a list may have.
-    Qubits,
+    Qubits = 7,
     // A generator or element number is past its list.
-    Number,
+    Number = 8,
     // The work area is too short.
-    Work,
+    Work = 9,
     // The listing is too large.
-    Listing,
+    Listing = 10,
     // The divisor is no subgroup.
-    Subgroup,
+    Subgroup = 11,
     // The output is shorter than the result.
-    Output,
+    Output = 12,
 }
 
 // A refusal's reason and its place: the Pauli's index in its own roll, or 0.
@@ -59,18 +59,5 @@ impl fmt::Display for Refusal {
 pub fn number_of(reason: Reason) -> usize
     ensures { result ≡ number_of reason }
 {
-    match reason {
-        Reason::Length => 1,
-        Reason::Paulis => 2,
-        Reason::Entry => 3,
-        Reason::Exponent => 4,
-        Reason::Qubit => 5,
-        Reason::Rising => 6,
-        Reason::Qubits => 7,
-        Reason::Number => 8,
-        Reason::Work => 9,
-        Reason::Listing => 10,
-        Reason::Subgroup => 11,
-        Reason::Output => 12,
-    }
+    reason as usize
 }

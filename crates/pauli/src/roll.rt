@@ -9,7 +9,7 @@ ghost use Rattle.pauli.specs.Refusals.{number_of, told_of};
 
 use crate::bytes::{u16_at, u32_at};
 use crate::refusal::{Reason, Refusal};
-use crate::support::{MOST_QUBITS, gather};
+use crate::support::{MOST_QUBITS, Support};
 
 // The highest qubit number of a roll.
 pub const HIGHEST_QUBIT: u32 = 65535;
@@ -124,8 +124,9 @@ fn distinct(b: &[u8], at: usize, total: usize) -> usize
     requires { at + 4 * total ≤ length b.now }
     ensures { result ≡ min (length (insert_all (numbers_at b.now at total) [])) (suc most_qubits) }
 {
-    let mut known = [0u32; MOST_QUBITS + 1];
-    gather(b, at, total, &mut known, 0)
+    let mut support = Support::new();
+    support.gather(b, at, total);
+    support.len()
 }
 
 // Checks a roll; tells how many Paulis it has.

@@ -42,26 +42,26 @@ impl Pauli {
         let x = self.x;
         let z = self.z;
         let crossed = z.dot(ux);
-        let sum = std::num::wrapping_add_u8(self.exponent, other.exponent);
+        let sum = self.exponent.wrapping_add(other.exponent);
         let sign = (2 * crossed) as u8;
         Product {
             pauli: Pauli {
-                exponent: std::num::wrapping_add_u8(sum, sign),
-                x: x.bitxor(ux),
-                z: z.bitxor(uz),
+                exponent: sum.wrapping_add(sign),
+                x: x ^ ux,
+                z: z ^ uz,
             },
         }
     }
 
-    // 1 where the two anticommute, else 0.
-    pub fn anticommutes(self, other: Pauli) -> u64
-        ensures { result ≡ anticommute (held self) (held other) }
+    // Whether the two anticommute.
+    pub fn anticommutes(self, other: Pauli) -> bool
+        ensures { result ≡ (anticommute (held self) (held other) == 1) }
     {
         let x = self.x;
         let z = self.z;
         let ux = other.x;
         let uz = other.z;
-        (x.dot(uz) + z.dot(ux)) % 2
+        (x.dot(uz) + z.dot(ux)) % 2 == 1
     }
 
     // How many places are in x or z.
@@ -70,7 +70,7 @@ impl Pauli {
     {
         let x = self.x;
         let z = self.z;
-        x.bitor(z).weight()
+        (x | z).weight()
     }
 
     // Whether the square is the identity.
@@ -91,7 +91,7 @@ impl Pauli {
         if self.exponent % 4 != 0 {
             return false;
         }
-        x.bitor(z).is_zero()
+        (x | z).is_zero()
     }
 }
 

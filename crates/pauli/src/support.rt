@@ -1,10 +1,11 @@
-// Qubits and their places in a support: the rising list of the qubits in use, kept in a lent slice of numbers.
-ghost use Rattle.std.specs.Prelude.{◌≡◌, suc, ◌+◌, ◌*◌, ◌<◌, ◌≤◌, length, take, if◌then◌else◌, nat_lt, slice_index};
+// Qubits and their places in a support: the rising list of the qubits in use.
+ghost use Rattle.std.specs.Prelude.{◌≡◌, suc, ◌+◌, ◌*◌, ◌<◌, ◌≤◌, [], length, if◌then◌else◌, nat_lt, slice_index, IfSome};
 ghost use Rattle.pauli.specs.Bytes.{numbers_at};
-ghost use Rattle.pauli.specs.Support.{most_qubits, insert_all, Rising};
-ghost use Rattle.pauli.specs.Known.{place_of, lower, inserted_at, Noted, Gathered};
+ghost use Rattle.pauli.specs.Support.{most_qubits, insert, insert_all, Rising};
+ghost use Rattle.pauli.specs.Known.{place_of, lower, inserted_at, Gathered};
 
 use crate::bytes::u32_at;
+use std::marker::Model;
 
 // The most distinct qubits of a list.
 pub const MOST_QUBITS: usize = 128;
@@ -17,74 +18,153 @@ pub struct Qubit(pub u32);
 #[derive(Clone, Copy)]
 pub struct Place(pub usize);
 
-// How many qubits are known, and the place past the one that was met last.
-#[derive(Clone, Copy)]
-pub(crate) struct Known {
-    pub count: usize,
-    pub next: Place,
+// The qubits that are known, rising: at most one more than a list may have.
+#[derive(Drop)]
+pub struct Support {
+    numbers: [u32; MOST_QUBITS + 1],
+    count: usize,
+}
+
+impl Model for Support {
+    ghost use Rattle.std.specs.Prelude.{ℕ, ◌≤◌, List, take};
+    ghost use Rattle.pauli.specs.Support.{Rising};
+
+    ghost Value = { List ℕ };
+
+    ghost view = { λ s. take s.count s.numbers };
+
+    ghost invariant = { λ s. (s.count ≤ 129) × Rising 0 (take s.count s.numbers) };
+}
+
+impl Support {
+    pub fn new() -> Support
+        ensures { result ≡ [] }
+    {
+        Support {
+            numbers: [0; MOST_QUBITS + 1],
+            count: 0,
+        }
+    }
+
+    // The qubits, as a slice.
+    pub fn qubits(&self) -> &[u32]
+        ensures list { result.now ≡ self.now }
+        ensures rises { Rising 0 self.now }
+    {
+        &self.numbers[..self.count]
+    }
+
+    // How many qubits are known.
+    pub fn len(&self) -> usize
+        ensures { result ≡ length self.now }
+    {
+        self.qubits().len()
+    }
+
+    // Whether more qubits are known than a list may have.
+    pub fn is_past_limit(&self) -> bool
+        ensures { result ≡ nat_lt most_qubits (length self.now) }
+    {
+        self.count > MOST_QUBITS
+    }
+
+    // Puts q in, if it is not known yet; tells the place past it. The numbers before the place `from` are below it.
+    fn note(&mut self, from: Place, q: Qubit) -> Place
+        requires { (length self.old ≤ most_qubits) × (from.0 ≤ lower q.0 self.old) }
+        ensures known { self.new ≡ insert q.0 self.old }
+        ensures next { result.0 ≡ suc (lower q.0 self.old) }
+    {
+        let count = self.count;
+        let at = place_from(&self.numbers[..count], from, q);
+        let i = at.0;
+        if i < count {
+            if self.numbers[i] == q.0 {
+                return Place(i + 1);
+            }
+        }
+        insert_at(&mut self.numbers, count, at, q);
+        self.count = count + 1;
+        Place(i + 1)
+    }
+
+    // Puts in the `total` numbers from byte `at` on, until more are known than a list may have. A set that rises is put in by one
+    // walk.
+    pub fn gather(&mut self, b: &[u8], at: usize, total: usize)
+        requires { at + 4 * total ≤ length b.now }
+        ensures { Gathered (insert_all (numbers_at b.now at total) self.old) self.new }
+    {
+        // opened, so that the check knows its invariant
+        let _ = &self.count;
+        let mut from = Place(0);
+        let mut last = Qubit(0);
+        for i in 0..total {
+            if self.is_past_limit() {
+                return;
+            }
+            let q = Qubit(u32_at(b, at + 4 * i));
+            from = self.note(walk_start(last, from, q), q);
+            last = q;
+        }
+    }
 }
 
 // The qubit at place p.
-pub fn qubit_at(known: &[u32], p: Place) -> Qubit
-    requires { p.0 < length known.now }
-    ensures { result.0 ≡ slice_index known.now p.0 }
+pub fn qubit_at(support: &[u32], p: Place) -> Qubit
+    requires { p.0 < length support.now }
+    ensures { result.0 ≡ slice_index support.now p.0 }
 {
-    let i = p.0;
-    Qubit(known[i])
+    Qubit(support[p.0])
 }
 
-// The place of q among the first count qubits, or count.
-pub fn place_of(known: &[u32], count: usize, q: Qubit) -> Place
-    requires { count ≤ length known.now }
-    ensures { result.0 ≡ place_of (take count known.now) q.0 }
+// The place of q, or the support's length.
+pub fn place_of(support: &[u32], q: Qubit) -> Place
+    ensures { result.0 ≡ place_of support.now q.0 }
 {
     let wanted = q.0;
-    for i in 0..count {
-        if known[i] == wanted {
+    for i in 0..support.len() {
+        if support[i] == wanted {
             return Place(i);
         }
     }
-    Place(count)
+    Place(support.len())
 }
 
-// A place of q, or count: the place that q has if the numbers from the place `from` on follow one another without a gap.
-fn guess_from(known: &[u32], count: usize, from: Place, q: Qubit) -> Place
-    requires { count ≤ length known.now }
-    ensures { result.0 < count → slice_index known.now result.0 ≡ q.0 }
+// The place that q has if the numbers from the place `from` on follow one another without a gap, if q stands there.
+fn guess_from(support: &[u32], from: Place, q: Qubit) -> Option<Place>
+    ensures { IfSome result (λ p. (p.0 < length support.now) × (slice_index support.now p.0 ≡ q.0)) }
 {
     let number = q.0;
     let start = from.0;
-    if start < count {
-        let base = known[start];
+    if start < support.len() {
+        let base = support[start];
         if base <= number {
             let ahead = (number - base) as usize;
-            if ahead < count - start {
+            if ahead < support.len() - start {
                 let guess = start + ahead;
-                if known[guess] == number {
-                    return Place(guess);
+                if support[guess] == number {
+                    return Some(Place(guess));
                 }
             }
         }
     }
-    Place(count)
+    None
 }
 
 // The place at which q is to stand. The numbers before the place `from` are below it, and are not looked at.
-pub fn place_from(known: &[u32], count: usize, from: Place, q: Qubit) -> Place
-    requires { (count ≤ length known.now) × (from.0 ≤ lower q.0 (take count known.now)) × Rising 0 (take count known.now) }
-    ensures { result.0 ≡ lower q.0 (take count known.now) }
+pub fn place_from(support: &[u32], from: Place, q: Qubit) -> Place
+    requires { (from.0 ≤ lower q.0 support.now) × Rising 0 support.now }
+    ensures { result.0 ≡ lower q.0 support.now }
 {
-    let guess = guess_from(known, count, from, q);
-    if guess.0 < count {
+    if let Some(guess) = guess_from(support, from, q) {
         return guess;
     }
     let number = q.0;
-    for i in from.0..count {
-        if known[i] >= number {
+    for i in from.0..support.len() {
+        if support[i] >= number {
             return Place(i);
         }
     }
-    Place(count)
+    Place(support.len())
 }
 
 // Moves the numbers from place `at` on one place up, and puts q there.
@@ -101,29 +181,6 @@ fn insert_at(known: &mut [u32], count: usize, at: Place, q: Qubit)
     known[count] = next;
 }
 
-// Puts q in, if it is not known yet. The numbers before the place `from` are below it.
-fn note(known: &mut [u32], count: usize, from: Place, q: Qubit) -> Known
-    requires { (count ≤ most_qubits) × (most_qubits < length known.old) × (from.0 ≤ lower q.0 (take count known.old)) × Rising 0 (take count known.old) }
-    ensures { Noted q.0 count known.old known.new result.count result.next.0 }
-{
-    let number = q.0;
-    let at = place_from(known, count, from, q);
-    let i = at.0;
-    if i < count {
-        if known[i] == number {
-            return Known {
-                count: count,
-                next: Place(i + 1),
-            };
-        }
-    }
-    insert_at(known, count, at, q);
-    Known {
-        count: count + 1,
-        next: Place(i + 1),
-    }
-}
-
 // Where the walk to q starts: at the place `from`, past the qubit met last, if q is above that one, else anew.
 pub fn walk_start(last: Qubit, from: Place, q: Qubit) -> Place
     ensures { result.0 ≡ (if nat_lt last.0 q.0 then from.0 else 0) }
@@ -132,26 +189,4 @@ pub fn walk_start(last: Qubit, from: Place, q: Qubit) -> Place
         return from;
     }
     Place(0)
-}
-
-// Puts in the `total` numbers from byte `at` on, until more are known than a list may have; tells how many are. A set that
-// rises is put in by one walk.
-pub fn gather(b: &[u8], at: usize, total: usize, known: &mut [u32], count: usize) -> usize
-    requires { (at + 4 * total ≤ length b.now) × (count ≤ suc most_qubits) × (most_qubits < length known.old) × Rising 0 (take count known.old) }
-    ensures { Gathered (insert_all (numbers_at b.now at total) (take count known.old)) known.old known.new result }
-{
-    let mut n = count;
-    let mut from = Place(0);
-    let mut last = Qubit(0);
-    for i in 0..total {
-        if n > MOST_QUBITS {
-            return n;
-        }
-        let q = Qubit(u32_at(b, at + 4 * i));
-        let met = note(known, n, walk_start(last, from, q), q);
-        n = met.count;
-        from = met.next;
-        last = q;
-    }
-    n
 }

@@ -1,5 +1,5 @@
 // Written rolls: exponents 0 to 3, given 1, starts as counted.
-ghost use Rattle.std.specs.Prelude.{◌≡◌, ℕ, ◌+◌, ◌*◌, ◌%◌, ◌^◌, ◌<◌, ◌≤◌, map, length, take};
+ghost use Rattle.std.specs.Prelude.{◌≡◌, ℕ, ◌+◌, ◌*◌, ◌%◌, ◌^◌, ◌<◌, ◌≤◌, map, length};
 ghost use Rattle.pauli.specs.Bytes.{le16, le32, le32s};
 ghost use Rattle.pauli.specs.Pauli.{select};
 ghost use Rattle.pauli.specs.Roll.{numbers};
@@ -19,8 +19,7 @@ pub fn put_u16(out: &mut [u8], at: usize, v: usize)
     requires { (at + 2 ≤ length out.old) × (v < 65536) }
     ensures { out.new ≡ put_bytes out.old at (le16 v) }
 {
-    out[at] = (v % 256) as u8;
-    out[at + 1] = (v / 256 % 256) as u8;
+    out[at..at + 2].copy_from_slice(&(v as u16).to_le_bytes());
 }
 
 // Writes a number as four bytes.
@@ -28,10 +27,7 @@ fn put_u32(out: &mut [u8], at: usize, number: u32)
     requires { at + 4 ≤ length out.old }
     ensures { out.new ≡ put_bytes out.old at (le32 number) }
 {
-    out[at] = (number % 256) as u8;
-    out[at + 1] = (number / 256 % 256) as u8;
-    out[at + 2] = (number / 65536 % 256) as u8;
-    out[at + 3] = (number / 16777216 % 256) as u8;
+    out[at..at + 4].copy_from_slice(&number.to_le_bytes());
 }
 
 // Writes the entry of a Pauli.
@@ -54,14 +50,14 @@ pub(crate) fn put_entry(
 }
 
 // Writes the qubit numbers of a set of places, rising, and returns the byte past them.
-fn put_set(out: &mut [u8], at: usize, set: Places, support: &[u32], count: usize) -> usize
-    requires { (count ≤ 128) × (count ≤ length support.now) × (at + 4 * length (select (set_in set) (take count support.now)) ≤ length out.old) }
-    ensures left { out.new ≡ put_bytes out.old at (le32s (select (set_in set) (take count support.now))) }
-    ensures next { result ≡ at + 4 * length (select (set_in set) (take count support.now)) }
+fn put_set(out: &mut [u8], at: usize, set: Places, support: &[u32]) -> usize
+    requires { (length support.now ≤ 128) × (at + 4 * length (select (set_in set) support.now) ≤ length out.old) }
+    ensures left { out.new ≡ put_bytes out.old at (le32s (select (set_in set) support.now)) }
+    ensures next { result ≡ at + 4 * length (select (set_in set) support.now) }
 {
     let mut next = at;
     let mut p = set.first_from(Place(0)).0;
-    while p < count {
+    while p < support.len() {
         let q = qubit_at(support, Place(p));
         put_u32(out, next, q.0);
         next += 4;
@@ -103,25 +99,17 @@ fn put_table(out: &mut [u8], w: &[u64], base: usize, n: usize)
 }
 
 // Writes the bodies of the n Paulis from word base on, from byte at on.
-fn put_bodies(
-    out: &mut [u8],
-    at: usize,
-    w: &[u64],
-    base: usize,
-    n: usize,
-    support: &[u32],
-    count: usize,
-)
-    requires { (base + 5 * n ≤ length w.now) × (count ≤ 128) × (count ≤ length support.now) × (at + 4 * length (numbers (map (sparse_over (take count support.now)) (list_in w.now base n))) ≤ length out.old) }
-    ensures { out.new ≡ put_bytes out.old at (le32s (numbers (map (sparse_over (take count support.now)) (list_in w.now base n)))) }
+fn put_bodies(out: &mut [u8], at: usize, w: &[u64], base: usize, n: usize, support: &[u32])
+    requires { (base + 5 * n ≤ length w.now) × (length support.now ≤ 128) × (at + 4 * length (numbers (map (sparse_over support.now) (list_in w.now base n))) ≤ length out.old) }
+    ensures { out.new ≡ put_bytes out.old at (le32s (numbers (map (sparse_over support.now) (list_in w.now base n)))) }
 {
     let mut next = at;
     for i in 0..n {
         let p = load(w, base + 5 * i);
         let x = p.x;
         let z = p.z;
-        let middle = put_set(out, next, x, support, count);
-        next = put_set(out, middle, z, support, count);
+        let middle = put_set(out, next, x, support);
+        next = put_set(out, middle, z, support);
     }
 }
 
@@ -131,12 +119,11 @@ pub fn write_roll(
     base: usize,
     n: usize,
     support: &[u32],
-    count: usize,
     out: &mut [u8],
 ) -> Result<usize, Refusal>
-    requires { (base + 5 * n ≤ length w.now) × (n ≤ 256) × (count ≤ 128) × (count ≤ length support.now) × OnPlaces count (list_in w.now base n) }
-    ensures told { told_of result ≡ told_bytes (answer (roll_over (take count support.now) (list_in w.now base n))) out.old }
-    ensures left { out.new ≡ left_in (answer (roll_over (take count support.now) (list_in w.now base n))) out.old }
+    requires { (base + 5 * n ≤ length w.now) × (n ≤ 256) × (length support.now ≤ 128) × OnPlaces (length support.now) (list_in w.now base n) }
+    ensures told { told_of result ≡ told_bytes (answer (roll_over support.now (list_in w.now base n))) out.old }
+    ensures left { out.new ≡ left_in (answer (roll_over support.now (list_in w.now base n))) out.old }
 {
     let table = 2 + 10 * n;
     let size = table + 4 * numbers_in(w, base, n);
@@ -145,6 +132,6 @@ pub fn write_roll(
     }
     put_u16(out, 0, n);
     put_table(out, w, base, n);
-    put_bodies(out, table, w, base, n, support, count);
+    put_bodies(out, table, w, base, n, support);
     Ok(size)
 }

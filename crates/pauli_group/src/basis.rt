@@ -12,7 +12,7 @@ use crate::area::{FURTHER, STANDARD};
 use crate::form::{form_of, put_products};
 use crate::group::group_of;
 use crate::moved::move_list;
-use pauli::support::MOST_QUBITS;
+use pauli::support::Support;
 
 // How many Paulis of each of two lists stand one after the other.
 #[derive(Clone, Copy)]
@@ -28,25 +28,22 @@ fn stack_standard(
     right: &[u8],
     nr: usize,
     joint: &[u32],
-    size: usize,
     w: &mut [u64],
 ) -> Stacked
-    requires { (count_of left.now ≡ answer nl) × (count_of right.now ≡ answer nr) × (nl + nr ≤ 128) × (length w.old ≡ 4096) × (size ≤ length joint.now) × Joint (paulis (list_of left.now)) (paulis (list_of right.now)) joint.now size }
+    requires { (count_of left.now ≡ answer nl) × (count_of right.now ≡ answer nr) × (nl + nr ≤ 128) × (length w.old ≡ 4096) × Joint (paulis (list_of left.now)) (paulis (list_of right.now)) joint.now }
     ensures { Stack (paulis (list_of left.now)) (paulis (list_of right.now)) w.new result.first result.second }
 {
-    let mut known = [0u32; MOST_QUBITS + 1];
+    let mut known = Support::new();
     let a = group_of(left, nl, &mut known, w);
-    move_list(w, STANDARD, FURTHER, a.total, &known, a.places, joint, size);
+    move_list(w, STANDARD, FURTHER, a.total, known.qubits(), joint);
     let b = group_of(right, nr, &mut known, w);
     move_list(
         w,
         STANDARD,
         FURTHER + 5 * a.total,
         b.total,
-        &known,
-        b.places,
+        known.qubits(),
         joint,
-        size,
     );
     Stacked {
         first: a.total,
@@ -62,19 +59,18 @@ pub(crate) fn common_basis(
     right: &[u8],
     nr: usize,
     joint: &[u32],
-    size: usize,
     w: &mut [u64],
 ) -> usize
-    requires { (count_of left.now ≡ answer nl) × (count_of right.now ≡ answer nr) × (nl + nr ≤ 128) × (length w.old ≡ 4096) × (size ≤ length joint.now) × Joint (paulis (list_of left.now)) (paulis (list_of right.now)) joint.now size }
+    requires { (count_of left.now ≡ answer nl) × (count_of right.now ≡ answer nr) × (nl + nr ≤ 128) × (length w.old ≡ 4096) × Joint (paulis (list_of left.now)) (paulis (list_of right.now)) joint.now }
     ensures few { result ≤ 128 }
     ensures list { list_in w.new further_at result ≡ basis_over (paulis (list_of left.now)) (paulis (list_of right.now)) }
 {
-    let stacked = stack_standard(left, nl, right, nr, joint, size, w);
+    let stacked = stack_standard(left, nl, right, nr, joint, w);
     let n = stacked.first + stacked.second;
-    let rank = form_of(w, FURTHER, n, size);
+    let rank = form_of(w, FURTHER, n, joint.len());
     let zeros = n - rank;
     put_products(w, n, rank, zeros, FURTHER, stacked.first, STANDARD);
-    let count = form_of(w, STANDARD, zeros, size);
+    let count = form_of(w, STANDARD, zeros, joint.len());
     put_products(w, zeros, 0, count, STANDARD, zeros, FURTHER);
     count
 }

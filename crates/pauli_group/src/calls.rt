@@ -19,7 +19,7 @@ use crate::group::{Description, describe_once, group_of};
 use crate::promise::Promise;
 use binar::row::clear_bits;
 use pauli::refusal::Refusal;
-use pauli::support::MOST_QUBITS;
+use pauli::support::Support;
 use pauli::write::write_roll;
 
 // Writes the standard generators of an accepted roll of n Paulis, and clears the work area.
@@ -29,9 +29,9 @@ fn write_standard(b: &[u8], n: usize, w: &mut [u64], out: &mut [u8]) -> Result<u
     ensures left { out.new ≡ left_in (answer (standard_bytes (paulis (list_of b.now)))) out.old }
     ensures area { w.new ≡ cleared w.old }
 {
-    let mut known = [0u32; MOST_QUBITS + 1];
+    let mut known = Support::new();
     let g = group_of(b, n, &mut known, w);
-    let wrote = write_roll(w, STANDARD, g.total, &known, g.places, out);
+    let wrote = write_roll(w, STANDARD, g.total, known.qubits(), out);
     clear_bits(w, 0, WORK_WORDS);
     wrote
 }

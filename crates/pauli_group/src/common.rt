@@ -35,28 +35,20 @@ use binar::row::clear_bits;
 use pauli::joined::join_support;
 use pauli::refusal::Refusal;
 use pauli::signed::{Pauli, indexed_product, load, store};
-use pauli::support::MOST_QUBITS;
+use pauli::support::Support;
 use pauli::write::write_roll;
 use std::cmp::Ordering;
 
 // The exponent of the product of those of the n generators that solve for the Pauli at word at, by their group over the places of
 // own; the Pauli is over the places of joint.
-fn exponent_of(
-    w: &mut [u64],
-    at: usize,
-    n: usize,
-    group: Group,
-    own: &[u32],
-    joint: &[u32],
-    size: usize,
-) -> u64
-    requires { (length w.old ≡ 4096) × (at + 5 ≤ 4096) × Solving w.old n group.places group.rank × (group.places ≤ length own.now) × (size ≤ 128) × (size ≤ length joint.now) × ((pauli_in w.old at).x < 2 ^ size) × ((pauli_in w.old at).z < 2 ^ size) × MovablePauli (take size joint.now) (take group.places own.now) (pauli_in w.old at) }
-    ensures told { result ≡ exponent_over (take size joint.now) (take group.places own.now) n group.places w.old (pauli_in w.old at) }
+fn exponent_of(w: &mut [u64], at: usize, n: usize, group: Group, own: &[u32], joint: &[u32]) -> u64
+    requires { (length w.old ≡ 4096) × (at + 5 ≤ 4096) × Solving w.old n group.places group.rank × (group.places ≡ length own.now) × (length joint.now ≤ 128) × ((pauli_in w.old at).x < 2 ^ length joint.now) × ((pauli_in w.old at).z < 2 ^ length joint.now) × MovablePauli joint.now own.now (pauli_in w.old at) }
+    ensures told { result ≡ exponent_over joint.now own.now n group.places w.old (pauli_in w.old at) }
     ensures low { result < 4 }
     ensures rest { Outside target_at (stride_of n) w.old w.new }
 {
     let places = group.places;
-    let p = move_pauli(load(w, at), joint, size, own, places);
+    let p = move_pauli(load(w, at), joint, own);
     match solve(w, n, places, group.rank, p) {
         None => 0,
         Some(set) => {
@@ -67,43 +59,27 @@ fn exponent_of(
 }
 
 // Notes with each of the m Paulis of the further list the exponent of the product that solves for it.
-fn note_exponents(
-    w: &mut [u64],
-    m: usize,
-    n: usize,
-    group: Group,
-    own: &[u32],
-    joint: &[u32],
-    size: usize,
-)
-    requires { (length w.old ≡ 4096) × (m ≤ 128) × Solving w.old n group.places group.rank × (group.places ≤ length own.now) × (size ≤ 128) × (size ≤ length joint.now) × OnPlaces size (list_in w.old further_at m) × All (MovablePauli (take size joint.now) (take group.places own.now)) (list_in w.old further_at m) }
-    ensures { list_in w.new further_at m ≡ map (λ p. noted (exponent_over (take size joint.now) (take group.places own.now) n group.places w.old p) p) (list_in w.old further_at m) }
+fn note_exponents(w: &mut [u64], m: usize, n: usize, group: Group, own: &[u32], joint: &[u32])
+    requires { (length w.old ≡ 4096) × (m ≤ 128) × Solving w.old n group.places group.rank × (group.places ≡ length own.now) × (length joint.now ≤ 128) × OnPlaces (length joint.now) (list_in w.old further_at m) × All (MovablePauli joint.now own.now) (list_in w.old further_at m) }
+    ensures { list_in w.new further_at m ≡ map (λ p. noted (exponent_over joint.now own.now n group.places w.old p) p) (list_in w.old further_at m) }
 {
     for i in 0..m {
         let at = FURTHER + 5 * i;
-        let e = exponent_of(w, at, n, group, own, joint, size);
+        let e = exponent_of(w, at, n, group, own, joint);
         w[at] = w[at] % 4 * 4 + e;
     }
 }
 
 // Notes with each of the m Paulis of the further list the exponent by the group of an accepted roll of n Paulis; tells its phases.
-fn note_by(
-    b: &[u8],
-    n: usize,
-    promise: Promise,
-    joint: &[u32],
-    size: usize,
-    w: &mut [u64],
-    m: usize,
-) -> Phases
-    requires { (count_of b.now ≡ answer n) × (length w.old ≡ 4096) × (m ≤ 128) × (size ≤ 128) × (size ≤ length joint.now) × OnPlaces size (list_in w.old further_at m) × All (MovablePauli (take size joint.now) (support_of (paulis (list_of b.now)))) (list_in w.old further_at m) }
+fn note_by(b: &[u8], n: usize, promise: Promise, joint: &[u32], w: &mut [u64], m: usize) -> Phases
+    requires { (count_of b.now ≡ answer n) × (length w.old ≡ 4096) × (m ≤ 128) × (length joint.now ≤ 128) × OnPlaces (length joint.now) (list_in w.old further_at m) × All (MovablePauli joint.now (support_of (paulis (list_of b.now)))) (list_in w.old further_at m) }
     ensures step { step_told result ≡ phase_step (promise_of promise) (paulis (list_of b.now)) }
-    ensures list { list_in w.new further_at m ≡ map (λ p. noted (exponent_for (take size joint.now) (paulis (list_of b.now)) p) p) (list_in w.old further_at m) }
+    ensures list { list_in w.new further_at m ≡ map (λ p. noted (exponent_for joint.now (paulis (list_of b.now)) p) p) (list_in w.old further_at m) }
 {
-    let mut known = [0u32; MOST_QUBITS + 1];
+    let mut known = Support::new();
     let group = group_of(b, n, &mut known, w);
     let signs = signs_of(w, group.total, promise);
-    note_exponents(w, m, n, group, &known, joint, size);
+    note_exponents(w, m, n, group, known.qubits(), joint);
     signs.phases
 }
 
@@ -181,14 +157,14 @@ fn write_part(
     ensures told { told_of result ≡ told_bytes (answer (list_bytes (common_part (promise_of left_promise) (promise_of right_promise) (paulis (list_of left.now)) (paulis (list_of right.now))))) out.old }
     ensures left { out.new ≡ left_in (answer (list_bytes (common_part (promise_of left_promise) (promise_of right_promise) (paulis (list_of left.now)) (paulis (list_of right.now))))) out.old }
 {
-    let mut joint = [0u32; MOST_QUBITS + 1];
-    let size = join_support(left, nl, right, nr, &mut joint);
-    let m = common_basis(left, nl, right, nr, &joint, size, w);
-    let first = note_by(left, nl, left_promise, &joint, size, w, m);
-    let second = note_by(right, nr, right_promise, &joint, size, w, m);
+    let support = join_support(left, nl, right, nr);
+    let joint = support.qubits();
+    let m = common_basis(left, nl, right, nr, joint, w);
+    let first = note_by(left, nl, left_promise, joint, w, m);
+    let second = note_by(right, nr, right_promise, joint, w, m);
     let kept = keep_shared(w, m, first, second);
     let total = append_phases(w, kept, first, second);
-    write_roll(w, FURTHER, total, &joint, size, out)
+    write_roll(w, FURTHER, total, joint, out)
 }
 
 // Writes the Paulis of an accepted roll of n.
@@ -197,9 +173,9 @@ fn write_list(b: &[u8], n: usize, w: &mut [u64], out: &mut [u8]) -> Result<usize
     ensures told { told_of result ≡ told_bytes (answer (list_bytes (paulis (list_of b.now)))) out.old }
     ensures left { out.new ≡ left_in (answer (list_bytes (paulis (list_of b.now)))) out.old }
 {
-    let mut known = [0u32; MOST_QUBITS + 1];
+    let mut known = Support::new();
     let group = group_of(b, n, &mut known, w);
-    write_roll(w, LIST, n, &known, group.places, out)
+    write_roll(w, LIST, n, known.qubits(), out)
 }
 
 // Writes the lesser list where the order says one, else the common part.

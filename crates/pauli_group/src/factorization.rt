@@ -20,7 +20,7 @@ use crate::promise::Promise;
 use crate::standard::signs_of;
 use binar::row::clear_bits;
 use pauli::refusal::{Reason, Refusal};
-use pauli::support::MOST_QUBITS;
+use pauli::support::Support;
 
 // Factors one element by the group of an accepted roll of n, and clears the work area.
 fn factor_once(
@@ -36,10 +36,10 @@ fn factor_once(
     ensures told { factoring_told result ≡ factorization_of (promise_of promise) (paulis (list_of b.now)) (pauli_of (slice_index_or (list_of elements.now) number nothing)) }
     ensures area { w.new ≡ cleared w.old }
 {
-    let mut known = [0u32; MOST_QUBITS + 1];
+    let mut known = Support::new();
     let g = group_of(b, n, &mut known, w);
     let signs = signs_of(w, g.total, promise);
-    let factoring = factor(elements, m, number, &known, n, g, signs.phases, w);
+    let factoring = factor(elements, m, number, known.qubits(), n, g, signs.phases, w);
     clear_bits(w, 0, WORK_WORDS);
     factoring
 }

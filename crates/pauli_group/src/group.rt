@@ -2,7 +2,6 @@
 ghost use Rattle.std.specs.Prelude.{◌≡◌, ℕ, ◌+◌, ◌*◌, ◌<◌, ◌≤◌, List, ◌++◌, length};
 ghost use Rattle.pauli.specs.Condense.{list_of};
 ghost use Rattle.pauli.specs.Roll.{support, count_of};
-ghost use Rattle.pauli.specs.Support.{most_qubits};
 ghost use Rattle.pauli.specs.Pauli.{Pauli};
 ghost use Rattle.pauli.specs.Signed.{list_in};
 ghost use Rattle.pauli.specs.Told.{answer};
@@ -22,7 +21,7 @@ use crate::promise::Promise;
 use crate::standard::{Signs, signs_of, standardize};
 use binar::row::clear_bits;
 use pauli::joined::{join_support, numbers_of};
-use pauli::support::{MOST_QUBITS, gather};
+use pauli::support::Support;
 
 // The places of the support, the rank, and the number of standard generators.
 #[derive(Clone, Copy)]
@@ -56,14 +55,16 @@ fn build(w: &mut [u64], n: usize, s: usize) -> Group
 }
 
 // Reads an accepted roll of n Paulis, and builds its group.
-pub fn group_of(b: &[u8], n: usize, known: &mut [u32], w: &mut [u64]) -> Group
-    requires { (count_of b.now ≡ answer n) × (most_qubits < length known.old) × (length w.old ≡ 4096) }
+pub fn group_of(b: &[u8], n: usize, known: &mut Support, w: &mut [u64]) -> Group
+    requires { (count_of b.now ≡ answer n) × (length w.old ≡ 4096) }
     ensures group { Grouped (paulis (list_of b.now)) known.new w.new result.places result.rank result.total }
     ensures rest { Outside 0 further_at w.old w.new }
 {
-    let places = gather(b, 2 + 10 * n, numbers_of(b, n), known, 0);
-    read_list(b, n, known, places, w, LIST);
-    build(w, n, places)
+    *known = Support::new();
+    known.gather(b, 2 + 10 * n, numbers_of(b, n));
+    let qubits = known.qubits();
+    read_list(b, n, qubits, w, LIST);
+    build(w, n, qubits.len())
 }
 
 // Reads two accepted rolls of nl and nr Paulis, which can be joined, one after the other, and builds the group of the joined list.
@@ -72,16 +73,17 @@ fn group_of_two(
     nl: usize,
     right: &[u8],
     nr: usize,
-    known: &mut [u32],
+    known: &mut Support,
     w: &mut [u64],
 ) -> Group
-    requires { Joinable left.now right.now nl nr × (most_qubits < length known.old) × (length w.old ≡ 4096) }
+    requires { Joinable left.now right.now nl nr × (length w.old ≡ 4096) }
     ensures { Grouped (paulis (list_of left.now ++ list_of right.now)) known.new w.new result.places result.rank result.total }
 {
-    let places = join_support(left, nl, right, nr, known);
-    read_list(left, nl, known, places, w, LIST);
-    read_list(right, nr, known, places, w, LIST + 5 * nl);
-    build(w, nl + nr, places)
+    *known = join_support(left, nl, right, nr);
+    let qubits = known.qubits();
+    read_list(left, nl, qubits, w, LIST);
+    read_list(right, nr, qubits, w, LIST + 5 * nl);
+    build(w, nl + nr, qubits.len())
 }
 
 // What the calls tell of the group of a list, which is in the work area.
@@ -100,7 +102,7 @@ pub(crate) fn describe(b: &[u8], n: usize, promise: Promise, w: &mut [u64]) -> D
     requires { (count_of b.now ≡ answer n) × (length w.old ≡ 4096) }
     ensures { facts_in result ≡ facts_of (promise_of promise) (paulis (list_of b.now)) }
 {
-    let mut known = [0u32; MOST_QUBITS + 1];
+    let mut known = Support::new();
     let g = group_of(b, n, &mut known, w);
     describe_group(g, promise, w)
 }
@@ -116,7 +118,7 @@ pub(crate) fn describe_two(
     requires { Joinable left.now right.now nl nr × (length w.old ≡ 4096) }
     ensures { facts_in result ≡ facts_of none (paulis (list_of left.now ++ list_of right.now)) }
 {
-    let mut known = [0u32; MOST_QUBITS + 1];
+    let mut known = Support::new();
     let g = group_of_two(left, nl, right, nr, &mut known, w);
     describe_group(g, Promise::None, w)
 }

@@ -1,5 +1,5 @@
 // Lists of Paulis read into the work area.
-ghost use Rattle.std.specs.Prelude.{◌≡◌, ◌+◌, ◌*◌, ◌<◌, ◌≤◌, map, length, take};
+ghost use Rattle.std.specs.Prelude.{◌≡◌, ◌+◌, ◌*◌, ◌<◌, ◌≤◌, map, length};
 ghost use Rattle.pauli.specs.Condense.{list_of};
 ghost use Rattle.pauli.specs.Signed.{list_in};
 ghost use Rattle.pauli_group.specs.Inner.Area.{Outside};
@@ -9,19 +9,12 @@ use pauli::condense::condense_from;
 use pauli::signed::store;
 
 // Reads the n Paulis of a roll, over the places of a support that has their qubits, to the words from word base on.
-pub(crate) fn read_list(
-    b: &[u8],
-    n: usize,
-    support: &[u32],
-    count: usize,
-    w: &mut [u64],
-    base: usize,
-)
-    requires { ReadableAll b.now n (take count support.now) × (count ≤ 128) × (count ≤ length support.now) × (base + 5 * n ≤ length w.old) × (length (list_of b.now) ≡ n) }
-    ensures list { list_in w.new base n ≡ map (over_places (take count support.now)) (list_of b.now) }
+pub(crate) fn read_list(b: &[u8], n: usize, support: &[u32], w: &mut [u64], base: usize)
+    requires { ReadableAll b.now n support.now × (length support.now ≤ 128) × (base + 5 * n ≤ length w.old) × (length (list_of b.now) ≡ n) }
+    ensures list { list_in w.new base n ≡ map (over_places support.now) (list_of b.now) }
     ensures rest { Outside base (5 * n) w.old w.new }
 {
     for i in 0..n {
-        store(w, base + 5 * i, condense_from(b, n, i, support, count));
+        store(w, base + 5 * i, condense_from(b, n, i, support));
     }
 }

@@ -27,7 +27,7 @@ use binar::row::clear_bits;
 use pauli::places::Places;
 use pauli::refusal::{Reason, Refusal};
 use pauli::signed::{Pauli, indexed_product, store};
-use pauli::support::MOST_QUBITS;
+use pauli::support::Support;
 use pauli::write::write_roll;
 
 // The highest rank whose group is listed.
@@ -206,7 +206,7 @@ fn write_page(
     ensures left { out.new ≡ left_in (refuse_if (nat_lt most_listed (rank (paulis (list_of b.now)))) 10 0 (answer (page_bytes (promise_of promise) start count (paulis (list_of b.now))))) out.old }
     ensures area { w.new ≡ cleared w.old }
 {
-    let mut known = [0u32; MOST_QUBITS + 1];
+    let mut known = Support::new();
     let g = group_of(b, n, &mut known, w);
     if g.rank > MOST_LISTED {
         clear_bits(w, 0, WORK_WORDS);
@@ -215,7 +215,7 @@ fn write_page(
     let signs = signs_of(w, g.total, promise);
     let length = page_elements(g.rank, signs.phases, start, count);
     put_elements(w, g.rank, signs.phases, start as u64, length);
-    let wrote = write_roll(w, FURTHER, length, &known, g.places, out);
+    let wrote = write_roll(w, FURTHER, length, known.qubits(), out);
     clear_bits(w, 0, WORK_WORDS);
     wrote
 }

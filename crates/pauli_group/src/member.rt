@@ -1,5 +1,5 @@
 // Membership: an element put to the form of a list.
-ghost use Rattle.std.specs.Prelude.{◌≡◌, ◌+◌, ◌*◌, ◌^◌, ◌<◌, ◌≤◌, ◌++◌, length, get_or, take, slice_index_or};
+ghost use Rattle.std.specs.Prelude.{◌≡◌, ◌+◌, ◌*◌, ◌^◌, ◌<◌, ◌≤◌, ◌++◌, length, get_or, slice_index_or};
 ghost use Rattle.binar.specs.Layout.{form_in, FormLeft};
 ghost use Rattle.binar.specs.Row.{weight};
 ghost use Rattle.binar.specs.Solve.{transpose_solve as transpose_solve_spec};
@@ -23,7 +23,8 @@ use crate::area::{LIST, ROW_WORDS, TARGET};
 use crate::form::{named_by, stride_of};
 use crate::group::Group;
 use crate::rows::put_row;
-use binar::matrix_form::{Solution, transpose_solve};
+use binar::echelon::Layout;
+use binar::matrix_form::transpose_solve;
 use binar::row::clear_bits;
 use pauli::bytes::u32_at;
 use pauli::condense::condense_from;
@@ -41,17 +42,17 @@ pub struct IndexSet {
 }
 
 // Whether the total numbers from byte at on are all in the support. A set that rises is looked up by one walk.
-fn covers(b: &[u8], at: usize, total: usize, support: &[u32], count: usize) -> bool
-    requires { (at + 4 * total ≤ length b.now) × (count ≤ length support.now) × Rising 0 (take count support.now) }
-    ensures { result ≡ covered (take count support.now) (numbers_at b.now at total) }
+fn covers(b: &[u8], at: usize, total: usize, support: &[u32]) -> bool
+    requires { (at + 4 * total ≤ length b.now) × Rising 0 support.now }
+    ensures { result ≡ covered support.now (numbers_at b.now at total) }
 {
     let mut from = Place(0);
     let mut last = Qubit(0);
     for k in 0..total {
         let q = Qubit(u32_at(b, at + 4 * k));
-        let place = place_from(support, count, walk_start(last, from, q), q);
+        let place = place_from(support, walk_start(last, from, q), q);
         let i = place.0;
-        if i >= count {
+        if i >= support.len() {
             return false;
         }
         let met = qubit_at(support, place);
@@ -65,18 +66,12 @@ fn covers(b: &[u8], at: usize, total: usize, support: &[u32], count: usize) -> b
 }
 
 // Whether the qubits of Pauli i of an accepted roll of n are all in the support.
-fn is_supported(b: &[u8], n: usize, i: usize, support: &[u32], count: usize) -> bool
-    requires { (count_of b.now ≡ answer n) × (i < n) × (count ≤ length support.now) × Rising 0 (take count support.now) }
-    ensures { result ≡ covered (take count support.now) ((get_or (list_of b.now) i nothing).xs ++ (get_or (list_of b.now) i nothing).zs) }
+fn is_supported(b: &[u8], n: usize, i: usize, support: &[u32]) -> bool
+    requires { (count_of b.now ≡ answer n) × (i < n) × Rising 0 support.now }
+    ensures { result ≡ covered support.now ((get_or (list_of b.now) i nothing).xs ++ (get_or (list_of b.now) i nothing).zs) }
 {
     let e = entry_at(b, i);
-    covers(
-        b,
-        2 + 10 * n + 4 * e.start,
-        e.xcount + e.zcount,
-        support,
-        count,
-    )
+    covers(b, 2 + 10 * n + 4 * e.start, e.xcount + e.zcount, support)
 }
 
 // Finds the generators whose rows add up to that of p, by the form of n rows over s places.
@@ -88,10 +83,15 @@ pub(crate) fn solve(w: &mut [u64], n: usize, s: usize, rank: usize, p: Pauli) ->
     let stride = stride_of(n);
     clear_bits(w, TARGET + ROW_WORDS, stride - ROW_WORDS);
     put_row(w, TARGET, p, s);
-    let solution = transpose_solve(w, stride, n, 2 * s, rank, TARGET);
-    match solution {
-        Solution::Set => Some(named_by(w, TARGET, n)),
-        Solution::NoSet => None,
+    let shape = Layout {
+        stride,
+        rows: n,
+        cols: 2 * s,
+    };
+    if transpose_solve(w, shape, rank, TARGET) {
+        Some(named_by(w, TARGET, n))
+    } else {
+        None
     }
 }
 
@@ -111,10 +111,10 @@ pub fn factor(
     ensures rest { Outside target_at (stride_of n) w.old w.new }
 {
     let places = group.places;
-    if !is_supported(b, m, i, known, places) {
+    if !is_supported(b, m, i, known) {
         return None;
     }
-    let p = condense_from(b, m, i, known, places);
+    let p = condense_from(b, m, i, known);
     let set = solve(w, n, places, group.rank, p)?;
     let product = indexed_product(w, LIST, n, set);
     let left = std::num::wrapping_sub_u8(p.exponent, product.exponent) % 4;

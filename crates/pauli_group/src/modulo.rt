@@ -1,5 +1,5 @@
 // The call for the remainder of a list by another.
-ghost use Rattle.std.specs.Prelude.{◌≡◌, ◌+◌, ◌*◌, ◌^◌, ◌<◌, ◌≤◌, ◌++◌, map, length, take};
+ghost use Rattle.std.specs.Prelude.{◌≡◌, ◌+◌, ◌*◌, ◌^◌, ◌<◌, ◌≤◌, ◌++◌, map, length};
 ghost use Rattle.pauli.specs.Roll.{support, count_of};
 ghost use Rattle.pauli.specs.Support.{most_qubits, All};
 ghost use Rattle.pauli.specs.Told.{answer};
@@ -31,7 +31,7 @@ use binar::row::clear_bits;
 use pauli::joined::join_support;
 use pauli::refusal::Refusal;
 use pauli::signed::{Pauli, load, store};
-use pauli::support::{MOST_QUBITS, Place, place_of, qubit_at};
+use pauli::support::{Place, Support, place_of, qubit_at};
 use pauli::write::write_roll;
 
 // The Pauli times other, if it has a one at the place: in x, or else in z.
@@ -43,7 +43,7 @@ fn multiplied(p: Pauli, is_x: bool, place: Place, other: Pauli) -> Pauli
     if is_x {
         set = p.x;
     }
-    if set.index(place) == 1 {
+    if set.contains(place) {
         return p.times(other).pauli;
     }
     p
@@ -63,17 +63,9 @@ fn multiply_at(w: &mut [u64], base: usize, n: usize, is_x: bool, place: Place, o
 
 // Multiplies the m Paulis of the further list by the standard generators of the group of a list of n, each at its pivot. The group
 // is over the places of own, the further list over those of joined.
-fn multiply_all(
-    w: &mut [u64],
-    m: usize,
-    n: usize,
-    group: Group,
-    own: &[u32],
-    joined: &[u32],
-    size: usize,
-)
-    requires { (length w.old ≡ 4096) × (m ≤ 128) × (group.places ≤ 128) × (group.places ≤ length own.now) × (size ≤ 128) × (size ≤ length joined.now) × Other (take group.places own.now) (take size joined.now) w.old n group.rank group.total × All (λ p. p.e < 4) (list_in w.old further_at m) }
-    ensures list { list_in w.new further_at m ≡ remainder_by (take group.places own.now) (take size joined.now) w.old n group.rank group.total (list_in w.old further_at m) }
+fn multiply_all(w: &mut [u64], m: usize, n: usize, group: Group, own: &[u32], joined: &[u32])
+    requires { (length w.old ≡ 4096) × (m ≤ 128) × (group.places ≡ length own.now) × (group.places ≤ 128) × (length joined.now ≤ 128) × Other own.now joined.now w.old n group.rank group.total × All (λ p. p.e < 4) (list_in w.old further_at m) }
+    ensures list { list_in w.new further_at m ≡ remainder_by own.now joined.now w.old n group.rank group.total (list_in w.old further_at m) }
     ensures rest { Outside further_at (5 * m) w.old w.new }
 {
     let places = group.places;
@@ -81,8 +73,8 @@ fn multiply_all(
     for k in 0..group.rank {
         let pivot = w[at + k] as usize;
         let other = load(w, STANDARD + 5 * k);
-        let moved = move_pauli(other, own, places, joined, size);
-        let place = place_of(joined, size, qubit_at(own, Place(pivot % places)));
+        let moved = move_pauli(other, own, joined);
+        let place = place_of(joined, qubit_at(own, Place(pivot % places)));
         multiply_at(w, FURTHER, m, pivot < places, place, moved);
     }
 }
@@ -96,19 +88,18 @@ fn remainder(
     nr: usize,
     promise: Promise,
     joined: &[u32],
-    size: usize,
     w: &mut [u64],
 ) -> usize
-    requires { (count_of left.now ≡ answer nl) × (count_of right.now ≡ answer nr) × (size ≤ 128) × (size ≤ length joined.now) × (take size joined.now ≡ support_of (paulis (list_of left.now) ++ paulis (list_of right.now))) × (length w.old ≡ 4096) }
+    requires { (count_of left.now ≡ answer nl) × (count_of right.now ≡ answer nr) × (length joined.now ≤ 128) × (joined.now ≡ support_of (paulis (list_of left.now) ++ paulis (list_of right.now))) × (length w.old ≡ 4096) }
     ensures { Remainder (promise_of promise) (paulis (list_of left.now)) (paulis (list_of right.now)) w.new result }
 {
-    let mut own = [0u32; MOST_QUBITS + 1];
+    let mut own = Support::new();
     let a = group_of(left, nl, &mut own, w);
-    move_list(w, STANDARD, FURTHER, a.total, &own, a.places, joined, size);
-    let mut other = [0u32; MOST_QUBITS + 1];
+    move_list(w, STANDARD, FURTHER, a.total, own.qubits(), joined);
+    let mut other = Support::new();
     let b = group_of(right, nr, &mut other, w);
     let signs = signs_of(w, b.total, promise);
-    multiply_all(w, a.total, nr, b, &other, joined, size);
+    multiply_all(w, a.total, nr, b, other.qubits(), joined);
     take_mod(w, FURTHER, a.total, signs.phases.step());
     a.total
 }
@@ -128,10 +119,10 @@ pub(crate) fn write_modulo(
     ensures left { out.new ≡ left_in (answer (list_bytes (modulo (promise_of promise) (paulis (list_of left.now)) (paulis (list_of right.now))))) out.old }
     ensures area { w.new ≡ cleared w.old }
 {
-    let mut joined = [0u32; MOST_QUBITS + 1];
-    let size = join_support(left, nl, right, nr, &mut joined);
-    let count = remainder(left, nl, right, nr, promise, &joined, size, w);
-    let wrote = write_roll(w, FURTHER, count, &joined, size, out);
+    let support = join_support(left, nl, right, nr);
+    let joined = support.qubits();
+    let count = remainder(left, nl, right, nr, promise, joined, w);
+    let wrote = write_roll(w, FURTHER, count, joined, out);
     clear_bits(w, 0, WORK_WORDS);
     wrote
 }

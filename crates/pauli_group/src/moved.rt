@@ -1,5 +1,5 @@
 // Paulis moved from the places of one support to those of another.
-ghost use Rattle.std.specs.Prelude.{◌≡◌, ◌+◌, ◌*◌, ◌^◌, ◌<◌, ◌≤◌, map, length, take};
+ghost use Rattle.std.specs.Prelude.{◌≡◌, ◌+◌, ◌*◌, ◌^◌, ◌<◌, ◌≤◌, map, length};
 ghost use Rattle.pauli.specs.Pauli.{normal};
 ghost use Rattle.pauli.specs.Signed.{held, list_in};
 ghost use Rattle.pauli.specs.PlaceSet.{set_in};
@@ -15,15 +15,15 @@ use pauli::signed::{Pauli, load, store};
 use pauli::support::{Place, place_from, qubit_at};
 
 // A set of places of the first support as the places of the same qubits in the second.
-fn move_set(set: Places, own: &[u32], count: usize, joined: &[u32], size: usize) -> Places
-    requires { (count ≤ 128) × (count ≤ length own.now) × (size ≤ 128) × (size ≤ length joined.now) × (set_in set < 2 ^ count) × Movable (take count own.now) (take size joined.now) (set_in set) }
-    ensures { set_in result ≡ moved_set (take count own.now) (take size joined.now) (set_in set) }
+fn move_set(set: Places, own: &[u32], joined: &[u32]) -> Places
+    requires { (length own.now ≤ 128) × (length joined.now ≤ 128) × (set_in set < 2 ^ length own.now) × Movable own.now joined.now (set_in set) }
+    ensures { set_in result ≡ moved_set own.now joined.now (set_in set) }
 {
     let mut moved = Places::none();
     let mut from = Place(0);
     let mut i = set.first_from(Place(0)).0;
-    while i < count {
-        let place = place_from(joined, size, from, qubit_at(own, Place(i)));
+    while i < own.len() {
+        let place = place_from(joined, from, qubit_at(own, Place(i)));
         moved = with_place(moved, place);
         from = place;
         i = set.first_from(Place(i + 1)).0;
@@ -32,14 +32,14 @@ fn move_set(set: Places, own: &[u32], count: usize, joined: &[u32], size: usize)
 }
 
 // A Pauli over the places of the first support as one over those of the second.
-pub(crate) fn move_pauli(p: Pauli, own: &[u32], count: usize, joined: &[u32], size: usize) -> Pauli
-    requires { (count ≤ 128) × (count ≤ length own.now) × (size ≤ 128) × (size ≤ length joined.now) × ((held p).x < 2 ^ count) × ((held p).z < 2 ^ count) × MovablePauli (take count own.now) (take size joined.now) (held p) }
-    ensures { held result ≡ moved_pauli (take count own.now) (take size joined.now) (held p) }
+pub(crate) fn move_pauli(p: Pauli, own: &[u32], joined: &[u32]) -> Pauli
+    requires { (length own.now ≤ 128) × (length joined.now ≤ 128) × ((held p).x < 2 ^ length own.now) × ((held p).z < 2 ^ length own.now) × MovablePauli own.now joined.now (held p) }
+    ensures { held result ≡ moved_pauli own.now joined.now (held p) }
 {
     Pauli {
         exponent: p.exponent,
-        x: move_set(p.x, own, count, joined, size),
-        z: move_set(p.z, own, count, joined, size),
+        x: move_set(p.x, own, joined),
+        z: move_set(p.z, own, joined),
     }
 }
 
@@ -50,16 +50,14 @@ pub(crate) fn move_list(
     to: usize,
     n: usize,
     own: &[u32],
-    count: usize,
     joined: &[u32],
-    size: usize,
 )
-    requires { (base + 5 * n ≤ to) × (to + 5 * n ≤ length w.old) × (count ≤ 128) × (count ≤ length own.now) × (size ≤ 128) × (size ≤ length joined.now) × OnPlaces count (list_in w.old base n) × All (MovablePauli (take count own.now) (take size joined.now)) (list_in w.old base n) }
-    ensures list { list_in w.new to n ≡ map (λ p. normal (moved_pauli (take count own.now) (take size joined.now) p)) (list_in w.old base n) }
+    requires { (base + 5 * n ≤ to) × (to + 5 * n ≤ length w.old) × (length own.now ≤ 128) × (length joined.now ≤ 128) × OnPlaces (length own.now) (list_in w.old base n) × All (MovablePauli own.now joined.now) (list_in w.old base n) }
+    ensures list { list_in w.new to n ≡ map (λ p. normal (moved_pauli own.now joined.now p)) (list_in w.old base n) }
     ensures rest { Outside to (5 * n) w.old w.new }
 {
     for i in 0..n {
         let p = load(w, base + 5 * i);
-        store(w, to + 5 * i, move_pauli(p, own, count, joined, size));
+        store(w, to + 5 * i, move_pauli(p, own, joined));
     }
 }

@@ -60,7 +60,7 @@ fn anticommutes_with_some(w: &[u64], base: usize, n: usize, p: Pauli) -> bool
     requires { base + 5 * n ≤ length w.now }
     ensures { yes_number result ≡ anticommutes_with_some_spec (held p) (list_in w.now base n) }
 {
-    some(w, base, n, |q| p.anticommutes(q) == 1)
+    some(w, base, n, |q| p.anticommutes(q))
 }
 
 // Whether two of the n Paulis from word base on anticommute.

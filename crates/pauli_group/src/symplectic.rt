@@ -22,7 +22,7 @@ use binar::row::clear_bits;
 use pauli::joined::numbers_of;
 use pauli::refusal::Refusal;
 use pauli::signed::{Pauli, load, store};
-use pauli::support::{MOST_QUBITS, gather};
+use pauli::support::Support;
 use pauli::write::write_roll;
 
 // How many Paulis are left in the list, how many conjugate elements stand at the standard generators' place, and how many
@@ -41,7 +41,7 @@ fn first_anticommuting(w: &[u64], base: usize, n: usize, x: Pauli) -> Option<usi
     ensures below { IfSome result (λ k. k < n) }
 {
     for i in 0..n {
-        if x.anticommutes(load(w, base + 5 * i)) == 1 {
+        if x.anticommutes(load(w, base + 5 * i)) {
             return Some(i);
         }
     }
@@ -52,7 +52,7 @@ fn first_anticommuting(w: &[u64], base: usize, n: usize, x: Pauli) -> Option<usi
 fn times_if(p: Pauli, q: Pauli, g: Pauli) -> Pauli
     ensures { normal (held result) ≡ normal (times_if_spec (held p) (held q) (held g)) }
 {
-    if g.anticommutes(p) == 1 {
+    if g.anticommutes(p) {
         return g.times(q).pauli;
     }
     g
@@ -139,11 +139,12 @@ fn write_symplectic(b: &[u8], n: usize, w: &mut [u64], out: &mut [u8]) -> Result
     ensures left { out.new ≡ left_in (answer (symplectic_bytes (paulis (list_of b.now)))) out.old }
     ensures area { w.new ≡ cleared w.old }
 {
-    let mut known = [0u32; MOST_QUBITS + 1];
-    let places = gather(b, 2 + 10 * n, numbers_of(b, n), &mut known, 0);
-    read_list(b, n, &known, places, w, LIST);
+    let mut known = Support::new();
+    known.gather(b, 2 + 10 * n, numbers_of(b, n));
+    let qubits = known.qubits();
+    read_list(b, n, qubits, w, LIST);
     pair_up(w, n);
-    let wrote = write_roll(w, STANDARD, n, &known, places, out);
+    let wrote = write_roll(w, STANDARD, n, qubits, out);
     clear_bits(w, 0, WORK_WORDS);
     wrote
 }

@@ -8,15 +8,16 @@ ghost use Rattle.sizes.specs.SizeContracts.{StandardBoundCall};
 use pauli::joined::numbers_of;
 use pauli::refusal::Refusal;
 use pauli::roll::check_roll;
-use pauli::support::{MOST_QUBITS, gather};
+use pauli::support::Support;
 
 // How many distinct qubits an accepted roll of n Paulis has.
 fn qubits_of(b: &[u8], n: usize) -> usize
     requires { count_of b.now ≡ answer n }
     ensures { result ≡ length (support (list_of b.now)) }
 {
-    let mut known = [0u32; MOST_QUBITS + 1];
-    gather(b, 2 + 10 * n, numbers_of(b, n), &mut known, 0)
+    let mut known = Support::new();
+    known.gather(b, 2 + 10 * n, numbers_of(b, n));
+    known.len()
 }
 
 // The bytes of a roll of n Paulis with both sets full of s qubits, or of one such Pauli where n is 0.

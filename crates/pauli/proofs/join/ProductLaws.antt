@@ -1,5 +1,5 @@
 -- Laws of the product of two Paulis of rolls: the refusals in turn, and the product over the joined support.
-use Rattle.std.proofs.Common.{◌≡◌, ℕ, ◌<◌, ◌≤◌, List, [], ◌∷◌, ◌++◌, length, get_or, take, sym, refl, ap, ◌∙◌, subst, ap₂, arith, le-ltb, lt-ltb, le-leb, Result}
+use Rattle.std.proofs.Common.{◌≡◌, ℕ, ◌<◌, ◌≤◌, List, [], ◌∷◌, ◌++◌, length, get_or, sym, refl, ap, ◌∙◌, subst, ap₂, arith, le-ltb, lt-ltb, le-leb, Result}
 use mathlib.Core.List.Memᴰ
 use mathlib.Core.List.{Memᴰ as Mem}
 use borrow.Author.Tests.{lt-leb}
@@ -178,7 +178,7 @@ module _ (l : List ℕ) (i : ℕ) (r : List ℕ) (j : ℕ) (out : List ℕ) wher
     pub right_refused : (w : Result ℕ Refusal) (m p : ℕ) → told_of w ≡ refused m p → count_of r ≡ refused m p → ProductCall l i r j out w out
     right_refused w m p t e = refusing w m p t (product_right_refused l i r j nl (count_accepted l nl el) m p (count_refused r m p e))
 
-    module _ (nr : ℕ) (er : count_of r ≡ answer nr) (old known : List ℕ) (count : ℕ) (J : Gathered (support (list_of l ++ list_of r)) old known count) where
+    module _ (nr : ℕ) (er : count_of r ≡ answer nr) (qs : List ℕ) (J : Gathered (support (list_of l ++ list_of r)) qs) where
       abbrev al : Accepted l nl
       al = count_accepted l nl el
 
@@ -188,10 +188,10 @@ module _ (l : List ℕ) (i : ℕ) (r : List ℕ) (j : ℕ) (out : List ℕ) wher
       abbrev joined : List Sparse
       joined = list_of l ++ list_of r
 
-      pub many_refused : most_qubits < count → (w : Result ℕ Refusal) → told_of w ≡ refused 7 0 → ProductCall l i r j out w out
+      pub many_refused : most_qubits < length qs → (w : Result ℕ Refusal) → told_of w ≡ refused 7 0 → ProductCall l i r j out w out
       many_refused h w t = refusing w 7 0 t (product_many l i r j nl al nr ar (omega (arith, h, J.count)))
 
-      module _ (few : count ≤ most_qubits) where
+      module _ (few : length qs ≤ most_qubits) where
         few_joined : length (support joined) ≤ most_qubits
         few_joined = omega (arith, few, J.count)
 
@@ -202,21 +202,21 @@ module _ (l : List ℕ) (i : ℕ) (r : List ℕ) (j : ℕ) (out : List ℕ) wher
           pub past_right_refused : nr ≤ j → (w : Result ℕ Refusal) → told_of w ≡ refused 8 0 → ProductCall l i r j out w out
           past_right_refused h w t = refusing w 8 0 t (product_past_right l i r j nl al nr ar few_joined hi h)
 
-          pub left_readable : Readable l nl i (take count known)
+          pub left_readable : Readable l nl i qs
           left_readable = subst (Readable l nl i) (sym (J.known few_joined)) (readable l nl al i hi joined (λ p m. Memᴰ.append_left (list_of r) m))
 
           module _ (hj : j < nr) where
-            pub right_readable : Readable r nr j (take count known)
+            pub right_readable : Readable r nr j qs
             right_readable = subst (Readable r nr j) (sym (J.known few_joined)) (readable r nr ar j hj joined (λ p m. Memᴰ.append_right (list_of l) m))
 
-            bytes_written : answer (product_bytes (take count known) (list_of l) i (list_of r) j) ≡ product_of l i r j
+            bytes_written : answer (product_bytes qs (list_of l) i (list_of r) j) ≡ product_of l i r j
             bytes_written =
-                ap answer (ap (λ (qs : List ℕ). product_bytes qs (list_of l) i (list_of r) j) (J.known few_joined)
+                ap answer (ap (λ (ks : List ℕ). product_bytes ks (list_of l) i (list_of r) j) (J.known few_joined)
                 ∙ product_roll (list_of l) i (list_of r) j (rw al.count hi) (rw ar.count hj))
                 ∙ sym (product_answer l i r j nl al nr ar few_joined hi hj)
 
-            pub written : (w : Result ℕ Refusal) (left : List ℕ) → told_of w ≡ told_bytes (answer (product_bytes (take count known) (list_of l) i (list_of r) j)) out
-                → left ≡ left_in (answer (product_bytes (take count known) (list_of l) i (list_of r) j)) out → ProductCall l i r j out w left
+            pub written : (w : Result ℕ Refusal) (left : List ℕ) → told_of w ≡ told_bytes (answer (product_bytes qs (list_of l) i (list_of r) j)) out
+                → left ≡ left_in (answer (product_bytes qs (list_of l) i (list_of r) j)) out → ProductCall l i r j out w left
             written w left et eleft = record {
               told = et ∙ ap (λ (u : Told (List ℕ)). told_bytes u out) bytes_written;
               left = eleft ∙ ap (λ (u : Told (List ℕ)). left_in u out) bytes_written;

@@ -1,5 +1,5 @@
 -- Laws of two rolls joined: what is told of them, where a joined generator stands, and the roll that is written.
-use Rattle.std.proofs.Common.{◌≡◌, ℕ, suc, ◌+◌, ◌-◌, ◌*◌, ◌%◌, ◌<◌, ◌≤◌, min, Bool, true, false, ltb, List, [], ◌∷◌, ◌++◌, map, length, get_or, take, drop, set, sym, refl, ap, ◌∙◌, subst, ap₂, append_assoc, append-nil, add-zero, zero-add, add-one, arith, length-append, length-set, drop_of_length-le, drop-cons, get_or-append-add, ltb-false, le-ltb, lt-ltb, le-leb, Result}
+use Rattle.std.proofs.Common.{◌≡◌, ℕ, suc, ◌+◌, ◌-◌, ◌*◌, ◌%◌, ◌<◌, ◌≤◌, min, Bool, true, false, ltb, List, [], ◌∷◌, ◌++◌, map, length, get_or, take, drop, sym, refl, ap, ◌∙◌, subst, ap₂, append_assoc, append-nil, add-zero, zero-add, add-one, arith, length-append, drop_of_length-le, drop-cons, get_or-append-add, ltb-false, le-ltb, lt-ltb, le-leb, Result}
 use mathlib.Core.List.{map-append}
 use borrow.Author.Tests.{lt-leb}
 use lib.ListN.{length-map, get_or-append}
@@ -17,16 +17,15 @@ use Rattle.pauli.specs.JoinContract.{JoinCall}
 use Rattle.pauli.specs.JoinCalls.{Lists, read_both, few_qubits, within, joined_of, Counts, counts_of, join_of, looked_up, entry_of, stretch_in, stretch_of, bytes_of, body_in, or_empty, body_of}
 use Rattle.pauli.specs.Writing.{put_bytes, entry_bytes, told_bytes, left_in}
 use Rattle.pauli.proofs.roll.Told.{refused_none, test_pass, test_refuses, test_passed}
-use Rattle.pauli.proofs.support.Lists.{AllBytes, drop_one}
+use Rattle.pauli.proofs.support.Lists.{AllBytes}
 use Rattle.pauli.proofs.roll.BytesLaws.{length_numbers, length_le16, le32s_append, numbers_written}
 use Rattle.pauli.proofs.roll.ListSupport.{numbers_append, numbers_by_value}
-use Rattle.pauli.proofs.support.Walk.{insert_all_longer, drop_more}
 use Rattle.pauli.proofs.roll.Paulis.{table_entries, length_entries_of, length_bodies}
 use Rattle.pauli.proofs.roll.Entries.{length_entries_bytes}
 use Rattle.pauli.proofs.roll.RollLaws.{answer_parts, length_encode}
-use Rattle.pauli.proofs.roll.ReaderLaws.{count_read, counted_bound, read_numbers, read_length, read_joined, gathered_all}
+use Rattle.pauli.proofs.roll.ReaderLaws.{count_read, counted_bound, read_numbers, read_length, read_joined}
 use Rattle.pauli.proofs.condense.BodyLaws.{read_count, entry_room, body_room, exponent_is, xs_is, zs_is}
-use Rattle.pauli.proofs.write.Puts.{put_byte, put_nothing, Left, left_start, left_step, left_room, left_done}
+use Rattle.pauli.proofs.write.Puts.{Left, left_start, left_step, left_room, left_done}
 use Rattle.pauli.proofs.write.Writers.{length_entry_bytes}
 use Rattle.pauli.specs.declared.refusal.Refusal.{Refusal}
 use Rattle.pauli.specs.Refusals.{told_of}
@@ -107,22 +106,19 @@ module _ (b : List ℕ) (n : ℕ) (e : count_of b ≡ answer n) where
 -- ---- the joined support
 
 module _ (l r : List ℕ) (nl nr : ℕ) (el : count_of l ≡ answer nl) (er : count_of r ≡ answer nr) (kl kr : ℕ)
-    (sl : kl ≡ length (numbers (list_of l))) (sr : kr ≡ length (numbers (list_of r))) (old mid : List ℕ) (m : ℕ)
-    (g : Gathered (insert_all (numbers_at l (2 + 10 * nl) kl) []) old mid m) where
+    (sl : kl ≡ length (numbers (list_of l))) (sr : kr ≡ length (numbers (list_of r))) (mid : List ℕ)
+    (g : Gathered (insert_all (numbers_at l (2 + 10 * nl) kl) []) mid) where
   left_support : insert_all (numbers_at l (2 + 10 * nl) kl) [] ≡ support (list_of l)
   unfolding support numbers insert_all
   left_support = accepted_joined l nl el kl sl []
 
-  left_known : take m mid ≡ support (list_of l)
+  left_known : mid ≡ support (list_of l)
   left_known = g.known (rw left_support (answer_parts l (list_of l) (accepted l nl el).0).qubits) ∙ left_support
 
-  pub both_gathered : (new : List ℕ) (k : ℕ) → Gathered (insert_all (numbers_at r (2 + 10 * nr) kr) (take m mid)) mid new k → Gathered (support (list_of l ++ list_of r)) old new k
-  both_gathered new k h =
-      let same : insert_all (numbers_at r (2 + 10 * nr) kr) (take m mid) ≡ support (list_of l ++ list_of r) = rw left_known (accepted_joined r nr er kr sr (list_of l)) in
-      let few : length (insert_all (numbers_at l (2 + 10 * nl) kl) []) ≤ most_qubits = rw left_support (answer_parts l (list_of l) (accepted l nl el).0).qubits in
-      let size : length (take m mid) ≡ m = ap length (g.known few) ∙ sym (gathered_all _ _ _ _ g few).0 in
-      let more : m ≤ k = omega (arith, size, g.count, h.count, insert_all_longer (numbers_at r (2 + 10 * nr) kr) (take m mid)) in
-      record { count = rw same at h.count; known = rw same at h.known; among = rw same at h.among; rises = h.rises; rest = h.rest ∙ drop_more m k mid old more g.rest }
+  pub both_gathered : (qs : List ℕ) → Gathered (insert_all (numbers_at r (2 + 10 * nr) kr) mid) qs → Gathered (support (list_of l ++ list_of r)) qs
+  both_gathered qs h =
+      let same : insert_all (numbers_at r (2 + 10 * nr) kr) mid ≡ support (list_of l ++ list_of r) = rw left_known (accepted_joined r nr er kr sr (list_of l)) in
+      subst (λ (S : List ℕ). Gathered S qs) same h
 
 -- ---- the counts
 
@@ -363,7 +359,7 @@ module _ (l r out : List ℕ) where
         let t = le-ltb (length out) (length (write (list_of l ++ list_of r))) (rw s h) in
         record { told = e ∙ rw (joined_roll, t) (ap answer (sym s)); left = rw (joined_roll, t) k }
 
--- ---- entries and bytes, copied one by one
+-- ---- entries, copied one by one
 
 module _ {first whole out : List ℕ} (at : ℕ) (b : List ℕ) (n : ℕ) (e : count_of b ≡ answer n) (i : ℕ) (h : i < n) (a : CodeEntry)
     (f : told_entry a ≡ entry_at b (2 + 10 * i)) (before : ℕ) (l : Left first at whole out (at + 10 * i) (table before (map by_value (drop i (list_of b))))) where
@@ -398,15 +394,3 @@ module _ (b : List ℕ) (n : ℕ) (e : count_of b ≡ answer n) where
   entries_done before i h =
       let past : length (list_of b) ≤ i = rw (accepted b n e).1 h in
       ap (λ (ps : List Sparse). table before (map by_value ps)) (drop_of_length-le (list_of b) past)
-
-module _ {first whole out : List ℕ} {start next : ℕ} (b : List ℕ) (k : ℕ) (h : k < length b) (l : Left first start whole out next (drop k b)) where
-  byte : drop k b ≡ (get_or b k 0 ∷ []) ++ drop (k + 1) b
-  byte = sym (drop_one b k 0 h)
-
-  pub byte_fits : next + 1 ≤ length out
-  byte_fits = left_room l (get_or b k 0 ∷ []) (drop (k + 1) b) 1 byte refl
-
-  pub byte_copied : Left first start whole (set out next (get_or b k 0)) (next + 1) (drop (k + 1) b)
-  byte_copied =
-      left_step l (get_or b k 0 ∷ []) (drop (k + 1) b) 1 byte refl (set out next (get_or b k 0))
-      (sym (put_byte out next (get_or b k 0) [] (omega (arith, byte_fits)) ∙ put_nothing (set out next (get_or b k 0)) (next + 1))) (simp length-set)

@@ -1,5 +1,5 @@
 -- The reader of rolls, step by step: each test of `read` where it refuses and where it passes.
-use Rattle.std.proofs.Common.{◌≡◌, ℕ, zero, suc, ◌+◌, ◌-◌, ◌*◌, ◌<◌, ◌≤◌, min, not, eqb, ltb, List, [], ◌∷◌, ◌++◌, length, get_or, take, sym, refl, ap, ◌∙◌, add-zero, zero-add, add-one, arith, le-ltb, lt-ltb, eq-eqb, ne_eqb}
+use Rattle.std.proofs.Common.{◌≡◌, ℕ, zero, suc, ◌+◌, ◌-◌, ◌*◌, ◌<◌, ◌≤◌, min, not, eqb, ltb, List, [], ◌∷◌, ◌++◌, length, get_or, sym, refl, ap, ◌∙◌, add-zero, zero-add, add-one, arith, le-ltb, lt-ltb, eq-eqb, ne_eqb}
 use native.Mathlib.Nat.{sub-zero}
 use Rattle.pauli.specs.declared.roll.Entry.{Entry as CodeEntry}
 use Rattle.pauli.specs.Told.{Told, answer, refused, refuse_if, and_then, map_told}
@@ -7,7 +7,6 @@ use Rattle.pauli.specs.Bytes.{u16_at, u32_at, numbers_at}
 use Rattle.pauli.specs.Roll.{most_paulis, highest_qubit, Sparse, Entry, entry_at, entries_at, paulis_at, check_entries, check_set, check_sets, numbers, support, read, count_of}
 use Rattle.pauli.specs.Support.{most_qubits, insert_all}
 use Rattle.pauli.specs.RollAnswers.{told_entry}
-use Rattle.pauli.specs.Known.{Gathered}
 use Rattle.pauli.proofs.roll.Told.{refused_none, test_pass, test_refuses}
 use Rattle.pauli.proofs.roll.BytesLaws.{length_numbers}
 use Rattle.pauli.proofs.roll.Entries.{length_entries}
@@ -310,7 +309,3 @@ module _ (b : List ℕ) (ps : List Sparse) (e : read b ≡ answer ps) where
   pub read_joined : (qs : List Sparse) → insert_all (numbers_at b (2 + 10 * length ps) (length (numbers ps))) (support qs) ≡ support (qs ++ ps)
   unfolding support
   read_joined qs = rw (read_numbers, numbers_append qs ps, insert_all_append (numbers qs) (numbers ps) [])
-
--- what is gathered of S is S, if that is no more than a list may have
-pub gathered_all : (S old new : List ℕ) (m : ℕ) → Gathered S old new m → length S ≤ most_qubits → (m ≡ length S) × (take m new ≡ S)
-gathered_all S old new m g h = (omega (arith, g.count), g.known h)

@@ -1,11 +1,11 @@
 -- The known qubit numbers: the walk to a number's place, and what is known once it is put in.
-use Rattle.std.proofs.Common.{◌≡◌, ℕ, zero, suc, ◌+◌, ◌-◌, ◌*◌, ◌<◌, ◌≤◌, Bool, true, false, cond, not, eqb, ltb, List, [], ◌∷◌, ◌++◌, length, get_or, take, drop, set, sym, refl, ap, ◌∙◌, suc-le-suc, add-zero, add-one, arith, length-append, length-drop, length-take-le, take_all, drop-cons, get_or-take, drop-drop, take-suc-set, take_at, drop-set-lt, le-ltb, lt-ltb, eq-eqb, ne_eqb}
+use Rattle.std.proofs.Common.{◌≡◌, ℕ, zero, suc, ◌+◌, ◌-◌, ◌*◌, ◌<◌, ◌≤◌, Bool, true, false, cond, not, eqb, ltb, List, [], ◌∷◌, ◌++◌, length, get_or, take, drop, set, sym, refl, ap, ◌∙◌, suc-le-suc, add-zero, add-one, arith, length-append, length-drop, length-take-le, take_all, drop-cons, get_or-take, take-suc-set, take_at, drop-set-lt, le-ltb, lt-ltb, eq-eqb, ne_eqb}
 use native.Mathlib.Nat.{sub-zero}
 use native.Mathlib.Decide.{dec_lt}
-use lib.Seq.{drop-length, drop-append-add, append_snoc, set_split, take-set-lt}
+use lib.Seq.{drop-length, append_snoc, set_split, take-set-lt}
 use Rattle.pauli.specs.Bytes.{u32_at, numbers_at}
 use Rattle.pauli.specs.Support.{most_qubits, insert, insert_all, Rising}
-use Rattle.pauli.specs.Known.{place_of, first_place, lower, put_at, inserted_at, Noted, Gathered}
+use Rattle.pauli.specs.Known.{place_of, first_place, lower, put_at, inserted_at, Gathered}
 use Rattle.pauli.proofs.support.Lists.{in_get_or}
 use Rattle.pauli.proofs.support.SupportLaws.{by_order, insert_below, insert_same, insert_above, insert_length, insert_all_keeps, rising_least, insert_rises}
 
@@ -44,32 +44,28 @@ unfolding place_of first_place
 place_first [] q = refl
 place_first (r ∷ rs) q = ap (λ n. cond (eqb r q) 0 (suc n)) (place_first rs q)
 
--- the same by a counter, for the first n numbers of l
-module _ (l : List ℕ) (n q : ℕ) (room : n ≤ length l) where
-  known_length : length (take n l) ≡ n
-  known_length = length-take-le n l room
+module _ (l : List ℕ) (q : ℕ) where
+  pub place_le : place_of l q ≤ length l
+  place_le = rw place_first (first_le (λ r. eqb r q) l)
 
-  pub place_le : place_of (take n l) q ≤ n
-  place_le = rw place_first (omega (arith, first_le (λ r. eqb r q) (take n l), known_length))
-
-  pub lower_le : lower q (take n l) ≤ n
+  pub lower_le : lower q l ≤ length l
   unfolding lower
-  lower_le = omega (arith, first_le (λ r. not (ltb r q)) (take n l), known_length)
+  lower_le = first_le (λ r. not (ltb r q)) l
 
-  module _ (i : ℕ) (h : i < n) where
-    pub place_hit : get_or l i 0 ≡ q → place_of (take n l) q ≤ i
-    place_hit e = rw place_first (first_hit (λ r. eqb r q) (take n l) i (omega (arith, known_length)) (rw (get_or-take n l i 0 h) (eq-eqb _ _ e)))
+  module _ (i : ℕ) (h : i < length l) where
+    pub place_hit : get_or l i 0 ≡ q → place_of l q ≤ i
+    place_hit e = rw place_first (first_hit (λ r. eqb r q) l i h (eq-eqb _ _ e))
 
-    pub place_miss : i ≤ place_of (take n l) q → (get_or l i 0 ≡ q → ⊥) → i + 1 ≤ place_of (take n l) q
-    place_miss k e = rw place_first (rw add-one (first_miss (λ r. eqb r q) (take n l) i (rw place_first at k) (omega (arith, known_length)) (rw (get_or-take n l i 0 h) (ne_eqb _ _ e))))
+    pub place_miss : i ≤ place_of l q → (get_or l i 0 ≡ q → ⊥) → i + 1 ≤ place_of l q
+    place_miss k e = rw place_first (rw add-one (first_miss (λ r. eqb r q) l i (rw place_first at k) h (ne_eqb _ _ e)))
 
-    pub lower_hit : q ≤ get_or l i 0 → lower q (take n l) ≤ i
+    pub lower_hit : q ≤ get_or l i 0 → lower q l ≤ i
     unfolding lower
-    lower_hit e = first_hit (λ r. not (ltb r q)) (take n l) i (omega (arith, known_length)) (rw (get_or-take n l i 0 h) (ap not (le-ltb _ _ e)))
+    lower_hit e = first_hit (λ r. not (ltb r q)) l i h (ap not (le-ltb _ _ e))
 
-    pub lower_miss : i ≤ lower q (take n l) → get_or l i 0 < q → i + 1 ≤ lower q (take n l)
+    pub lower_miss : i ≤ lower q l → get_or l i 0 < q → i + 1 ≤ lower q l
     unfolding lower
-    lower_miss k e = rw add-one (first_miss (λ r. not (ltb r q)) (take n l) i k (omega (arith, known_length)) (rw (get_or-take n l i 0 h) (ap not (lt-ltb _ _ e))))
+    lower_miss k e = rw add-one (first_miss (λ r. not (ltb r q)) l i k h (ap not (lt-ltb _ _ e)))
 
 -- ---- q put in at a place
 
@@ -94,19 +90,6 @@ module _ (l : List ℕ) (n : ℕ) (room : n < length l) where
 length_put : (i q : ℕ) (l : List ℕ) → i ≤ length l → length (put_at i q l) ≡ suc (length l)
 unfolding put_at
 length_put i q l h = rw length-append (omega (arith, length-take-le i l h, length-drop i l))
-
--- what is put in front of the rest of l leaves what is past it
-drop_past_front : (p l : List ℕ) (k m : ℕ) → length p ≡ k → k ≤ m → drop m (p ++ drop k l) ≡ drop m l
-drop_past_front p l k m e h =
-    let s : m ≡ length p + (m - k) = omega arith in
-    let t : k + (m - k) ≡ m = omega arith in
-    ap (λ n. drop n (p ++ drop k l)) s ∙ drop-append-add p (drop k l) (m - k) ∙ drop-drop (m - k) k l ∙ ap (λ n. drop n l) t
-
--- lists that are alike past k numbers are alike past more
-pub drop_more : (k m : ℕ) (a b : List ℕ) → k ≤ m → drop k a ≡ drop k b → drop m a ≡ drop m b
-drop_more k m a b h e =
-    let t : k + (m - k) ≡ m = omega arith in
-    ap (λ n. drop n a) (sym t) ∙ sym (drop-drop (m - k) k a) ∙ ap (drop (m - k)) e ∙ drop-drop (m - k) k b ∙ ap (λ n. drop n b) t
 
 -- ---- insert by the place
 
@@ -136,8 +119,8 @@ lower_here least q (r ∷ rs) h (suc i) k e =
     let above : r < q = omega (arith, rising_least (suc r) rs h.1 (in_get_or rs i 0 (omega arith))) in
     rw (lower_go q r rs above) (ap suc (lower_here (suc r) q rs h.1 i (omega arith) e))
 
-pub lower_known : (l : List ℕ) (n q : ℕ) → n ≤ length l → Rising 0 (take n l) → (i : ℕ) → i < n → get_or l i 0 ≡ q → i ≡ lower q (take n l)
-lower_known l n q room h i k e = lower_here 0 q (take n l) h i (omega (arith, length-take-le n l room)) (get_or-take n l i 0 k ∙ e)
+pub lower_known : (l : List ℕ) (q : ℕ) → Rising 0 l → (i : ℕ) → i < length l → get_or l i 0 ≡ q → i ≡ lower q l
+lower_known l q h i k e = lower_here 0 q l h i k e
 
 -- a number that stands at its place changes nothing
 pub insert_there : (q : ℕ) (l : List ℕ) → lower q l < length l → get_or l (lower q l) 0 ≡ q → insert q l ≡ l
@@ -171,27 +154,20 @@ lower_next q s (r ∷ rs) h =
 
 -- ---- one number noted
 
-module _ (l : List ℕ) (n q : ℕ) (few : n ≤ most_qubits) (room : most_qubits < length l) where
-  size : length (take n l) ≡ n
-  size = length-take-le n l (omega arith)
+-- one that is known changes nothing
+pub noted_known : (l : List ℕ) (q i : ℕ) → i ≡ lower q l → i < length l → get_or l i 0 ≡ q → l ≡ insert q l
+noted_known l q i e h k = sym (insert_there q l (rw (← e) h) (rw (← e) k))
 
-  pub noted_known : (i : ℕ) → i ≡ lower q (take n l) → i < n → get_or l i 0 ≡ q → Noted q n l l n (i + 1)
-  noted_known i e h k =
-      let there : insert q (take n l) ≡ take n l = insert_there q (take n l) (omega (arith, size)) (rw (← e) (get_or-take n l i 0 h ∙ k)) in
-      record { known = sym there; count = sym (ap length there ∙ size); next = omega arith; rest = refl }
-
-  pub noted_new : (i : ℕ) → i ≡ lower q (take n l) → i ≤ n → (i < n → get_or l i 0 ≡ q → ⊥) → Noted q n l (inserted_at l n i q) (n + 1) (i + 1)
+-- another is put into the slice l, of which n numbers are known
+module _ (l : List ℕ) (n q : ℕ) (room : n < length l) where
+  pub noted_new : (i : ℕ) → i ≡ lower q (take n l) → (i < n → get_or l i 0 ≡ q → ⊥) → take (n + 1) (inserted_at l n i q) ≡ insert q (take n l)
   unfolding inserted_at
-  noted_new i e h k =
+  noted_new i e k =
+      let size : length (take n l) ≡ n = length-take-le n l (omega arith) in
       let put : insert q (take n l) ≡ put_at i q (take n l) =
       rw e (insert_put q (take n l) (λ b g. k (omega (arith, size)) (sym (get_or-take n l i 0 (omega (arith, size))) ∙ (rw (← e) at g)))) in
-      let long : length (put_at i q (take n l)) ≡ suc n = length_put i q (take n l) (omega (arith, size)) ∙ ap suc size in
-      record {
-        known = rw (add-one n) (take_at (put_at i q (take n l)) (drop (suc n) l) (suc n) long ∙ sym put);
-        count = rw (add-one n) (sym (ap length put ∙ long));
-        next = omega arith;
-        rest = drop_past_front (put_at i q (take n l)) l (suc n) (n + 1) long (omega arith);
-      }
+      let long : length (put_at i q (take n l)) ≡ suc n = length_put i q (take n l) (omega (arith, size, e, lower_le (take n l) q)) ∙ ap suc size in
+      rw (add-one n) (take_at (put_at i q (take n l)) (drop (suc n) l) (suc n) long ∙ sym put)
 
 -- ---- numbers noted in turn
 
@@ -215,55 +191,47 @@ insert_all_longer (q ∷ qs) known = omega (arith, insert_all_longer qs (insert 
 pub walk_from : (l : List ℕ) (last from : ℕ) → ((s : ℕ) → last < s → from ≤ lower s l) → (q : ℕ) → cond (ltb last q) from 0 ≤ lower q l
 walk_from l last from walk q = elim (dec_lt last q) [ yes h ↦ rw (lt-ltb last q h) (walk q h) | no h ↦ rw (le-ltb last q (omega arith)) (omega arith) ]
 
--- i of the numbers are noted: n are known, and the walk for a number above `last` may start at `from`
-module _ (b : List ℕ) (at total : ℕ) (old : List ℕ) (count : ℕ) where
+-- i of the numbers are noted, and the walk for a number above `last` may start at `from`
+module _ (b : List ℕ) (at total : ℕ) (old : List ℕ) where
   abbrev all : List ℕ
-  all = insert_all (numbers_at b at total) (take count old)
+  all = insert_all (numbers_at b at total) old
 
-  pub record Walking (l : List ℕ) (n from last i : ℕ) : Type 0 where
+  pub record Walking (known : List ℕ) (from last i : ℕ) : Type 0 where
     pub done : i ≤ total
-    pub few : n ≤ suc most_qubits
-    pub size : length l ≡ length old
-    pub left : all ≡ insert_all (numbers_at b (at + 4 * i) (total - i)) (take n l)
-    pub walk : (s : ℕ) → last < s → from ≤ lower s (take n l)
-    pub rises : Rising 0 (take n l)
-    pub rest : drop n l ≡ drop n old
+    pub few : length known ≤ suc most_qubits
+    pub left : all ≡ insert_all (numbers_at b (at + 4 * i) (total - i)) known
+    pub walk : (s : ℕ) → last < s → from ≤ lower s known
+    pub rises : Rising 0 known
 
-  pub walking_start : count ≤ suc most_qubits → Rising 0 (take count old) → Walking old count 0 0 0
+  pub walking_start : length old ≤ suc most_qubits → Rising 0 old → Walking old 0 0 0
   walking_start h rises = record {
     done = omega arith;
     few = h;
-    size = refl;
     left = simp (add-zero, sub-zero);
     walk = λ s k. omega arith;
     rises = rises;
-    rest = refl;
   }
 
-  module _ (room : most_qubits < length old) (l : List ℕ) (n from last i : ℕ) (w : Walking l n from last i) where
-    pub walking_next : i < total → (q : ℕ) → q ≡ u32_at b (at + 4 * i) → (new : List ℕ) (m p : ℕ) → n ≤ most_qubits → length new ≡ length l → Noted q n l new m p → Walking new m p q (i + 1)
+  module _ (known : List ℕ) (from last i : ℕ) (w : Walking known from last i) where
+    pub walking_next : i < total → (q : ℕ) → q ≡ u32_at b (at + 4 * i) → (new : List ℕ) (p : ℕ) → length known ≤ most_qubits
+        → new ≡ insert q known → p ≡ suc (lower q known) → Walking new p q (i + 1)
     unfolding insert_all
-    walking_next h q e new m p few same t = record {
+    walking_next h q e new p few t next = record {
       done = omega arith;
-      few = omega (arith, t.count, (insert_length q (take n l)).1, length-take-le n l (omega (arith, w.size)));
-      size = same ∙ w.size;
-      left = w.left ∙ rw (numbers_next b at total i h, ← e, t.known);
-      walk = λ s k. rw (t.next, t.known) (lower_next q s (take n l) k);
-      rises = rw t.known (insert_rises 0 q (take n l) (omega arith) w.rises);
-      rest = t.rest ∙ drop_more n m l old (omega (arith, t.count, (insert_length q (take n l)).0, length-take-le n l (omega (arith, w.size)))) w.rest;
+      few = rw t (omega (arith, few, (insert_length q known).1));
+      left = w.left ∙ rw (numbers_next b at total i h, ← e, t);
+      walk = λ s k. rw (next, t) (lower_next q s known k);
+      rises = rw t (insert_rises 0 q known (omega arith) w.rises);
     }
 
-    known_all : length (take n l) ≡ n
-    known_all = length-take-le n l (omega (arith, w.size, w.few))
-
-    pub walking_full : most_qubits < n → Gathered all old l n
+    pub walking_full : most_qubits < length known → Gathered all known
     walking_full h =
-        let more = insert_all_longer (numbers_at b (at + 4 * i) (total - i)) (take n l) in
-        let long : suc most_qubits ≤ length all = rw w.left (omega (arith, more, known_all)) in
-        record { count = omega (arith, w.few, long); known = λ k. absurd (omega arith); among = λ q. rw w.left (insert_all_keeps (numbers_at b (at + 4 * i) (total - i)) (take n l) q); rises = w.rises; rest = w.rest }
+        let more = insert_all_longer (numbers_at b (at + 4 * i) (total - i)) known in
+        let long : suc most_qubits ≤ length all = rw w.left (omega (arith, more)) in
+        record { count = omega (arith, w.few, long); known = λ k. absurd (omega arith); among = λ q. rw w.left (insert_all_keeps (numbers_at b (at + 4 * i) (total - i)) known q); rises = w.rises }
 
-    pub walking_end : total ≤ i → Gathered all old l n
+    pub walking_end : total ≤ i → Gathered all known
     unfolding insert_all
     walking_end h =
-        let e : all ≡ take n l = w.left ∙ rw (numbers_end b at total i h) in
-        record { count = rw e (omega (arith, w.few, known_all)); known = λ _. sym e; among = λ q. rw e (λ h. h); rises = w.rises; rest = w.rest }
+        let e : all ≡ known = w.left ∙ rw (numbers_end b at total i h) in
+        record { count = rw e (omega (arith, w.few)); known = λ _. sym e; among = λ q. rw e (λ h. h); rises = w.rises }

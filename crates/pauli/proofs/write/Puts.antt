@@ -1,7 +1,8 @@
 -- Laws of bytes put into an output, one after the other.
-use Rattle.std.proofs.Common.{◌≡◌, ℕ, suc, ◌+◌, ◌*◌, ◌/◌, ◌%◌, ◌^◌, ◌<◌, ◌≤◌, List, [], ◌∷◌, ◌++◌, length, get_or, take, drop, set, sym, refl, ap, ◌∙◌, ap₂, append_assoc, add-zero, add_assoc, add-one, arith, length-append, length-drop, length-set, take-append-drop, drop_of_length-le, length-take-le, drop-cons, get_or-take, drop-drop, take-suc-set, take_at, drop-set-lt, shr-shr}
+use Rattle.std.proofs.Common.{◌≡◌, ℕ, suc, ◌+◌, ◌*◌, ◌/◌, ◌%◌, ◌^◌, ◌<◌, ◌≤◌, List, [], ◌∷◌, ◌++◌, length, get_or, take, drop, set, sym, refl, ap, ◌∙◌, ap₂, append_assoc, add-zero, add_assoc, add-one, arith, length-append, length-drop, length-set, take-append-drop, drop_of_length-le, length-take-le, drop-cons, drop-drop, take-suc-set, take_at, drop-set-lt, shr-shr}
 use native.Mathlib.Decide.{dec_lt}
 use lib.Seq.{take-append-add, drop-append-add}
+use borrow.Rule.Slice.PartMut.{put_mid}
 use Rattle.binar.specs.Row.{bit}
 use Rattle.pauli.specs.Bytes.{le16, le32, le32s}
 use Rattle.pauli.specs.Pauli.{cons_if, select}
@@ -25,15 +26,10 @@ module _ (out : List ℕ) (i : ℕ) where
   put_two a b h =
       sym (put_byte out i a (b ∷ []) (omega arith) ∙ put_byte (set out i a) (i + 1) b [] (rw length-set (omega arith)) ∙ put_nothing _ (i + 1 + 1))
 
-  pub put_four : (a b c d : ℕ) → i + 4 ≤ length out → set (set (set (set out i a) (i + 1) b) (i + 2) c) (i + 3) d ≡ put_bytes out i (a ∷ b ∷ c ∷ d ∷ [])
-  put_four a b c d h =
-      let two : i + 2 ≡ i + 1 + 1 = omega arith in
-      let three : i + 3 ≡ i + 1 + 1 + 1 = omega arith in
-      rw (two, three)
-      (sym
-      (put_byte out i a (b ∷ c ∷ d ∷ []) (omega arith) ∙ put_byte (set out i a) (i + 1) b (c ∷ d ∷ []) (rw length-set (omega arith))
-      ∙ put_byte (set (set out i a) (i + 1) b) (i + 1 + 1) c (d ∷ []) (simp length-set (omega arith))
-      ∙ put_byte (set (set (set out i a) (i + 1) b) (i + 1 + 1) c) (i + 1 + 1 + 1) d [] (simp length-set (omega arith)) ∙ put_nothing _ (i + 1 + 1 + 1 + 1)))
+-- a part of an output, from byte i on, that is overwritten
+pub put_part : (out ys bs : List ℕ) (i k : ℕ) → ys ≡ bs → length bs ≡ k → put_mid i k out ys ≡ put_bytes out i bs
+unfolding put_bytes
+put_part out ys bs i k e n = rw (e, n) (ap (λ (rest : List ℕ). take i out ++ (bs ++ rest)) (drop-drop k i out))
 
 -- the front of an output in which bytes are put
 module _ (out : List ℕ) (i : ℕ) (a : List ℕ) (room : i + length a ≤ length out) where
@@ -163,30 +159,26 @@ module _ {first : List ℕ} {start : ℕ} {whole out : List ℕ} {next : ℕ} {r
     }
 
 -- the numbers of a set of places are being written, and those of the places from p on are left
-module _ {first : List ℕ} {start : ℕ} {out : List ℕ} {next : ℕ} (s : ℕ) (support : List ℕ) (count : ℕ) (known : count ≤ length support) (p : ℕ)
-    (r : Left first start (le32s (select s (take count support))) out next (le32s (chosen_from s (take count support) p))) where
-  all : length (take count support) ≡ count
-  all = length-take-le count support known
-
-  pub set_done : count ≤ p → (out ≡ put_bytes first start (le32s (select s (take count support)))) × (next ≡ start + 4 * length (select s (take count support)))
+module _ {first : List ℕ} {start : ℕ} {out : List ℕ} {next : ℕ} (s : ℕ) (support : List ℕ) (p : ℕ)
+    (r : Left first start (le32s (select s support)) out next (le32s (chosen_from s support p))) where
+  pub set_done : length support ≤ p → (out ≡ put_bytes first start (le32s (select s support))) × (next ≡ start + 4 * length (select s support))
   unfolding le32s
   set_done h =
-      let e = left_done r (ap le32s (chosen_end s (take count support) p (rw all h))) in
-      (e.0, e.1 ∙ ap (start +◌) (length_le32s (select s (take count support))))
+      let e = left_done r (ap le32s (chosen_end s support p h)) in
+      (e.0, e.1 ∙ ap (start +◌) (length_le32s (select s support)))
 
-  pub set_skip : {n k : ℕ} → First n s p k → Left first start (le32s (select s (take count support))) out next (le32s (chosen_from s (take count support) k))
-  set_skip f = left_same r _ (ap le32s (chosen_skip s (take count support) f))
+  pub set_skip : {n k : ℕ} → First n s p k → Left first start (le32s (select s support)) out next (le32s (chosen_from s support k))
+  set_skip f = left_same r _ (ap le32s (chosen_skip s support f))
 
-  module _ (h : p < count) (o : bit s p ≡ 1) where
-    number : le32s (chosen_from s (take count support) p) ≡ le32 (get_or support p 0) ++ le32s (chosen_from s (take count support) (p + 1))
+  module _ (h : p < length support) (o : bit s p ≡ 1) where
+    number : le32s (chosen_from s support p) ≡ le32 (get_or support p 0) ++ le32s (chosen_from s support (p + 1))
     unfolding le32s
     number =
-        ap le32s (chosen_hit s (take count support) p (rw all h) o)
-        ∙ ap (λ (q : ℕ). le32 q ++ le32s (chosen_from s (take count support) (p + 1))) (get_or-take count support p 0 h)
+        ap le32s (chosen_hit s support p h o)
 
     pub set_room : next + 4 ≤ length out
     set_room = left_room r (le32 (get_or support p 0)) _ 4 number (length_le32 (get_or support p 0))
 
     pub set_hit : (u : List ℕ) → u ≡ put_bytes out next (le32 (get_or support p 0)) → length u ≡ length out
-        → Left first start (le32s (select s (take count support))) u (next + 4) (le32s (chosen_from s (take count support) (p + 1)))
+        → Left first start (le32s (select s support)) u (next + 4) (le32s (chosen_from s support (p + 1)))
     set_hit = left_step r (le32 (get_or support p 0)) _ 4 number (length_le32 (get_or support p 0))

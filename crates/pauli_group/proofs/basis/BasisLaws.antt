@@ -41,15 +41,14 @@ use Rattle.pauli_group.specs.Inner.Shared.{Joint, standard_over, Stack, basis_ov
 
 -- ---- the joint support
 
-pub joint_is : (ls rs : List Sparse) (old known : List ℕ) (size : ℕ) → Gathered (support (ls ++ rs)) old known size
-    → length (support (ls ++ rs)) ≤ most_qubits → Joint (paulis ls) (paulis rs) known size
+pub joint_is : (ls rs : List Sparse) (qs : List ℕ) → Gathered (support (ls ++ rs)) qs → length (support (ls ++ rs)) ≤ most_qubits → Joint (paulis ls) (paulis rs) qs
 unfolding paulis
-joint_is ls rs old known size g few =
+joint_is ls rs qs g few =
     let same : support (ls ++ rs) ≡ support_of (paulis ls ++ paulis rs) = support_of_lem (ls ++ rs) ∙ ap support_of (paulis_append ls rs) in
     record {
-      support = known_is (ls ++ rs) old known size g few ∙ same;
-      count = places_are (ls ++ rs) old known size g few ∙ ap length same;
-      few = places_few (ls ++ rs) old known size g few;
+      support = known_is (ls ++ rs) qs g few ∙ same;
+      count = places_are (ls ++ rs) qs g few ∙ ap length same;
+      few = places_few (ls ++ rs) qs g few;
     }
 
 -- ---- standard generators moved
@@ -61,10 +60,10 @@ all_movable own qs a b inside ps =
     all_of (λ p. (m p.x, m p.z)) ps
 
 module _ {ks : List Pauli} {known x : List ℕ} {places rank total : ℕ} (G : Grouped ks known x places rank total) (qs : List ℕ) where
-  pub grouped_movable : Rising 0 qs → ((q : ℕ) → Mem q (support_of ks) → Mem q qs) → All (MovablePauli (take places known) qs) (list_in x standard_at total)
+  pub grouped_movable : Rising 0 qs → ((q : ℕ) → Mem q (support_of ks) → Mem q qs) → All (MovablePauli known qs) (list_in x standard_at total)
   grouped_movable rises inside = rw G.support (all_movable (support_of ks) qs (support_rises ks) rises inside (list_in x standard_at total))
 
-  pub grouped_moved : (y : List ℕ) (to : ℕ) → list_in y to total ≡ map (λ p. normal (moved_pauli (take places known) qs p)) (list_in x standard_at total)
+  pub grouped_moved : (y : List ℕ) (to : ℕ) → list_in y to total ≡ map (λ p. normal (moved_pauli known qs p)) (list_in x standard_at total)
       → list_in y to total ≡ standard_over qs ks
   unfolding standard_over over_support moved_pauli
   grouped_moved y to e =
@@ -73,29 +72,29 @@ module _ {ks : List Pauli} {known x : List ℕ} {places rank total : ℕ} (G : G
       (all_map (λ p l. normal_lt (moved_pauli (support_of ks) qs p) l) (standard (placed ks)) (standard_law (placed ks)).values))
 
 -- the lists' supports are in the joint one
-module _ (gs hs : List Pauli) (known : List ℕ) (size : ℕ) (J : Joint gs hs known size) where
-  pub joint_rises : Rising 0 (take size known)
+module _ (gs hs : List Pauli) (known : List ℕ) (J : Joint gs hs known) where
+  pub joint_rises : Rising 0 known
   joint_rises = rw J.support (support_rises (gs ++ hs))
 
-  pub joint_left : (q : ℕ) → Mem q (support_of gs) → Mem q (take size known)
+  pub joint_left : (q : ℕ) → Mem q (support_of gs) → Mem q known
   joint_left q m = rw J.support (left_in_joined gs hs q m)
 
-  pub joint_right : (q : ℕ) → Mem q (support_of hs) → Mem q (take size known)
+  pub joint_right : (q : ℕ) → Mem q (support_of hs) → Mem q known
   joint_right q m = rw J.support (right_in_joined gs hs q m)
 
   -- the area with the first list's group and its moved generators, then with the second's
   pub stack_is : {own x : List ℕ} {places rank total : ℕ} → Grouped gs own x places rank total → (y : List ℕ)
-      → list_in y further_at total ≡ map (λ p. normal (moved_pauli (take places own) (take size known) p)) (list_in x standard_at total)
+      → list_in y further_at total ≡ map (λ p. normal (moved_pauli own known p)) (list_in x standard_at total)
       → {own₂ z : List ℕ} {places₂ rank₂ total₂ : ℕ} → Grouped hs own₂ z places₂ rank₂ total₂ → Outside 0 further_at y z → (u : List ℕ)
-      → list_in u (further_at + 5 * total) total₂ ≡ map (λ p. normal (moved_pauli (take places₂ own₂) (take size known) p)) (list_in z standard_at total₂)
+      → list_in u (further_at + 5 * total) total₂ ≡ map (λ p. normal (moved_pauli own₂ known p)) (list_in z standard_at total₂)
       → Outside (further_at + 5 * total) (5 * total₂) z u → Stack gs hs u total total₂
   stack_is {total = total} A y moved {total₂ = total₂} B o u moved₂ o₂ = record {
     first_is = A.count;
     second_is = B.count;
     left =
-        list_kept o₂ further_at total (omega arith) ∙ list_kept_after o further_at total (omega arith) ∙ grouped_moved A (take size known) y further_at moved
+        list_kept o₂ further_at total (omega arith) ∙ list_kept_after o further_at total (omega arith) ∙ grouped_moved A known y further_at moved
         ∙ ap (λ (qs : List ℕ). standard_over qs gs) J.support;
-    right = grouped_moved B (take size known) u (further_at + 5 * total) moved₂ ∙ ap (λ (qs : List ℕ). standard_over qs hs) J.support;
+    right = grouped_moved B known u (further_at + 5 * total) moved₂ ∙ ap (λ (qs : List ℕ). standard_over qs hs) J.support;
   }
 
 pub standard_over_lem : (qs : List ℕ) (ks : List Pauli) → standard_over qs ks ≡ map (condensed qs) (standard ks)

@@ -1,5 +1,5 @@
 -- Laws of the calls on one list: what they pick from the description, and the standard generators written.
-use Rattle.std.proofs.Common.{◌≡◌, Bool, not, ℕ, ◌+◌, ◌-◌, ◌/◌, List, [], ◌∷◌, length, take, sym, refl, ap, ◌∙◌, ap₂, arith, Err, Ok, Result}
+use Rattle.std.proofs.Common.{◌≡◌, Bool, not, ℕ, ◌+◌, ◌-◌, ◌/◌, List, [], ◌∷◌, length, sym, refl, ap, ◌∙◌, ap₂, arith, Err, Ok, Result}
 use Rattle.pauli.specs.Pauli.{Pauli}
 use Rattle.pauli.specs.Signed.{list_in}
 use Rattle.pauli.specs.declared.refusal.Refusal.{Refusal}
@@ -46,7 +46,7 @@ size_told promise gs r step a b = ap₂ (λ (k : ℕ) (s : ℕ). k + (2 - s / 2)
 -- ---- the standard generators in the area, written
 
 module _ (gs : List Pauli) {known x : List ℕ} {places r total : ℕ} (g : Grouped gs known x places r total) where
-  pub group_written : roll_over (take places known) (list_in x standard_at total) ≡ standard_bytes gs
+  pub group_written : roll_over known (list_in x standard_at total) ≡ standard_bytes gs
   unfolding standard_bytes over_support
   group_written = ap₂ roll_over g.support standards_are ∙ written_standard gs
     where

@@ -1,5 +1,5 @@
 -- Laws of the common part in the work area: from the common basis, with exponents noted twice, to the Paulis that are written.
-use Rattle.std.proofs.Common.{◌≡◌, ℕ, ◌+◌, ◌*◌, ◌/◌, ◌%◌, ◌^◌, ◌<◌, ◌≤◌, List, [], ◌∷◌, ◌++◌, map, length, get_or, take, sym, refl, ap, ◌∙◌, ap₂, arith}
+use Rattle.std.proofs.Common.{◌≡◌, ℕ, ◌+◌, ◌*◌, ◌/◌, ◌%◌, ◌^◌, ◌<◌, ◌≤◌, List, [], ◌∷◌, ◌++◌, map, length, get_or, sym, refl, ap, ◌∙◌, ap₂, arith}
 use mathlib.Core.Option.{Option, some, none}
 use Rattle.binar.proofs.Lists.{all_map, all_over, all_under}
 use Rattle.pauli.specs.Roll.{count_of}
@@ -119,26 +119,26 @@ module _ (gs hs : List Pauli) where
 
 -- ---- the area, step by step
 
-module _ (gs hs : List Pauli) (joint : List ℕ) (size : ℕ) (J : Joint gs hs joint size) (m : ℕ) (x : List ℕ)
+module _ (gs hs : List Pauli) (joint : List ℕ) (J : Joint gs hs joint) (m : ℕ) (x : List ℕ)
     (basis : list_in x further_at m ≡ basis_over gs hs) where
-  pub part_on : OnPlaces size (list_in x further_at m)
+  pub part_on : OnPlaces (length joint) (list_in x further_at m)
   part_on = rw (basis, J.count) (basis_on gs hs)
 
-  pub part_left : All (MovablePauli (take size joint) (support_of gs)) (list_in x further_at m)
+  pub part_left : All (MovablePauli joint (support_of gs)) (list_in x further_at m)
   part_left = rw (basis, J.support) (basis_movable gs hs gs (basis_left gs hs))
 
-  part_right : All (MovablePauli (take size joint) (support_of hs)) (list_in x further_at m)
+  part_right : All (MovablePauli joint (support_of hs)) (list_in x further_at m)
   part_right = rw (basis, J.support) (basis_movable gs hs hs (basis_right gs hs))
 
-  module _ (y : List ℕ) (once : list_in y further_at m ≡ map (λ p. noted (exponent_for (take size joint) gs p) p) (list_in x further_at m)) where
-    pub once_on : OnPlaces size (list_in y further_at m)
+  module _ (y : List ℕ) (once : list_in y further_at m ≡ map (λ p. noted (exponent_for joint gs p) p) (list_in x further_at m)) where
+    pub once_on : OnPlaces (length joint) (list_in y further_at m)
     unfolding OnPlaces
-    once_on = rw once (noted_sets (λ v. v < 2 ^ size) (exponent_for (take size joint) gs) (list_in x further_at m) part_on)
+    once_on = rw once (noted_sets (λ v. v < 2 ^ length joint) (exponent_for joint gs) (list_in x further_at m) part_on)
 
-    pub once_right : All (MovablePauli (take size joint) (support_of hs)) (list_in y further_at m)
-    once_right = rw once (noted_sets (Movable (take size joint) (support_of hs)) (exponent_for (take size joint) gs) (list_in x further_at m) part_right)
+    pub once_right : All (MovablePauli joint (support_of hs)) (list_in y further_at m)
+    once_right = rw once (noted_sets (Movable joint (support_of hs)) (exponent_for joint gs) (list_in x further_at m) part_right)
 
-    module _ (left right : Promise) (z : List ℕ) (again : list_in z further_at m ≡ map (λ p. noted (exponent_for (take size joint) hs p) p) (list_in y further_at m))
+    module _ (left right : Promise) (z : List ℕ) (again : list_in z further_at m ≡ map (λ p. noted (exponent_for joint hs p) p) (list_in y further_at m))
         (a b : ℕ) (ea : a ≡ phase_step left gs) (eb : b ≡ phase_step right hs) (u : List ℕ) (kept : ℕ)
         (shared : list_in u further_at kept ≡ shared_with (shared_noted a b) (list_in z further_at m)) (v : List ℕ) (total : ℕ)
         (phases : list_in v further_at total ≡ list_in u further_at kept ++ phases_from a b 4 0) where
@@ -148,16 +148,16 @@ module _ (gs hs : List Pauli) (joint : List ℕ) (size : ℕ) (J : Joint gs hs j
           let qs = joined gs hs in
           phases
           ∙ ap₂ ◌++◌
-          (shared ∙ ap (shared_with (shared_noted a b)) (again ∙ ap (map (λ p. noted (exponent_for (take size joint) hs p) p)) (once ∙ ap (map (λ p. noted (exponent_for (take size joint) gs p) p)) basis))
+          (shared ∙ ap (shared_with (shared_noted a b)) (again ∙ ap (map (λ p. noted (exponent_for joint hs p) p)) (once ∙ ap (map (λ p. noted (exponent_for joint gs p) p)) basis))
           ∙ ap (λ (ks : List ℕ). shared_with (shared_noted a b) (map (λ p. noted (exponent_for ks hs p) p) (map (λ p. noted (exponent_for ks gs p) p) (basis_over gs hs)))) J.support
           ∙ shared_twice qs gs hs a b (basis_over gs hs)
           ∙ ap₂ (λ (i : ℕ) (j : ℕ). shared_with (λ p. shared_exponent i j (exponent_for qs gs p) (exponent_for qs hs p)) (basis_over gs hs)) ea eb)
           (ap₂ (λ (i : ℕ) (j : ℕ). phases_from i j 4 0) ea eb)
 
-      pub part_places_lem : OnPlaces size (list_in v further_at total)
+      pub part_places_lem : OnPlaces (length joint) (list_in v further_at total)
       part_places_lem = rw (part_list, J.count) (part_places_on left right gs hs)
 
-      pub part_written : roll_over (take size joint) (list_in v further_at total) ≡ list_bytes (common_part left right gs hs)
+      pub part_written : roll_over joint (list_in v further_at total) ≡ list_bytes (common_part left right gs hs)
       part_written = rw (part_list, J.support) (written_part left right gs hs)
 
 -- ---- the call

@@ -1,5 +1,5 @@
 -- Laws of the common part in the work area: exponents noted with the elements of a basis, the shared ones, and the phases.
-use Rattle.std.proofs.Common.{◌≡◌, ℕ, zero, suc, ◌+◌, ◌-◌, ◌*◌, ◌/◌, ◌%◌, ◌^◌, ◌<◌, ◌≤◌, max, List, [], ◌∷◌, ◌++◌, map, length, get_or, take, set, sym, refl, ap, ◌∙◌, subst, ap₂, append_assoc, append-nil, mod-eq_of_lt, div-add-mod', add-one, arith, length-set, length-take-le, get_or-set_other, get_or-set_same}
+use Rattle.std.proofs.Common.{◌≡◌, ℕ, zero, suc, ◌+◌, ◌-◌, ◌*◌, ◌/◌, ◌%◌, ◌^◌, ◌<◌, ◌≤◌, max, List, [], ◌∷◌, ◌++◌, map, length, get_or, set, sym, refl, ap, ◌∙◌, subst, ap₂, append_assoc, append-nil, mod-eq_of_lt, div-add-mod', add-one, arith, length-set, get_or-set_other, get_or-set_same}
 use mathlib.Core.List.{map-append}
 use mathlib.Core.Option.{Option, some, none}
 use lib.Seq.{sets}
@@ -210,29 +210,29 @@ module _ (a b n : ℕ) (first : List ℕ) where
 
 -- ---- the exponent of the product that solves for an element
 
-module _ (w joint own : List ℕ) (at n size places rank : ℕ) (S : Solving w n places rank) (Own-room : places ≤ length own) (q r : Held)
-    (loaded : normal (held q) ≡ normal (pauli_in w at)) (moved : held r ≡ moved_pauli (take size joint) (take places own) (held q)) where
+module _ (w joint own : List ℕ) (at n places rank : ℕ) (S : Solving w n places rank) (Own-size : places ≡ length own) (q r : Held)
+    (loaded : normal (held q) ≡ normal (pauli_in w at)) (moved : held r ≡ moved_pauli joint own (held q)) where
   abbrev m : Pauli
-  m = moved_pauli (take size joint) (take places own) (pauli_in w at)
+  m = moved_pauli joint own (pauli_in w at)
 
   x_is : (held r).x ≡ m.x
   unfolding normal moved_pauli
-  x_is = ap (λ (t : Pauli). t.x) moved ∙ ap (moved_set (take size joint) (take places own)) (ap (λ (t : Pauli). t.x) loaded)
+  x_is = ap (λ (t : Pauli). t.x) moved ∙ ap (moved_set joint own) (ap (λ (t : Pauli). t.x) loaded)
 
   z_is : (held r).z ≡ m.z
   unfolding normal moved_pauli
-  z_is = ap (λ (t : Pauli). t.z) moved ∙ ap (moved_set (take size joint) (take places own)) (ap (λ (t : Pauli). t.z) loaded)
+  z_is = ap (λ (t : Pauli). t.z) moved ∙ ap (moved_set joint own) (ap (λ (t : Pauli). t.z) loaded)
 
-  moved_low : (v : ℕ) → moved_set (take size joint) (take places own) v < 2 ^ places
+  moved_low : (v : ℕ) → moved_set joint own v < 2 ^ places
   unfolding moved_set
-  moved_low v = subst (λ (k : ℕ). moved_set (take size joint) (take places own) v < 2 ^ k) (length-take-le places own Own-room) (condense_lt (take places own) _)
+  moved_low v = subst (λ (k : ℕ). moved_set joint own v < 2 ^ k) (sym Own-size) (condense_lt own _)
 
   pub target_low : ((held r).x < 2 ^ places) × ((held r).z < 2 ^ places)
   unfolding moved_pauli
   target_low = (rw x_is (moved_low (pauli_in w at).x), rw z_is (moved_low (pauli_in w at).z))
 
   abbrev exponent : ℕ
-  exponent = exponent_over (take size joint) (take places own) n places w (pauli_in w at)
+  exponent = exponent_over joint own n places w (pauli_in w at)
 
   solution_is : (o : Option ℕ) → o ≡ transpose_solve (2 * places) (form_in (stride_of n) n row_words (2 * places) rank w) (row_over places (held r))
       → exponent_by (list_in w list_at n) o ≡ exponent
@@ -263,9 +263,9 @@ pub record NotedUpTo (f : Pauli → Pauli) (first : List ℕ) (i : ℕ) (w : Lis
   pub middle : (k : ℕ) → list_at ≤ k → k < further_at → get_or w k 0 ≡ get_or first k 0
   pub after : (k : ℕ) → further_at + 5 * i ≤ k → get_or w k 0 ≡ get_or first k 0
 
-module _ (first joint own : List ℕ) (n size places rank : ℕ) (S : Solving first n places rank) where
+module _ (first joint own : List ℕ) (n places rank : ℕ) (S : Solving first n places rank) where
   abbrev pub f : Pauli → Pauli
-  f p = noted (exponent_over (take size joint) (take places own) n places first p) p
+  f p = noted (exponent_over joint own n places first p) p
 
   pub noted_none : NotedUpTo f first 0 first
   unfolding list_in
@@ -294,14 +294,14 @@ module _ (first joint own : List ℕ) (n size places rank : ℕ) (S : Solving fi
     pub noted_here : pauli_in w (further_at + 5 * i) ≡ pauli_in first (further_at + 5 * i)
     noted_here = pauli_same w first (further_at + 5 * i) (λ k a b. N.after k a)
 
-    pub noted_element : (m : ℕ) → i < m → OnPlaces size (list_in first further_at m) → (qs rs : List ℕ) → All (MovablePauli qs rs) (list_in first further_at m)
+    pub noted_element : (size m : ℕ) → i < m → OnPlaces size (list_in first further_at m) → (qs rs : List ℕ) → All (MovablePauli qs rs) (list_in first further_at m)
         → let p = pauli_in w (further_at + 5 * i) in (p.x < 2 ^ size) × (p.z < 2 ^ size) × MovablePauli qs rs p
-    noted_element m h on qs rs all =
+    noted_element size m h on qs rs all =
         let o = on_places_at size first further_at m i on h in
         rw noted_here
         (o.0, o.1, subst (MovablePauli qs rs) (list_at_lem first further_at m i I h) (all_get (MovablePauli qs rs) (list_in first further_at m) I all i (rw (length_list first further_at m) h)))
 
-    module _ (e : ℕ) (told : e ≡ exponent_over (take size joint) (take places own) n places w (pauli_in w (further_at + 5 * i)))
+    module _ (e : ℕ) (told : e ≡ exponent_over joint own n places w (pauli_in w (further_at + 5 * i)))
         (u : List ℕ) (o : Outside target_at (stride_of n) w u) (room : further_at + 5 * i + 5 ≤ length first) where
       abbrev at : ℕ
       at = further_at + 5 * i
@@ -312,9 +312,9 @@ module _ (first joint own : List ℕ) (n size places rank : ℕ) (S : Solving fi
       further : (k : ℕ) → further_at ≤ k → get_or u k 0 ≡ get_or w k 0
       further k h = o.after k (omega (arith, (form_room n S.few).1))
 
-      exponent_is : e ≡ exponent_over (take size joint) (take places own) n places first (pauli_in first at)
+      exponent_is : e ≡ exponent_over joint own n places first (pauli_in first at)
       unfolding exponent_over
-      exponent_is = told ∙ ap₂ (λ ps p. solved_exponent places ps (moved_pauli (take size joint) (take places own) p)) list_here noted_here
+      exponent_is = told ∙ ap₂ (λ ps p. solved_exponent places ps (moved_pauli joint own p)) list_here noted_here
 
       module _ (v : List ℕ) (put : v ≡ set u at word) where
         other : (k : ℕ) → (k ≡ at → ⊥) → get_or v k 0 ≡ get_or u k 0
@@ -375,10 +375,10 @@ module _ (b : List ℕ) (n : ℕ) (count : count_of b ≡ answer n) {known x : L
     pub group_further : (s : ℕ) → OnPlaces s (list_in entry further_at m) → OnPlaces s (list_in x further_at m)
     group_further s on = rw further_kept on
 
-    pub group_movable : All (MovablePauli qs (support_of gs)) (list_in entry further_at m) → All (MovablePauli qs (take places known)) (list_in x further_at m)
+    pub group_movable : All (MovablePauli qs (support_of gs)) (list_in entry further_at m) → All (MovablePauli qs known) (list_in x further_at m)
     group_movable all = rw (further_kept, G.support) all
 
-    pub group_noted : (y : List ℕ) → list_in y further_at m ≡ map (λ p. noted (exponent_over qs (take places known) n places x p) p) (list_in x further_at m)
+    pub group_noted : (y : List ℕ) → list_in y further_at m ≡ map (λ p. noted (exponent_over qs known n places x p) p) (list_in x further_at m)
         → list_in y further_at m ≡ map (λ p. noted (exponent_for qs gs p) p) (list_in entry further_at m)
     unfolding exponent_over exponent_for
     group_noted y e = e ∙ rw (further_kept, G.support, group_list, ← G.size)
@@ -388,6 +388,6 @@ module _ (b : List ℕ) (n : ℕ) (count : count_of b ≡ answer n) {known x : L
   unfolding over_support
   list_on = rw (group_list, G.size) (places_on gs)
 
-  pub list_written : roll_over (take places known) (list_in x list_at n) ≡ list_bytes gs
+  pub list_written : roll_over known (list_in x list_at n) ≡ list_bytes gs
   unfolding over_support
   list_written = rw (group_list, G.support) (written_placed gs)

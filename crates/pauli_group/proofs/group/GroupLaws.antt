@@ -1,5 +1,5 @@
 -- The group of a list in the work area: from the roll's Paulis over the places of their support.
-use Rattle.std.proofs.Common.{◌≡◌, ℕ, ◌+◌, ◌*◌, ◌≤◌, List, [], ◌++◌, map, length, take, sym, refl, ap, ◌∙◌, subst, ap₂, arith, length-append}
+use Rattle.std.proofs.Common.{◌≡◌, ℕ, ◌+◌, ◌*◌, ◌≤◌, List, [], ◌++◌, map, length, sym, refl, ap, ◌∙◌, subst, ap₂, arith, length-append}
 use mathlib.Core.List.{map-append, Memᴰ as Mem}
 use lib.ListN.{length-map}
 use Rattle.binar.specs.Echelon.{rank as echelon_rank}
@@ -34,61 +34,61 @@ use Rattle.pauli_group.proofs.list.ListLaws.{list_append, list_kept}
 
 -- the numbers of one accepted roll, gathered
 module _ (b : List ℕ) (n : ℕ) (e : count_of b ≡ answer n) where
-  pub own_gathered : (k : ℕ) → k ≡ length (numbers (list_of b)) → (old new : List ℕ) (m : ℕ)
-      → Gathered (insert_all (numbers_at b (2 + 10 * n) k) []) old new m → Gathered (support (list_of b)) old new m
+  pub own_gathered : (k : ℕ) → k ≡ length (numbers (list_of b)) → (qs : List ℕ)
+      → Gathered (insert_all (numbers_at b (2 + 10 * n) k) []) qs → Gathered (support (list_of b)) qs
   unfolding support numbers insert_all
-  own_gathered k size old new m g = subst (λ (S : List ℕ). Gathered S old new m) (accepted_joined b n e k size []) g
+  own_gathered k size qs g = subst (λ (S : List ℕ). Gathered S qs) (accepted_joined b n e k size []) g
 
   pub own_few : length (support (list_of b)) ≤ most_qubits
   own_few = (answer_parts b (list_of b) (accepted b n e).0).qubits
 
-module _ (ps : List Sparse) (old known : List ℕ) (places : ℕ) (g : Gathered (support ps) old known places) (few : length (support ps) ≤ most_qubits) where
-  pub known_is : take places known ≡ support ps
+module _ (ps : List Sparse) (known : List ℕ) (g : Gathered (support ps) known) (few : length (support ps) ≤ most_qubits) where
+  pub known_is : known ≡ support ps
   known_is = g.known few
 
-  pub places_are : places ≡ length (support ps)
+  pub places_are : length known ≡ length (support ps)
   unfolding most_qubits
   places_are = omega (arith, g.count, few)
 
-  pub places_few : places ≤ 128
+  pub places_few : length known ≤ 128
   unfolding most_qubits
   places_few = omega (arith, places_are, few)
 
   -- each Pauli of a roll whose list is part of ps
-  pub part_readable : (b : List ℕ) (n : ℕ) → count_of b ≡ answer n → ((p : Sparse) → Mem p (list_of b) → Mem p ps) → ReadableAll b n (take places known)
+  pub part_readable : (b : List ℕ) (n : ℕ) → count_of b ≡ answer n → ((p : Sparse) → Mem p (list_of b) → Mem p ps) → ReadableAll b n known
   part_readable b n e inside i h = rw known_is (readable b n (count_accepted b n e) i h ps inside)
 
   -- the area with the list
-  module _ (w : List ℕ) (n : ℕ) (list : list_in w list_at n ≡ map (over_places (take places known)) ps) where
+  module _ (w : List ℕ) (n : ℕ) (list : list_in w list_at n ≡ map (over_places known) ps) where
     pub listed : list_in w list_at n ≡ over_support (paulis ps)
     unfolding over_places over_support paulis
     listed = list ∙ ap (λ (qs : List ℕ). map (λ (p : Sparse). normal (condensed qs (pauli_of p))) ps) known_is ∙ placed_roll ps
 
-    pub size_same : places ≡ length (support_of (paulis ps))
+    pub size_same : length known ≡ length (support_of (paulis ps))
     unfolding paulis
     size_same = places_are ∙ ap length (support_of_lem ps)
 
-    pub on_places : OnPlaces places (list_in w list_at n)
+    pub on_places : OnPlaces (length known) (list_in w list_at n)
     unfolding over_support
     on_places = rw (listed, size_same) (places_on (paulis ps))
 
-    form_same : form_over places (list_in w list_at n) ≡ form_of (over_support (paulis ps))
+    form_same : form_over (length known) (list_in w list_at n) ≡ form_of (over_support (paulis ps))
     unfolding form_over row_over over_support
     form_same = rw (listed, size_same) (sym (places_echelon (paulis ps)))
 
     -- and with its form and standard generators
-    module _ (x : List ℕ) (r total : ℕ) (count : length ps ≡ n) (B : Built w n places x r total) where
+    module _ (x : List ℕ) (r total : ℕ) (count : length ps ≡ n) (B : Built w n (length known) x r total) where
       rank_same : r ≡ rank (over_support (paulis ps))
       unfolding rank
       rank_same = B.rank_is ∙ ap echelon_rank form_same
 
-      standard_same : from_products r (products_named (form_over places (list_in w list_at n)) (list_in w list_at n)) ≡ standard (over_support (paulis ps))
+      standard_same : from_products r (products_named (form_over (length known) (list_in w list_at n)) (list_in w list_at n)) ≡ standard (over_support (paulis ps))
       unfolding from_products products_named
       standard_same =
           ap₂ (λ (k : ℕ) (qs : List Pauli). from_products k qs) rank_same (ap₂ products_named form_same listed)
           ∙ sym (standard_by_products (over_support (paulis ps)))
 
-      pub grouped : Grouped (paulis ps) known x places r total
+      pub grouped : Grouped (paulis ps) known x (length known) r total
       unfolding over_support paulis
       grouped =
           let size : n ≡ length (paulis ps) = sym (length-map ps pauli_of ∙ count) in

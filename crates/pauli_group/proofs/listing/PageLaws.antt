@@ -1,5 +1,5 @@
 -- Laws of a page of a group's elements: as the work area holds it, and as it is written.
-use Rattle.std.proofs.Common.{◌≡◌, ℕ, zero, suc, ◌+◌, ◌-◌, ◌*◌, ◌/◌, ◌%◌, ◌^◌, ◌<◌, ◌≤◌, min, ltb, List, [], ◌∷◌, ◌++◌, map, length, get_or, take, drop, sym, refl, ap, ◌∙◌, ap₂, arith, length-take, get_or-drop, get_or-take, ext_get_or, le-ltb, lt-ltb}
+use Rattle.std.proofs.Common.{◌≡◌, ℕ, zero, suc, ◌+◌, ◌-◌, ◌*◌, ◌/◌, ◌%◌, ◌^◌, ◌<◌, ◌≤◌, min, ltb, List, [], ◌∷◌, ◌++◌, map, length, get_or, drop, sym, refl, ap, ◌∙◌, ap₂, arith, length-take, get_or-drop, get_or-take, ext_get_or, le-ltb, lt-ltb}
 use lib.ListN.{length-map}
 use lib.Seq.{sets}
 use Rattle.binar.specs.Row.{if_bit}
@@ -203,7 +203,7 @@ module _ (promise : Promise) (gs : List Pauli) where
         pub page_places : OnPlaces places (list_in y further_at n)
         page_places = rw (listed, page_is, g.size) (condensed_on (support_of gs) shown)
 
-        pub page_written : roll_over (take places known) (list_in y further_at n) ≡ page_bytes promise start count gs
+        pub page_written : roll_over known (list_in y further_at n) ≡ page_bytes promise start count gs
         unfolding page_bytes
         page_written = ap₂ roll_over g.support (listed ∙ page_is) ∙ written_over (support_of gs) (support_rises gs) shown page_on
 

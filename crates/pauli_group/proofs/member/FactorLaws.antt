@@ -1,5 +1,5 @@
 -- Laws of an element put to the group of a list: when its qubits are in the support, and what the answer is.
-use Rattle.std.proofs.Common.{◌≡◌, ℕ, suc, ◌+◌, ◌-◌, ◌*◌, ◌%◌, ◌^◌, ◌<◌, ◌≤◌, Bool, true, false, cond, ltb, List, [], ◌∷◌, ◌++◌, map, length, get_or, take, drop, sym, refl, ap, ◌∙◌, ap₂, ⊎_elim, arith, length-take, get_or-drop, get_or-take, ltb-true, lt-ltb, ne_eqb}
+use Rattle.std.proofs.Common.{◌≡◌, ℕ, suc, ◌+◌, ◌-◌, ◌*◌, ◌%◌, ◌^◌, ◌<◌, ◌≤◌, Bool, true, false, cond, ltb, List, [], ◌∷◌, ◌++◌, map, length, get_or, take, drop, sym, refl, ap, ◌∙◌, ap₂, ⊎_elim, arith, get_or-drop, get_or-take, ltb-true, lt-ltb, ne_eqb}
 use mathlib.Core.List.Memᴰ
 use mathlib.Core.List.Memᴰ.{append_cases as in-append}
 use mathlib.Core.List.Memᴰ.{head as here}
@@ -122,10 +122,10 @@ covered_readable b n c i h qs rises e =
 -- ---- a group in the area
 
 module _ {gs : List Pauli} {known x : List ℕ} {places r total : ℕ} (G : Grouped gs known x places r total) where
-  pub places_known : places ≤ length known
-  places_known = omega (arith, length-take places known, ap length G.support, G.size)
+  pub places_known : places ≡ length known
+  places_known = G.size ∙ ap length (sym G.support)
 
-  pub known_rises : Rising 0 (take places known)
+  pub known_rises : Rising 0 known
   known_rises = rw G.support (support_rises gs)
 
   form_is : form_in (stride_of (length gs)) (length gs) row_words (2 * places) r x ≡ form_of gs
@@ -179,18 +179,17 @@ module _ {known w : List ℕ} {n places r total step : ℕ} (g : Asked known w n
 
   -- the element e of a roll
   module _ (e : Sparse) where
-    pub factored_off : covered (take places known) (e.xs ++ e.zs) ≡ false → none ≡ factorization_of g.promise gs (pauli_of e)
+    pub factored_off : covered known (e.xs ++ e.zs) ≡ false → none ≡ factorization_of g.promise gs (pauli_of e)
     factored_off c =
         sym (off_factorization g.promise gs (pauli_of e) (covered_off (support_of gs) e (rw g.grouped.support at c)))
 
-    module _ (c : covered (take places known) (e.xs ++ e.zs) ≡ true) (p : Held)
-        (hp : held p ≡ condensed (take places known) (pauli_of e)) where
+    module _ (c : covered known (e.xs ++ e.zs) ≡ true) (p : Held)
+        (hp : held p ≡ condensed known (pauli_of e)) where
       pub asked_on : ((held p).x < 2 ^ places) × ((held p).z < 2 ^ places)
       unfolding condensed
       asked_on =
-          let size : length (take places known) ≡ places = ap length g.grouped.support ∙ sym g.grouped.size in
-          let qs = take places known in
-          rw hp (rw size at (condense_lt qs (pauli_of e).x), rw size at (condense_lt qs (pauli_of e).z))
+          let size : length known ≡ places = ap length g.grouped.support ∙ sym g.grouped.size in
+          rw hp (rw size at (condense_lt known (pauli_of e).x), rw size at (condense_lt known (pauli_of e).z))
 
       abbrev p' : Pauli
       p' = normal (condensed (support_of gs) (pauli_of e))

@@ -42,24 +42,24 @@ module _ (gs hs : List Pauli) (qs : List ℕ) (joint : qs ≡ support_of (gs ++ 
   -- ---- the left group
 
   module _ {known x : List ℕ} {places r total : ℕ} (g : Grouped gs known x places r total) where
-    left_movable : (v : ℕ) → Movable (take places known) qs v
+    left_movable : (v : ℕ) → Movable known qs v
     left_movable v = record {
       own_rises = rw g.support (support_rises gs);
       rises = qs_rise;
-      inside = λ i h e. rw joint (left_in_joined gs hs _ (subst (Mem (get_or (take places known) i 0)) g.support (in_get_or (take places known) i 0 h)));
+      inside = λ i h e. rw joint (left_in_joined gs hs _ (subst (Mem (get_or known i 0)) g.support (in_get_or known i 0 h)));
     }
 
-    pub left_moves : OnPlaces places (list_in x standard_at total) → All (MovablePauli (take places known) qs) (list_in x standard_at total)
+    pub left_moves : OnPlaces places (list_in x standard_at total) → All (MovablePauli known qs) (list_in x standard_at total)
     unfolding OnPlaces
     left_moves on = all_map (λ p _. (left_movable p.x, left_movable p.z)) (list_in x standard_at total) on
 
     module _ (y : List ℕ)
-        (list : list_in y further_at total ≡ map (λ p. normal (moved_pauli (take places known) qs p)) (list_in x standard_at total)) where
+        (list : list_in y further_at total ≡ map (λ p. normal (moved_pauli known qs p)) (list_in x standard_at total)) where
       pub moved_low : All (λ p. p.e < 4) (list_in y further_at total)
       moved_low =
           rw list
-          (all_over (λ p. p.e < 4) (λ p. normal (moved_pauli (take places known) qs p)) (list_in x standard_at total)
-          (all_of (λ p. normal_low (moved_pauli (take places known) qs p)) (list_in x standard_at total)))
+          (all_over (λ p. p.e < 4) (λ p. normal (moved_pauli known qs p)) (list_in x standard_at total)
+          (all_of (λ p. normal_low (moved_pauli known qs p)) (list_in x standard_at total)))
 
       pub left_list : list_in y further_at total ≡ map (moved_pauli (support_of gs) qs) (standard (placed gs))
       unfolding over_support moved_pauli
@@ -72,10 +72,10 @@ module _ (gs hs : List Pauli) (qs : List ℕ) (joint : qs ≡ support_of (gs ++ 
 
   module _ {known x : List ℕ} {places r total : ℕ} (g : Grouped hs known x places r total) (few : length hs ≤ 128) (small : places ≤ 128)
       (size : length x ≡ 4096) (total-few : total ≤ 128) (on : OnPlaces places (list_in x standard_at total)) where
-    own_length : length (take places known) ≡ places
+    own_length : length known ≡ places
     own_length = ap length g.support ∙ sym g.size
 
-    pub right_other : Other (take places known) qs x (length hs) r total
+    pub right_other : Other known qs x (length hs) r total
     unfolding rank echelon_rank
     right_other = record {
       own_rises = rw g.support (support_rises hs);
@@ -90,14 +90,14 @@ module _ (gs hs : List Pauli) (qs : List ℕ) (joint : qs ≡ support_of (gs ++ 
 
     -- the multiplications from what was moved
     module _ (ps : List Pauli) (moved : ps ≡ map (moved_pauli (support_of gs) qs) (standard (placed gs))) where
-      pub remainder_is : remainder_by (take places known) qs x (length hs) r total ps ≡ multiplied_places gs hs
+      pub remainder_is : remainder_by known qs x (length hs) r total ps ≡ multiplied_places gs hs
       unfolding remainder_by over_support form_in
       remainder_is =
           let pivots : take r (drop (length hs * stride_of (length hs)) x) ≡ (form_of (placed hs)).pivots = ap (λ (f : EchelonForm). f.pivots) g.form in
           rw (moved, pivots, g.standards, g.support, joint) refl
 
       pub remainder_left : (promise : Promise) (m : ℕ) → m ≡ phase_step promise hs → (w y : List ℕ) (n : ℕ)
-          → list_in w further_at n ≡ remainder_by (take places known) qs x (length hs) r total ps
+          → list_in w further_at n ≡ remainder_by known qs x (length hs) r total ps
           → list_in y further_at n ≡ map (exponent_mod m) (list_in w further_at n) → n ≤ 128 → Remainder promise gs hs y n
       remainder_left promise m step w y n made taken low =
           let list = taken ∙ ap (map (exponent_mod m)) (made ∙ remainder_is) ∙ places_modulo gs hs promise m step in
@@ -109,20 +109,20 @@ module _ (gs hs : List Pauli) (qs : List ℕ) (joint : qs ≡ support_of (gs ++ 
 
 -- ---- the joined support of two rolls
 
-module _ (l r old new : List ℕ) (m : ℕ) (few : length (support (list_of l ++ list_of r)) ≤ most_qubits)
-    (g : Gathered (support (list_of l ++ list_of r)) old new m) where
+module _ (l r qs : List ℕ) (few : length (support (list_of l ++ list_of r)) ≤ most_qubits)
+    (g : Gathered (support (list_of l ++ list_of r)) qs) where
   abbrev ks : List Sparse
   ks = list_of l ++ list_of r
 
-  pub joined_support : take m new ≡ support_of (paulis (list_of l) ++ paulis (list_of r))
+  pub joined_support : qs ≡ support_of (paulis (list_of l) ++ paulis (list_of r))
   unfolding paulis
-  joined_support = known_is ks old new m g few ∙ support_of_lem ks ∙ ap support_of (map-append pauli_of (list_of l) (list_of r))
+  joined_support = known_is ks qs g few ∙ support_of_lem ks ∙ ap support_of (map-append pauli_of (list_of l) (list_of r))
 
-  pub joined_size : m ≡ length (support_of (paulis (list_of l) ++ paulis (list_of r)))
-  joined_size = places_are ks old new m g few ∙ ap length (sym (known_is ks old new m g few) ∙ joined_support)
+  pub joined_size : length qs ≡ length (support_of (paulis (list_of l) ++ paulis (list_of r)))
+  joined_size = places_are ks qs g few ∙ ap length (sym (known_is ks qs g few) ∙ joined_support)
 
-  pub joined_places : m ≤ 128
-  joined_places = places_few ks old new m g few
+  pub joined_places : length qs ≤ 128
+  joined_places = places_few ks qs g few
 
 -- ---- the remainder, written
 

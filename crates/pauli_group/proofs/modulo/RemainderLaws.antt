@@ -1,5 +1,5 @@
 -- Laws of the remainder in the work area: Paulis multiplied at a pivot, and by all standard generators in turn.
-use Rattle.std.proofs.Common.{◌≡◌, ℕ, zero, suc, ◌+◌, ◌*◌, ◌%◌, ◌^◌, ◌<◌, ◌≤◌, Bool, true, false, cond, ltb, List, map, length, get_or, take, drop, sym, refl, ap, ◌∙◌, subst, mod-lt, add-one, arith, length-drop, length-take-le, get_or-drop, get_or-take}
+use Rattle.std.proofs.Common.{◌≡◌, ℕ, zero, suc, ◌+◌, ◌*◌, ◌%◌, ◌^◌, ◌<◌, ◌≤◌, Bool, true, false, cond, ltb, List, map, length, get_or, take, drop, sym, refl, ap, ◌∙◌, mod-lt, add-one, arith, length-drop, length-take-le, get_or-drop, get_or-take}
 use lib.ListN.{length-map}
 use Rattle.binar.specs.Row.{bit, if_bit}
 use Rattle.binar.proofs.row.Bits.{bit_lt}
@@ -178,43 +178,31 @@ module _ (own qs x : List ℕ) (n rank total m : ℕ) where
                   (all_map (λ p _. normal_low (multiplied_at is_x place (held moved) p)) (list_in w further_at m) u.low));
             }
 
--- the same where own is the first numbers of a slice, as many as there are places
-module _ (known qs x : List ℕ) (places n rank total m : ℕ) (room : places ≤ length known)
-    (o : Other (take places known) qs x n rank total) (size : length x ≡ 4096) (k : ℕ) (w : List ℕ)
-    (u : MultipliedUpTo (take places known) qs x n rank total m k w) (h : k < rank) (pivot at : ℕ) (start : at ≡ n * stride_of n)
+-- the same where own has as many numbers as there are places
+module _ (own qs x : List ℕ) (places n rank total m : ℕ) (own_size : places ≡ length own)
+    (o : Other own qs x n rank total) (size : length x ≡ 4096) (k : ℕ) (w : List ℕ)
+    (u : MultipliedUpTo own qs x n rank total m k w) (h : k < rank) (pivot at : ℕ) (start : at ≡ n * stride_of n)
     (read : pivot ≡ get_or w (at + k) 0) where
-  abbrev own : List ℕ
-  own = take places known
-
-  own_size : length own ≡ places
-  own_size = length-take-le places known room
-
   met : pivot ≡ get_or w (n * stride_of n + k) 0
   met = read ∙ ap (λ (i : ℕ). get_or w (i + k) 0) start
 
   pub places_some : 0 < places
   places_some = omega (arith, own_size, pivot_low own qs x n rank total m o size k w u h pivot met)
 
-  pub qubit_room : pivot % places < length known
-  qubit_room = omega (arith, room, mod-lt pivot places_some)
+  pub qubit_room : pivot % places < length own
+  qubit_room = omega (arith, own_size, mod-lt pivot places_some)
 
   module _ (other : Held) (loaded : normal (held other) ≡ normal (pauli_in w (standard_at + 5 * k))) where
-    pub loaded_moves : ((held other).x < 2 ^ places) × ((held other).z < 2 ^ places) × MovablePauli own qs (held other)
-    loaded_moves =
-        let a = other_moves own qs x n rank total m o size k w u h pivot met other loaded in
-        (subst (λ (j : ℕ). (held other).x < 2 ^ j) own_size a.0, subst (λ (j : ℕ). (held other).z < 2 ^ j) own_size a.1, a.2)
+    pub loaded_moves : ((held other).x < 2 ^ length own) × ((held other).z < 2 ^ length own) × MovablePauli own qs (held other)
+    loaded_moves = other_moves own qs x n rank total m o size k w u h pivot met other loaded
 
     module _ (moved : Held) (made : held moved ≡ moved_pauli own qs (held other)) (place q : ℕ) (found : place ≡ place_of qs q)
-        (qubit : q ≡ get_or known (pivot % places) 0) where
+        (qubit : q ≡ get_or own (pivot % places) 0) where
       place_is : place ≡ place_of qs (get_or own (pivot % length own) 0)
-      place_is =
-          found
-          ∙ ap (place_of qs)
-          (qubit ∙ sym (get_or-take places known (pivot % places) 0 (mod-lt pivot places_some))
-          ∙ ap (λ (j : ℕ). get_or own (pivot % j) 0) (sym own_size))
+      place_is = found ∙ ap (place_of qs) (qubit ∙ ap (λ (j : ℕ). get_or own (pivot % j) 0) own_size)
 
       test : ltb pivot places ≡ ltb pivot (length own)
-      test = ap (ltb pivot) (sym own_size)
+      test = ap (ltb pivot) own_size
 
       pub place_few : length qs ≤ 128 → place < 128
       place_few = place_low own qs x n rank total m o size k w u h pivot met other loaded moved made place (ltb pivot places) test place_is

@@ -1,5 +1,5 @@
 -- Laws of Paulis moved from the places of one list of qubits to those of another.
-use Rattle.std.proofs.Common.{◌≡◌, ℕ, zero, suc, ◌+◌, ◌*◌, ◌%◌, ◌^◌, ◌<◌, ◌≤◌, List, [], ◌∷◌, length, get_or, take, sym, ap, ◌∙◌, lt_of_lt_of_le, mod-eq_of_lt, add-one, arith, length-take-le, get_or-take, pow_mono, eq-eqb, ne_eqb}
+use Rattle.std.proofs.Common.{◌≡◌, ℕ, zero, suc, ◌+◌, ◌*◌, ◌%◌, ◌^◌, ◌<◌, ◌≤◌, List, [], ◌∷◌, length, get_or, sym, ap, ◌∙◌, lt_of_lt_of_le, mod-eq_of_lt, add-one, arith, pow_mono, eq-eqb, ne_eqb}
 use mathlib.Core.List.Memᴰ.{head as here}
 use mathlib.Core.List.Memᴰ.{tail as there}
 use mathlib.Core.List.{Memᴰ as Mem}
@@ -41,40 +41,27 @@ lower_place least (r ∷ rs) h q (there m) =
     let past : suc r ≤ q = rising_least (suc r) rs h.1 m in
     lower_go q r rs past ∙ rw (ne_eqb r q (λ e. omega arith)) (ap suc (lower_place (suc r) rs h.1 q m))
 
--- a set moved, place by place: own has count numbers, qs has size
-module _ (known joined : List ℕ) (count size v : ℕ) (few : size ≤ 128) (Own-room : count ≤ length known) (room : size ≤ length joined)
-    (m : Movable (take count known) (take size joined) v) where
-  abbrev own : List ℕ
-  own = take count known
-
-  abbrev qs : List ℕ
-  qs = take size joined
-
-  own_length : length own ≡ count
-  own_length = length-take-le count known Own-room
-
+-- a set moved, place by place
+module _ (own qs : List ℕ) (v : ℕ) (few : length qs ≤ 128) (m : Movable own qs v) where
   -- the qubit q at the place i of the set
-  module _ (i q : ℕ) (h : i < count) (e : bit v i ≡ 1) (met : q ≡ get_or known i 0) where
-    met_own : q ≡ get_or own i 0
-    met_own = met ∙ sym (get_or-take count known i 0 h)
-
+  module _ (i q : ℕ) (h : i < length own) (e : bit v i ≡ 1) (met : q ≡ get_or own i 0) where
     met_inside : Mem q qs
-    met_inside = rw met_own (m.inside i (rw own_length h) e)
+    met_inside = rw met (m.inside i h e)
 
     pub move_place : lower q qs < 128
-    move_place = omega (arith, (lower_at 0 qs m.rises q met_inside).0, length-take-le size joined room)
+    move_place = omega (arith, (lower_at 0 qs m.rises q met_inside).0)
 
     -- the next is further on
-    pub move_further : (k : ℕ) → i < k → k < count → lower q qs ≤ lower (get_or known k 0) qs
+    pub move_further : (k : ℕ) → i < k → k < length own → lower q qs ≤ lower (get_or own k 0) qs
     move_further k lt u =
-        let above : q < get_or known k 0 = rw (met_own, ← get_or-take count known k 0 u) (rising_at 0 own m.own_rises i k lt (rw own_length u)) in
-        omega (arith, rw (insert_known 0 q qs m.rises met_inside) at (lower_next q (get_or known k 0) qs above))
+        let above : q < get_or own k 0 = rw met (rising_at 0 own m.own_rises i k lt u) in
+        omega (arith, rw (insert_known 0 q qs m.rises met_inside) at (lower_next q (get_or own k 0) qs above))
 
     pub move_with : (r set place : ℕ) → set ≡ moved_set own qs (v % 2 ^ i) → place ≡ lower q qs → r ≡ bit_or set (2 ^ place)
         → r ≡ moved_set own qs (v % 2 ^ (i + 1))
     move_with r set place a b c =
-        let there : place ≡ place_of qs (get_or own i 0) = b ∙ lower_place 0 qs m.rises q met_inside ∙ ap (place_of qs) met_own in
-        c ∙ rw (a, there, add-one i) (sym (moved_with own m.own_rises qs m.rises v i (rw own_length h) (m.inside i (rw own_length h) e) e))
+        let there : place ≡ place_of qs (get_or own i 0) = b ∙ lower_place 0 qs m.rises q met_inside ∙ ap (place_of qs) met in
+        c ∙ rw (a, there, add-one i) (sym (moved_with own m.own_rises qs m.rises v i h (m.inside i h e) e))
 
   pub move_start : (set : ℕ) → set ≡ 0 → set ≡ moved_set own qs (v % 2 ^ 0)
   move_start set e = e ∙ sym (moved_none own m.own_rises qs v)
@@ -82,7 +69,7 @@ module _ (known joined : List ℕ) (count size v : ℕ) (few : size ≤ 128) (Ow
   pub move_skip : {n i k r : ℕ} → First n v i k → r ≡ moved_set own qs (v % 2 ^ i) → r ≡ moved_set own qs (v % 2 ^ k)
   move_skip f a = a ∙ skip (λ j. moved_set own qs (v % 2 ^ j)) f (λ j z. rw (add-one j) (sym (moved_without own m.own_rises qs v j z)))
 
-  pub move_end : (i r : ℕ) → v < 2 ^ count → count ≤ i → r ≡ moved_set own qs (v % 2 ^ i) → r ≡ moved_set own qs v
+  pub move_end : (i r : ℕ) → v < 2 ^ length own → length own ≤ i → r ≡ moved_set own qs (v % 2 ^ i) → r ≡ moved_set own qs v
   move_end i r l b e = e ∙ ap (moved_set own qs) (mod-eq_of_lt (lt_of_lt_of_le l (pow_mono b)))
 
 -- ---- a Pauli loaded and moved

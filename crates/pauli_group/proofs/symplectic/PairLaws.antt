@@ -452,21 +452,21 @@ paired_end first n w p s z u e o =
 
 -- ---- the paired list of an accepted roll, over the places of its support
 
-module _ (b : List ℕ) (n : ℕ) (e : count_of b ≡ answer n) (old known : List ℕ) (places : ℕ)
-    (g : Gathered (support (list_of b)) old known places) (w : List ℕ)
-    (list : list_in w list_at n ≡ map (over_places (take places known)) (list_of b)) (u : List ℕ)
+module _ (b : List ℕ) (n : ℕ) (e : count_of b ≡ answer n) (known : List ℕ)
+    (g : Gathered (support (list_of b)) known) (w : List ℕ)
+    (list : list_in w list_at n ≡ map (over_places known) (list_of b)) (u : List ℕ)
     (paired : list_in u standard_at n ≡ map normal (symplectic_form (list_in w list_at n))) where
   pairs_are : list_in u standard_at n ≡ map normal (symplectic_form (placed (paulis (list_of b))))
   unfolding over_support
   pairs_are =
-      paired ∙ ap (λ (ps : List Pauli). map normal (symplectic_form ps)) (listed (list_of b) old known places g (own_few b n e) w n list)
+      paired ∙ ap (λ (ps : List Pauli). map normal (symplectic_form ps)) (listed (list_of b) known g (own_few b n e) w n list)
 
-  pub pairs_on : OnPlaces places (list_in u standard_at n)
+  pub pairs_on : OnPlaces (length known) (list_in u standard_at n)
   pairs_on =
-      rw (pairs_are, size_same (list_of b) old known places g (own_few b n e) w n list) (symplectic_places_on (paulis (list_of b)))
+      rw (pairs_are, size_same (list_of b) known g (own_few b n e) w n list) (symplectic_places_on (paulis (list_of b)))
 
-  pub pairs_written : roll_over (take places known) (list_in u standard_at n) ≡ symplectic_bytes (paulis (list_of b))
+  pub pairs_written : roll_over known (list_in u standard_at n) ≡ symplectic_bytes (paulis (list_of b))
   unfolding symplectic_bytes paulis
   pairs_written =
-      ap₂ roll_over (known_is (list_of b) old known places g (own_few b n e) ∙ support_of_lem (list_of b)) pairs_are
+      ap₂ roll_over (known_is (list_of b) known g (own_few b n e) ∙ support_of_lem (list_of b)) pairs_are
       ∙ written_symplectic (paulis (list_of b))

@@ -1,5 +1,5 @@
 -- What the inner functions leave in the work area, and what they tell.
-use Rattle.std.specs.Prelude.{◌≡◌, ℕ, ◌*◌, List, map, length, take, Result}
+use Rattle.std.specs.Prelude.{◌≡◌, ℕ, ◌*◌, List, map, length, Result}
 use Rattle.binar.specs.Echelon.{EchelonForm, rank as echelon_rank}
 use Rattle.binar.specs.Layout.{form_in}
 use Rattle.pauli.specs.Condense.{condensed}
@@ -35,9 +35,9 @@ pub record Built (l : List ℕ) (n s : ℕ) (x : List ℕ) (rank total : ℕ) : 
 unfoldable pub over_support : List Pauli → List Pauli
 over_support gs = map (λ p. normal (condensed (support_of gs) p)) gs
 
--- the list gs, its form and its standard generators are in the area x, and the first numbers of `known` are its support
+-- the list gs, its form and its standard generators are in the area x, and `known` is its support, of so many places
 pub record Grouped (gs : List Pauli) (known x : List ℕ) (places rank' total : ℕ) : Type 0 where
-  pub support : take places known ≡ support_of gs
+  pub support : known ≡ support_of gs
   pub size : places ≡ length (support_of gs)
   pub rank_is : rank' ≡ rank gs
   pub form : form_in (stride_of (length gs)) (length gs) row_words (2 * places) rank' x ≡ form_of (over_support gs)

@@ -1,5 +1,5 @@
 -- The common part of two groups, in the work area.
-use Rattle.std.specs.Prelude.{◌≡◌, ℕ, ◌+◌, ◌*◌, ◌/◌, ◌%◌, ◌≤◌, List, ◌++◌, map, length, take}
+use Rattle.std.specs.Prelude.{◌≡◌, ℕ, ◌+◌, ◌*◌, ◌/◌, ◌%◌, ◌≤◌, List, ◌++◌, map, length}
 use Rattle.std.proofs.Math.Option.{Option}
 use Rattle.binar.specs.Layout.{form_in, FormLeft}
 use Rattle.pauli.specs.Pauli.{Pauli}
@@ -13,11 +13,11 @@ use Rattle.pauli_group.specs.Inner.Groups.{over_support}
 
 -- ---- the common basis
 
--- the first `size` numbers of `known` are the support of the two lists joined
-pub record Joint (gs hs : List Pauli) (known : List ℕ) (size : ℕ) : Type 0 where
-  pub support : take size known ≡ support_of (gs ++ hs)
-  pub count : size ≡ length (support_of (gs ++ hs))
-  pub few : size ≤ 128
+-- the numbers in qs are the support of the two lists joined
+pub record Joint (gs hs : List Pauli) (qs : List ℕ) : Type 0 where
+  pub support : qs ≡ support_of (gs ++ hs)
+  pub count : length qs ≡ length (support_of (gs ++ hs))
+  pub few : length qs ≤ 128
 
 -- the standard generators of ks over the places of qs
 unfoldable pub standard_over : List ℕ → List Pauli → List Pauli

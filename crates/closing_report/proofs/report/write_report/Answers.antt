@@ -4,7 +4,6 @@ use mathlib.Core.List.{List}
 use Prim.Native.Nat.{ℕ}
 use native.Mathlib.Omega.{arith}
 use Rattle.pauli.specs.Roll.{most_paulis}
-use Rattle.pauli.specs.Support.{most_qubits}
 use Rattle.pauli.specs.Told.{answer}
 use Rattle.pauli.proofs.joined.JoinLaws.{accepted_few}
 use Rattle.pauli.specs.Writing.{told_bytes, left_in}
@@ -16,8 +15,7 @@ use Rattle.closing_report.proofs.report.CallLaws.{report_text}
 use Rattle.closing_report.proofs.report.write_report.Goals as goal
 
 pub group_of-g-requires : goal.group_of-g-requires
-unfolding most_qubits
-group_of-g-requires c = (c.requires.0, omega arith, c.requires.2)
+group_of-g-requires c = (c.requires.0, c.requires.2)
 
 pub signs_of-signs-requires : goal.signs_of-signs-requires
 signs_of-signs-requires c =
@@ -34,7 +32,7 @@ factor_all-requires c =
       omega arith,
       group.auto.w ∙ c.requires.2,
       group_places _ _ c.requires.0 group.ensures.group,
-      asked_of _ _ c.requires.0 group.ensures.group none signs.clash signs.step signs.stabilizer,
+      asked_of _ _ c.requires.0 (rw (← c.qubits.ensures.list) at group.ensures.group) none signs.clash signs.step signs.stabilizer,
     )
 
 pub write_listing-requires : goal.write_listing-requires
@@ -50,6 +48,6 @@ returns c =
     let signs = c.signs_of-signs.ensures in
     let wrote = c.write_listing.ensures in
     let numbers = described group.ensures.group none _ _ _ signs.clash signs.step signs.stabilizer in
-    let results = c.factor_all.ensures (asked_of _ _ c.requires.0 group.ensures.group none signs.clash signs.step signs.stabilizer) in
+    let results = c.factor_all.ensures (asked_of _ _ c.requires.0 (rw (← c.qubits.ensures.list) at group.ensures.group) none signs.clash signs.step signs.stabilizer) in
     let text = report_text _ _ _ _ _ _ numbers.rank_is numbers.step_is numbers.clash_is results in
     let out = c.args.out.now in record { told = wrote.told ∙ ap (λ (t : List ℕ). told_bytes (answer t) out) text; left = wrote.left ∙ ap (λ (t : List ℕ). left_in (answer t) out) text }

@@ -1,6 +1,5 @@
 -- The group is built, and the elements are put to it.
 use Rattle.std.proofs.Common.{◌∙◌, arith}
-use Rattle.pauli.specs.Support.{most_qubits}
 use Rattle.pauli_group.specs.Promises.{promise_of}
 use Rattle.pauli_group.proofs.group.GroupLaws.{described, facts_are}
 use Rattle.pauli_group.proofs.group.GroupedLaws.{group_total, group_places, list_few, list_length}
@@ -8,8 +7,7 @@ use Rattle.pauli_group.proofs.member.FactorLaws.{asked_of}
 use Rattle.factorizations.proofs.stored.factor_rolls.Goals as goal
 
 pub group_of-g-requires : goal.group_of-g-requires
-unfolding most_qubits
-group_of-g-requires c = (c.requires.0, omega arith, c.requires.2)
+group_of-g-requires c = (c.requires.0, c.requires.2)
 
 pub signs_of-signs-requires : goal.signs_of-signs-requires
 signs_of-signs-requires c =
@@ -26,7 +24,7 @@ factor_all-requires c =
       omega arith,
       group.auto.w ∙ c.requires.2,
       group_places _ _ c.requires.0 group.ensures.group,
-      asked_of _ _ c.requires.0 group.ensures.group _ signs.clash signs.step signs.stabilizer,
+      asked_of _ _ c.requires.0 (rw (← c.qubits.ensures.list) at group.ensures.group) _ signs.clash signs.step signs.stabilizer,
     )
 
 pub returns : goal.returns
@@ -34,4 +32,4 @@ unfolding asked_of
 returns c =
     let group = c.group_of-g in
     let signs = c.signs_of-signs.ensures in
-    let asked = asked_of _ _ c.requires.0 group.ensures.group (promise_of c.args.promise) signs.clash signs.step signs.stabilizer in record { told = facts_are _ _ (described group.ensures.group _ _ _ _ signs.clash signs.step signs.stabilizer); results = c.factor_all.ensures asked }
+    let asked = asked_of _ _ c.requires.0 (rw (← c.qubits.ensures.list) at group.ensures.group) (promise_of c.args.promise) signs.clash signs.step signs.stabilizer in record { told = facts_are _ _ (described group.ensures.group _ _ _ _ signs.clash signs.step signs.stabilizer); results = c.factor_all.ensures asked }

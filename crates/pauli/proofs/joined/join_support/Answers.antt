@@ -9,8 +9,8 @@ overflow_mul-nl c = omega (arith, accepted_length c.args.left.now c.args.nl c.re
 pub overflow_add-nl : goal.overflow_add-nl
 overflow_add-nl c = omega (arith, accepted_length c.args.left.now c.args.nl c.requires.0)
 
-pub gather-first-requires : goal.gather-first-requires
-gather-first-requires c = (omega (arith, accepted_length c.args.left.now c.args.nl c.requires.0, c.numbers_of.ensures), omega arith, c.requires.2, tt)
+pub gather-requires : goal.gather-requires
+gather-requires c = omega (arith, accepted_length c.args.left.now c.args.nl c.requires.0, c.numbers_of.ensures)
 
 pub overflow_mul-nr : goal.overflow_mul-nr
 overflow_mul-nr c = omega (arith, accepted_length c.args.right.now c.args.nr c.requires.1)
@@ -18,8 +18,8 @@ overflow_mul-nr c = omega (arith, accepted_length c.args.right.now c.args.nr c.r
 pub overflow_add-nr : goal.overflow_add-nr
 overflow_add-nr c = omega (arith, accepted_length c.args.right.now c.args.nr c.requires.1)
 
-pub gather-requires : goal.gather-requires
-gather-requires c = (omega (arith, accepted_length c.args.right.now c.args.nr c.requires.1, c.numbers_of-2.ensures), omega (arith, c.gather-first.ensures.count), omega (arith, c.requires.2, c.gather-first.auto.known), c.gather-first.ensures.rises)
+pub gather-requires-2 : goal.gather-requires-2
+gather-requires-2 c = omega (arith, accepted_length c.args.right.now c.args.nr c.requires.1, c.numbers_of-2.ensures)
 
 pub returns : goal.returns
-returns c = both_gathered c.args.left.now c.args.right.now c.args.nl c.args.nr c.requires.0 c.requires.1 c.numbers_of.result c.numbers_of-2.result c.numbers_of.ensures c.numbers_of-2.ensures c.args.known.now _ _ c.gather-first.ensures _ _ c.gather.ensures
+returns c = both_gathered c.args.left.now c.args.right.now c.args.nl c.args.nr c.requires.0 c.requires.1 c.numbers_of.result c.numbers_of-2.result c.numbers_of.ensures c.numbers_of-2.ensures _ (rw c.new-support.ensures at c.gather.ensures) _ c.gather-2.ensures

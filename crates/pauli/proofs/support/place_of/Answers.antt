@@ -5,17 +5,11 @@ use Rattle.pauli.proofs.support.place_of.Goals as goal
 pub loop-i-init : goal.loop-i-init
 loop-i-init c = omega arith
 
-pub offset_bounds-known-i : goal.offset_bounds-known-i
-offset_bounds-known-i c = omega arith
-
-pub bounds-known-i : goal.bounds-known-i
-bounds-known-i c = omega arith
-
-pub returns-then-known-i : goal.returns-then-known-i
-returns-then-known-i c = omega (arith, place_hit c.args.known.now c.args.count c.args.q.0 c.requires c.loop-i.i c.loop-i-test.true c.if-known-i.true)
+pub returns-then-support-i : goal.returns-then-support-i
+returns-then-support-i c = omega (arith, place_hit c.args.support.now c.args.q.0 c.loop-i.i c.loop-i-test.true c.if-support-i.true)
 
 pub loop-i-preserved : goal.loop-i-preserved
-loop-i-preserved c = (omega arith, place_miss c.args.known.now c.args.count c.args.q.0 c.requires c.loop-i.i c.loop-i-test.true c.loop-i.invariant.1 c.if-known-i.false)
+loop-i-preserved c = (omega arith, place_miss c.args.support.now c.args.q.0 c.loop-i.i c.loop-i-test.true c.loop-i.invariant.1 c.if-support-i.false)
 
 pub returns : goal.returns
-returns c = omega (arith, place_le c.args.known.now c.args.count c.args.q.0 c.requires)
+returns c = omega (arith, place_le c.args.support.now c.args.q.0)

@@ -1,12 +1,9 @@
--- Two stores.
-use Rattle.std.proofs.Common.{◌/◌, ◌%◌, arith, length-set}
-use Rattle.pauli.proofs.write.Puts.{put_two}
+-- The bytes of the number are copied.
+use Rattle.std.proofs.Common.{◌∙◌, arith}
+use Rattle.pauli.proofs.write.Puts.{put_part}
 use Rattle.pauli.specs.Bytes.{le16}
 use Rattle.pauli.proofs.write.put_u16.Goals as goal
 
-pub bounds-out-at-2 : goal.bounds-out-at-2
-bounds-out-at-2 c = simp length-set (omega arith)
-
 pub returns : goal.returns
 unfolding le16
-returns c = put_two c.args.out.now c.args.at (c.args.v % 256) (c.args.v / 256 % 256) (omega arith)
+returns c = put_part _ _ (le16 c.args.v) _ _ (c.copy_from_slice.ensures.after ∙ c.to_le_bytes.ensures) (omega arith)

@@ -1,13 +1,11 @@
 use Rattle.std.proofs.Common.{◌∙◌, arith}
-use Rattle.pauli.specs.Support.{most_qubits}
 use Rattle.pauli_group.proofs.member.FactorLaws.{places_known}
 use Rattle.pauli_group.proofs.group.GroupedLaws.{group_total, group_places, group_on}
 use Rattle.pauli_group.proofs.basis.BasisLaws.{grouped_movable, joint_rises, joint_left, joint_right, stack_is}
 use Rattle.pauli_group.proofs.basis.stack_standard.Goals as goal
 
 pub group_of-a-requires : goal.group_of-a-requires
-unfolding most_qubits
-group_of-a-requires c = (c.requires.0, omega arith, c.requires.3)
+group_of-a-requires c = (c.requires.0, c.requires.3)
 
 pub move_list-requires : goal.move_list-requires
 move_list-requires c =
@@ -15,18 +13,15 @@ move_list-requires c =
     let total = group_total _ _ c.requires.0 g.group in (
       omega (arith, total),
       omega (arith, total, g.rest.size, c.requires.3),
-      group_places _ _ c.requires.0 g.group,
-      places_known g.group,
-      c.requires.5.few,
-      c.requires.4,
-      group_on _ _ c.requires.0 g.group,
-      grouped_movable g.group _ (joint_rises _ _ _ _ c.requires.5) (joint_left _ _ _ _ c.requires.5),
+      rw (c.qubits.ensures.list, ← places_known g.group) (group_places _ _ c.requires.0 g.group),
+      c.requires.4.few,
+      rw (c.qubits.ensures.list, ← places_known g.group) (group_on _ _ c.requires.0 g.group),
+      rw c.qubits.ensures.list (grouped_movable g.group _ (joint_rises _ _ _ c.requires.4) (joint_left _ _ _ c.requires.4)),
     )
 
 pub group_of-b-requires : goal.group_of-b-requires
-unfolding most_qubits
 group_of-b-requires c =
-    (c.requires.1, omega (arith, c.group_of-a.auto.known), c.move_list.ensures.rest.size ∙ c.group_of-a.ensures.rest.size ∙ c.requires.3)
+    (c.requires.1, c.move_list.ensures.rest.size ∙ c.group_of-a.ensures.rest.size ∙ c.requires.3)
 
 pub overflow_mul-a : goal.overflow_mul-a
 overflow_mul-a c = omega (arith, group_total _ _ c.requires.0 c.group_of-a.ensures.group)
@@ -41,12 +36,10 @@ move_list-requires-2 c =
     let first = group_total _ _ c.requires.0 c.group_of-a.ensures.group in (
       omega (arith, total, first),
       omega (arith, total, first, g.rest.size, c.move_list.ensures.rest.size, c.group_of-a.ensures.rest.size, c.requires.3),
-      group_places _ _ c.requires.1 g.group,
-      places_known g.group,
-      c.requires.5.few,
-      c.requires.4,
-      group_on _ _ c.requires.1 g.group,
-      grouped_movable g.group _ (joint_rises _ _ _ _ c.requires.5) (joint_right _ _ _ _ c.requires.5),
+      rw (c.qubits-2.ensures.list, ← places_known g.group) (group_places _ _ c.requires.1 g.group),
+      c.requires.4.few,
+      rw (c.qubits-2.ensures.list, ← places_known g.group) (group_on _ _ c.requires.1 g.group),
+      rw c.qubits-2.ensures.list (grouped_movable g.group _ (joint_rises _ _ _ c.requires.4) (joint_right _ _ _ c.requires.4)),
     )
 
 pub shape_of-w : goal.shape_of-w
@@ -54,4 +47,4 @@ shape_of-w c = c.move_list-2.ensures.rest.size ∙ c.group_of-b.ensures.rest.siz
 
 pub returns : goal.returns
 returns c =
-    stack_is _ _ _ _ c.requires.5 c.group_of-a.ensures.group _ c.move_list.ensures.list c.group_of-b.ensures.group c.group_of-b.ensures.rest _ c.move_list-2.ensures.list c.move_list-2.ensures.rest
+    stack_is _ _ _ c.requires.4 c.group_of-a.ensures.group _ (rw c.qubits.ensures.list at c.move_list.ensures.list) c.group_of-b.ensures.group c.group_of-b.ensures.rest _ (rw c.qubits-2.ensures.list at c.move_list-2.ensures.list) c.move_list-2.ensures.rest

@@ -1,5 +1,4 @@
 use Rattle.std.proofs.Common.{◌∙◌, arith}
-use Rattle.pauli.specs.Support.{most_qubits}
 use Rattle.pauli_group.proofs.member.FactorLaws.{places_known}
 use Rattle.pauli_group.proofs.group.GroupLaws.{described}
 use Rattle.pauli_group.proofs.group.GroupedLaws.{group_total}
@@ -7,8 +6,7 @@ use Rattle.pauli_group.proofs.common.SharedLaws.{group_solving, group_further, g
 use Rattle.pauli_group.proofs.common.note_by.Goals as goal
 
 pub group_of-group-requires : goal.group_of-group-requires
-unfolding most_qubits
-group_of-group-requires c = (c.requires.0, omega arith, c.requires.1)
+group_of-group-requires c = (c.requires.0, c.requires.1)
 
 pub signs_of-signs-requires : goal.signs_of-signs-requires
 signs_of-signs-requires c = omega (arith, group_total _ _ c.requires.0 c.group_of-group.ensures.group, c.group_of-group.ensures.rest.size, c.requires.1)
@@ -20,11 +18,10 @@ note_exponents-requires c =
       size,
       c.requires.2,
       group_solving _ _ c.requires.0 g.group size,
-      places_known g.group,
+      rw c.qubits.ensures.list (places_known g.group),
       c.requires.3,
-      c.requires.4,
-      group_further _ _ c.requires.0 g.group size g.rest c.args.joint.now _ _ c.requires.5,
-      group_movable _ _ c.requires.0 g.group size g.rest _ _ c.requires.6,
+      group_further _ _ c.requires.0 g.group size g.rest c.args.joint.now _ _ c.requires.4,
+      rw c.qubits.ensures.list (group_movable _ _ c.requires.0 g.group size g.rest _ _ c.requires.5),
     )
 
 pub shape_of-w : goal.shape_of-w
@@ -34,4 +31,4 @@ pub returns : goal.returns
 returns c =
     let g = c.group_of-group.ensures in
     let size = g.rest.size ∙ c.requires.1 in
-    let signs = c.signs_of-signs.ensures in record { step = (described g.group _ _ _ _ signs.clash signs.step signs.stabilizer).step_is; list = group_noted _ _ c.requires.0 g.group size g.rest _ _ _ c.note_exponents.ensures }
+    let signs = c.signs_of-signs.ensures in record { step = (described g.group _ _ _ _ signs.clash signs.step signs.stabilizer).step_is; list = group_noted _ _ c.requires.0 g.group size g.rest _ _ _ (rw c.qubits.ensures.list at c.note_exponents.ensures) }

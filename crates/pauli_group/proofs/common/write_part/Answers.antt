@@ -1,45 +1,41 @@
 use Rattle.std.proofs.Common.{ℕ, List, ap, ◌∙◌, arith}
 use Rattle.pauli.specs.Writing.{told_bytes, left_in}
-use Rattle.pauli.specs.Support.{most_qubits}
 use Rattle.pauli.specs.Told.{answer}
 use Rattle.pauli_group.proofs.basis.BasisLaws.{joint_is}
 use Rattle.pauli_group.proofs.common.PartLaws.{part_on, part_left, once_on, once_right, part_places_lem, part_written}
 use Rattle.pauli_group.proofs.common.write_part.Goals as goal
 
-pub join_support-size-requires : goal.join_support-size-requires
-unfolding most_qubits
-join_support-size-requires c = (c.requires.0.left, c.requires.0.right, omega arith)
+pub join_support-support-requires : goal.join_support-support-requires
+join_support-support-requires c = (c.requires.0.left, c.requires.0.right)
 
 pub common_basis-m-requires : goal.common_basis-m-requires
 common_basis-m-requires c =
-    let J = joint_is _ _ _ _ _ c.join_support-size.ensures c.requires.0.qubits in
-    (c.requires.0.left, c.requires.0.right, c.requires.0.few, c.requires.1, omega (arith, J.few, c.join_support-size.auto.known), J)
+    let J = joint_is _ _ _ (rw (← c.qubits-joint.ensures.list) at c.join_support-support.ensures) c.requires.0.qubits in
+    (c.requires.0.left, c.requires.0.right, c.requires.0.few, c.requires.1, J)
 
 pub note_by-first-requires : goal.note_by-first-requires
 note_by-first-requires c =
-    let J = joint_is _ _ _ _ _ c.join_support-size.ensures c.requires.0.qubits in
+    let J = joint_is _ _ _ (rw (← c.qubits-joint.ensures.list) at c.join_support-support.ensures) c.requires.0.qubits in
     let B = c.common_basis-m.ensures in (
       c.requires.0.left,
       c.common_basis-m.auto.w ∙ c.requires.1,
       B.few,
       J.few,
-      omega (arith, J.few, c.join_support-size.auto.known),
-      part_on _ _ _ _ J _ _ B.list,
-      part_left _ _ _ _ J _ _ B.list,
+      part_on _ _ _ J _ _ B.list,
+      part_left _ _ _ J _ _ B.list,
     )
 
 pub note_by-second-requires : goal.note_by-second-requires
 note_by-second-requires c =
-    let J = joint_is _ _ _ _ _ c.join_support-size.ensures c.requires.0.qubits in
+    let J = joint_is _ _ _ (rw (← c.qubits-joint.ensures.list) at c.join_support-support.ensures) c.requires.0.qubits in
     let B = c.common_basis-m.ensures in
     let N = c.note_by-first.ensures in (
       c.requires.0.right,
       c.note_by-first.auto.w ∙ c.common_basis-m.auto.w ∙ c.requires.1,
       B.few,
       J.few,
-      omega (arith, J.few, c.join_support-size.auto.known),
-      once_on _ _ _ _ J _ _ B.list _ N.list,
-      once_right _ _ _ _ J _ _ B.list _ N.list,
+      once_on _ _ _ J _ _ B.list _ N.list,
+      once_right _ _ _ J _ _ B.list _ N.list,
     )
 
 pub keep_shared-kept-requires : goal.keep_shared-kept-requires
@@ -56,7 +52,7 @@ append_phases-total-requires c = (
 
 pub write_roll-requires : goal.write_roll-requires
 write_roll-requires c =
-    let J = joint_is _ _ _ _ _ c.join_support-size.ensures c.requires.0.qubits in
+    let J = joint_is _ _ _ (rw (← c.qubits-joint.ensures.list) at c.join_support-support.ensures) c.requires.0.qubits in
     let B = c.common_basis-m.ensures in
     let A = c.append_phases-total.ensures in
     let K = c.keep_shared-kept.ensures in
@@ -64,13 +60,12 @@ write_roll-requires c =
       omega (arith, A.few, K.few, B.few, size),
       omega (arith, A.few, K.few, B.few),
       J.few,
-      omega (arith, J.few, c.join_support-size.auto.known),
-      part_places_lem _ _ _ _ J _ _ B.list _ c.note_by-first.ensures.list _ _ _ c.note_by-second.ensures.list _ _ c.note_by-first.ensures.step c.note_by-second.ensures.step _ _ K.list _ _ A.list,
+      part_places_lem _ _ _ J _ _ B.list _ c.note_by-first.ensures.list _ _ _ c.note_by-second.ensures.list _ _ c.note_by-first.ensures.step c.note_by-second.ensures.step _ _ K.list _ _ A.list,
     )
 
 pub returns : goal.returns
 returns c =
-    let J = joint_is _ _ _ _ _ c.join_support-size.ensures c.requires.0.qubits in
+    let J = joint_is _ _ _ (rw (← c.qubits-joint.ensures.list) at c.join_support-support.ensures) c.requires.0.qubits in
     let B = c.common_basis-m.ensures in
     let wrote = c.write_roll.ensures in
-    let roll = part_written _ _ _ _ J _ _ B.list _ c.note_by-first.ensures.list _ _ _ c.note_by-second.ensures.list _ _ c.note_by-first.ensures.step c.note_by-second.ensures.step _ _ c.keep_shared-kept.ensures.list _ _ c.append_phases-total.ensures.list in record { told = wrote.told ∙ ap (λ (bs : List ℕ). told_bytes (answer bs) c.args.out.now) roll; left = wrote.left ∙ ap (λ (bs : List ℕ). left_in (answer bs) c.args.out.now) roll }
+    let roll = part_written _ _ _ J _ _ B.list _ c.note_by-first.ensures.list _ _ _ c.note_by-second.ensures.list _ _ c.note_by-first.ensures.step c.note_by-second.ensures.step _ _ c.keep_shared-kept.ensures.list _ _ c.append_phases-total.ensures.list in record { told = wrote.told ∙ ap (λ (bs : List ℕ). told_bytes (answer bs) c.args.out.now) roll; left = wrote.left ∙ ap (λ (bs : List ℕ). left_in (answer bs) c.args.out.now) roll }

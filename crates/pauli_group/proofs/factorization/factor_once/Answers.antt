@@ -1,5 +1,4 @@
 -- The group is built, the element is put to it, and the area is cleared.
-use Rattle.pauli.specs.Support.{most_qubits}
 use Rattle.pauli_group.proofs.group.GroupedLaws.{cleared_whole, group_total, group_places, list_few, list_length}
 use Rattle.pauli_group.proofs.member.FactorLaws.{asked_of}
 use Rattle.pauli_group.specs.Promises.{promise_of}
@@ -7,9 +6,8 @@ use Rattle.std.proofs.Common.{◌∙◌, arith}
 use Rattle.pauli_group.proofs.factorization.factor_once.Goals as goal
 
 pub group_of-g-requires : goal.group_of-g-requires
-unfolding most_qubits
 group_of-g-requires c =
-    (c.requires.0, omega arith, c.requires.3)
+    (c.requires.0, c.requires.3)
 
 pub signs_of-signs-requires : goal.signs_of-signs-requires
 signs_of-signs-requires c =
@@ -27,7 +25,7 @@ factor-factoring-requires c =
       omega arith,
       group.auto.w ∙ c.requires.3,
       group_places _ _ c.requires.0 group.ensures.group,
-      asked_of _ _ c.requires.0 group.ensures.group _ signs.clash signs.step signs.stabilizer,
+      rw c.qubits.ensures.list (asked_of _ _ c.requires.0 group.ensures.group _ signs.clash signs.step signs.stabilizer),
     )
 
 pub returns : goal.returns
@@ -35,4 +33,4 @@ unfolding asked_of
 returns c =
     let group = c.group_of-g in
     let signs = c.signs_of-signs.ensures in
-    let factor = c.factor-factoring.ensures in record { told = factor.told (asked_of _ _ c.requires.0 group.ensures.group (promise_of c.args.promise) signs.clash signs.step signs.stabilizer); area = c.clear_bits.ensures ∙ cleared_whole _ _ (factor.rest.size ∙ group.auto.w ∙ c.requires.3) c.requires.3 }
+    let factor = c.factor-factoring.ensures in record { told = factor.told (asked_of _ _ c.requires.0 (rw (← c.qubits.ensures.list) at group.ensures.group) (promise_of c.args.promise) signs.clash signs.step signs.stabilizer); area = c.clear_bits.ensures ∙ cleared_whole _ _ (factor.rest.size ∙ group.auto.w ∙ c.requires.3) c.requires.3 }

@@ -1,11 +1,9 @@
 use Rattle.std.proofs.Common.{arith}
-use Rattle.pauli.specs.Support.{most_qubits}
 use Rattle.pauli_group.proofs.group.GroupLaws.{standards_few, two_few}
 use Rattle.pauli_group.proofs.group.describe_two.Goals as goal
 
 pub group_of_two-g-requires : goal.group_of_two-g-requires
-unfolding most_qubits
-group_of_two-g-requires c = (c.requires.0, omega arith, c.requires.1)
+group_of_two-g-requires c = (c.requires.0, c.requires.1)
 
 pub describe_group-requires : goal.describe_group-requires
 describe_group-requires c = omega (arith, standards_few c.group_of_two-g.ensures (two_few c.args.left.now c.args.nl c.args.right.now c.args.nr c.requires.0.left c.requires.0.right c.requires.0.few), c.group_of_two-g.auto.w, c.requires.1)

@@ -10,15 +10,15 @@ loop-i-init c = (omega arith, stored_none _ _ _ _ _)
 
 pub condense_from-requires : goal.condense_from-requires
 condense_from-requires c =
-    (c.requires.0 _ c.loop-i-test.true, c.requires.1, c.requires.2)
+    (c.requires.0 _ c.loop-i-test.true, c.requires.1)
 
 pub loop-i-preserved : goal.loop-i-preserved
 unfolding over_places
 loop-i-preserved c =
     let next =
-    stored_step _ _ _ _ _ _ _ c.loop-i.invariant.1 c.requires.4 nothing _ c.loop-i-test.true c.requires.3
+    stored_step _ _ _ _ _ _ _ c.loop-i.invariant.1 c.requires.3 nothing _ c.loop-i-test.true c.requires.2
     (ap normal c.condense_from.ensures) _ c.store.ensures in
     (omega arith, next)
 
 pub returns : goal.returns
-returns c = record { list = stored_all _ _ _ _ _ _ _ c.loop-i.invariant.1 c.requires.4 c.loop-i.invariant.0 (omega arith); rest = c.loop-i.invariant.1.rest }
+returns c = record { list = stored_all _ _ _ _ _ _ _ c.loop-i.invariant.1 c.requires.3 c.loop-i.invariant.0 (omega arith); rest = c.loop-i.invariant.1.rest }

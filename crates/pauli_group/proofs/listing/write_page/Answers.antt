@@ -3,17 +3,16 @@ use Rattle.std.proofs.Common.{ℕ, List, sym, ap, ◌∙◌, arith}
 use Rattle.pauli.specs.Condense.{list_of}
 use Rattle.pauli_group.specs.Promises.{promise_of}
 use Rattle.pauli_group.specs.Calls.{paulis}
-use Rattle.pauli.specs.Support.{most_qubits}
 use Rattle.pauli.specs.Told.{Told, answer}
 use Rattle.pauli.specs.Writing.{told_bytes, left_in}
 use Rattle.pauli_group.proofs.group.GroupedLaws.{cleared_whole, group_total, group_places}
+use Rattle.pauli_group.proofs.member.FactorLaws.{places_known}
 use Rattle.pauli_group.proofs.listing.PageLaws.{signs_step, page_places, page_written, page_refused, page_answered}
 use Rattle.pauli.specs.Refusals.{told_refusal}
 use Rattle.pauli_group.proofs.listing.write_page.Goals as goal
 
 pub group_of-g-requires : goal.group_of-g-requires
-unfolding most_qubits
-group_of-g-requires c = (c.requires.0, omega arith, omega arith)
+group_of-g-requires c = (c.requires.0, omega arith)
 
 pub returns-then-g-gt-MOST_LISTED : goal.returns-then-g-gt-MOST_LISTED
 unfolding told_bytes left_in
@@ -40,9 +39,8 @@ write_roll-wrote-requires c =
     let size = c.put_elements.auto.w in (
       omega (arith, size, group.auto.w, pre.1, few),
       omega (arith, few),
-      group_places _ _ pre.0 group.ensures.group,
-      omega (arith, group_places _ _ pre.0 group.ensures.group, group.auto.known),
-      page_places _ _ group.ensures.group _ step _ _ _ c.page_elements-length.ensures.0 _ c.put_elements.ensures.list,
+      rw (c.qubits.ensures.list, ← places_known group.ensures.group) (group_places _ _ pre.0 group.ensures.group),
+      rw (c.qubits.ensures.list, ← places_known group.ensures.group) (page_places _ _ group.ensures.group _ step _ _ _ c.page_elements-length.ensures.0 _ c.put_elements.ensures.list),
     )
 
 pub returns : goal.returns
@@ -52,5 +50,5 @@ returns c =
     let out = c.args.out.now in
     let step = signs_step _ c.group_of-g.ensures.group c.signs_of-signs.result c.signs_of-signs.ensures.clash c.signs_of-signs.ensures.step c.signs_of-signs.ensures.stabilizer in
     let wrote = c.write_roll-wrote.ensures in
-    let roll = page_written _ _ group.ensures.group _ step _ _ _ c.page_elements-length.ensures.0 _ c.put_elements.ensures.list in
+    let roll = rw (← c.qubits.ensures.list) at (page_written _ _ group.ensures.group _ step _ _ _ c.page_elements-length.ensures.0 _ c.put_elements.ensures.list) in
     let same = ap answer roll ∙ sym (page_answered (promise_of c.args.promise) c.args.start c.args.count (paulis (list_of c.args.b.now)) (rw (← group.ensures.group.rank_is) c.if-g-gt-MOST_LISTED.false)) in record { told = wrote.told ∙ ap (λ (t : Told (List ℕ)). told_bytes t out) same; left = wrote.left ∙ ap (λ (t : Told (List ℕ)). left_in t out) same; area = c.clear_bits-2.ensures ∙ cleared_whole _ _ (c.put_elements.auto.w ∙ group.auto.w ∙ pre.1) pre.1 }

@@ -10,7 +10,7 @@ use Rattle.pauli_group.proofs.member.factor.Goals as goal
 
 pub is_supported-requires : goal.is_supported-requires
 is_supported-requires c =
-    (c.requires.0, c.requires.1, places_known c.requires.5.grouped, known_rises c.requires.5.grouped)
+    (c.requires.0, c.requires.1, known_rises c.requires.5.grouped)
 
 pub returns-then-not-is_supported : goal.returns-then-not-is_supported
 returns-then-not-is_supported c = record { told = λ g. factored_off g _ (sym c.is_supported.ensures ∙ c.if-not-is_supported.true); rest = outside_refl _ _ _ }
@@ -19,7 +19,7 @@ pub condense_from-p-requires : goal.condense_from-p-requires
 condense_from-p-requires c =
     let group = c.requires.5.grouped in
     let inside = sym c.is_supported.ensures ∙ c.if-not-is_supported.false in
-    (covered_readable _ _ c.requires.0 _ c.requires.1 _ (known_rises group) inside, c.requires.4, places_known group)
+    (covered_readable _ _ c.requires.0 _ c.requires.1 _ (known_rises group) inside, rw (← places_known group) c.requires.4)
 
 pub solve-requires : goal.solve-requires
 solve-requires c =

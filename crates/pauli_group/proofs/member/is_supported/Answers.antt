@@ -2,7 +2,7 @@
 use Rattle.pauli.proofs.joined.JoinLaws.{accepted_table, accepted_room}
 use Rattle.pauli_group.proofs.member.MemberLaws.{body_numbers}
 use Rattle.pauli_group.specs.Inner.Members.{covered}
-use Rattle.std.proofs.Common.{take, ap, ◌∙◌, arith}
+use Rattle.std.proofs.Common.{ap, ◌∙◌, arith}
 use Rattle.pauli_group.proofs.member.is_supported.Goals as goal
 
 pub entry_at-e-requires : goal.entry_at-e-requires
@@ -28,10 +28,10 @@ overflow_add-n-2 c =
 pub covers-requires : goal.covers-requires
 covers-requires c =
     let room = accepted_room _ c.args.n c.requires.0 c.args.i c.requires.1 _ c.entry_at-e.ensures.0 in
-    (omega (arith, room), c.requires.2, c.requires.3)
+    (omega (arith, room), c.requires.2)
 
 pub returns : goal.returns
 returns c =
     c.covers.ensures
-    ∙ ap (covered (take c.args.count c.args.support.now))
+    ∙ ap (covered c.args.support.now)
     (body_numbers _ c.args.n c.requires.0 c.args.i c.requires.1 _ c.entry_at-e.ensures.0)

@@ -1,5 +1,4 @@
 use Rattle.std.proofs.Common.{◌∙◌, arith}
-use Rattle.pauli.specs.Support.{most_qubits}
 use Rattle.pauli.specs.Condense.{list_of}
 use Rattle.pauli_group.specs.Inner.Area.{further_at}
 use Rattle.pauli_group.specs.Calls.{paulis}
@@ -7,12 +6,12 @@ use Rattle.pauli_group.specs.Promises.{promise_of}
 use Rattle.pauli_group.proofs.group.GroupLaws.{described}
 use Rattle.pauli_group.proofs.group.GroupedLaws.{list_length, list_few, group_total, group_places, group_on}
 use Rattle.pauli_group.proofs.list.ListLaws.{list_kept_after}
+use Rattle.pauli_group.proofs.member.FactorLaws.{places_known}
 use Rattle.pauli_group.proofs.modulo.ModuloLaws.{left_moves, moved_low, left_list, right_other, remainder_left}
 use Rattle.pauli_group.proofs.modulo.remainder.Goals as goal
 
 pub group_of-a-requires : goal.group_of-a-requires
-unfolding most_qubits
-group_of-a-requires c = (c.requires.0, omega arith, c.requires.5)
+group_of-a-requires c = (c.requires.0, c.requires.4)
 
 pub move_list-requires : goal.move_list-requires
 move_list-requires c =
@@ -21,43 +20,39 @@ move_list-requires c =
     let total = group_total _ _ c.requires.0 g in
     let on = group_on _ _ c.requires.0 g in (
       omega (arith, total),
-      omega (arith, total, group.auto.w, c.requires.5),
-      group_places _ _ c.requires.0 g,
-      omega (arith, group_places _ _ c.requires.0 g, group.auto.known),
+      omega (arith, total, group.auto.w, c.requires.4),
+      rw c.qubits.ensures.list (rw (← places_known g) (group_places _ _ c.requires.0 g)),
       c.requires.2,
-      c.requires.3,
-      on,
-      left_moves _ _ _ c.requires.4 g on,
+      rw c.qubits.ensures.list (rw (← places_known g) on),
+      rw c.qubits.ensures.list (left_moves _ _ _ c.requires.3 g on),
     )
 
 pub group_of-b-requires : goal.group_of-b-requires
-unfolding most_qubits
-group_of-b-requires c = (c.requires.1, omega arith, c.move_list.auto.w ∙ c.group_of-a.auto.w ∙ c.requires.5)
+group_of-b-requires c = (c.requires.1, c.move_list.auto.w ∙ c.group_of-a.auto.w ∙ c.requires.4)
 
 pub signs_of-signs-requires : goal.signs_of-signs-requires
 signs_of-signs-requires c =
-    omega (arith, group_total _ _ c.requires.1 c.group_of-b.ensures.group, c.group_of-b.auto.w, c.move_list.auto.w, c.group_of-a.auto.w, c.requires.5)
+    omega (arith, group_total _ _ c.requires.1 c.group_of-b.ensures.group, c.group_of-b.auto.w, c.move_list.auto.w, c.group_of-a.auto.w, c.requires.4)
 
 pub multiply_all-requires : goal.multiply_all-requires
 multiply_all-requires c =
     let group = c.group_of-b in
     let g = group.ensures.group in
-    let size = group.auto.w ∙ c.move_list.auto.w ∙ c.group_of-a.auto.w ∙ c.requires.5 in
+    let size = group.auto.w ∙ c.move_list.auto.w ∙ c.group_of-a.auto.w ∙ c.requires.4 in
     let n = list_length _ _ c.requires.1 in
-    let other = right_other (paulis (list_of c.args.left.now)) _ _ c.requires.4 g (list_few _ _ c.requires.1) (group_places _ _ c.requires.1 g) size (group_total _ _ c.requires.1 g) (group_on _ _ c.requires.1 g) in (
+    let other = right_other (paulis (list_of c.args.left.now)) _ _ c.requires.3 g (list_few _ _ c.requires.1) (group_places _ _ c.requires.1 g) size (group_total _ _ c.requires.1 g) (group_on _ _ c.requires.1 g) in (
       size,
       group_total _ _ c.requires.0 c.group_of-a.ensures.group,
+      rw c.qubits-2.ensures.list (places_known g),
       group_places _ _ c.requires.1 g,
-      omega (arith, group_places _ _ c.requires.1 g, group.auto.known),
       c.requires.2,
-      c.requires.3,
-      rw (← n) other,
-      rw (list_kept_after group.ensures.rest further_at c.group_of-a.result.total (omega arith)) (moved_low _ _ _ c.requires.4 c.group_of-a.ensures.group _ c.move_list.ensures.list),
+      rw (c.qubits-2.ensures.list, ← n) other,
+      rw (list_kept_after group.ensures.rest further_at c.group_of-a.result.total (omega arith)) (moved_low _ _ _ c.requires.3 c.group_of-a.ensures.group _ (rw c.qubits.ensures.list at c.move_list.ensures.list)),
     )
 
 pub take_mod-requires : goal.take_mod-requires
 take_mod-requires c = (
-  omega (arith, group_total _ _ c.requires.0 c.group_of-a.ensures.group, c.multiply_all.auto.w, c.group_of-b.auto.w, c.move_list.auto.w, c.group_of-a.auto.w, c.requires.5),
+  omega (arith, group_total _ _ c.requires.0 c.group_of-a.ensures.group, c.multiply_all.auto.w, c.group_of-b.auto.w, c.move_list.auto.w, c.group_of-a.auto.w, c.requires.4),
   c.step.ensures.1,
 )
 
@@ -68,12 +63,12 @@ pub returns : goal.returns
 returns c =
     let group = c.group_of-b in
     let g = group.ensures.group in
-    let size = group.auto.w ∙ c.move_list.auto.w ∙ c.group_of-a.auto.w ∙ c.requires.5 in
+    let size = group.auto.w ∙ c.move_list.auto.w ∙ c.group_of-a.auto.w ∙ c.requires.4 in
     let left = c.group_of-a in
     let few = group_total _ _ c.requires.0 left.ensures.group in
     let n = list_length _ _ c.requires.1 in
     let signs = c.signs_of-signs.ensures in
     let step = c.step.ensures.0 ∙ (described g (promise_of c.args.promise) _ _ _ signs.clash signs.step signs.stabilizer).step_is in
-    let moved = list_kept_after group.ensures.rest further_at left.result.total (omega arith) ∙ left_list _ _ _ c.requires.4 left.ensures.group _ c.move_list.ensures.list in
-    remainder_left _ _ _ c.requires.4 g (list_few _ _ c.requires.1) (group_places _ _ c.requires.1 g) size (group_total _ _ c.requires.1 g) (group_on _ _ c.requires.1 g) _ moved
-    _ _ step _ _ _ (rw n c.multiply_all.ensures.list) c.take_mod.ensures.list few
+    let moved = list_kept_after group.ensures.rest further_at left.result.total (omega arith) ∙ left_list _ _ _ c.requires.3 left.ensures.group _ (rw c.qubits.ensures.list at c.move_list.ensures.list) in
+    remainder_left _ _ _ c.requires.3 g (list_few _ _ c.requires.1) (group_places _ _ c.requires.1 g) size (group_total _ _ c.requires.1 g) (group_on _ _ c.requires.1 g) _ moved
+    _ _ step _ _ _ (rw (n, ← c.qubits-2.ensures.list) c.multiply_all.ensures.list) c.take_mod.ensures.list few

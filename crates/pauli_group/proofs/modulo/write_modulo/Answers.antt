@@ -1,31 +1,26 @@
 use Rattle.std.proofs.Common.{ap, ◌∙◌, arith}
-use Rattle.pauli.specs.Support.{most_qubits}
 use Rattle.pauli.specs.Told.{answer}
 use Rattle.pauli.specs.Writing.{told_bytes, left_in}
 use Rattle.pauli_group.proofs.group.GroupedLaws.{cleared_whole}
 use Rattle.pauli_group.proofs.modulo.ModuloLaws.{joined_places, joined_support, joined_size, remainder_on, remainder_written}
 use Rattle.pauli_group.proofs.modulo.write_modulo.Goals as goal
 
-pub join_support-size-requires : goal.join_support-size-requires
-unfolding most_qubits
-join_support-size-requires c = (c.requires.0.left, c.requires.0.right, omega arith)
+pub join_support-support-requires : goal.join_support-support-requires
+join_support-support-requires c = (c.requires.0.left, c.requires.0.right)
 
 pub remainder-count-requires : goal.remainder-count-requires
 remainder-count-requires c =
-    let join = c.join_support-size in
-    let places = joined_places c.args.left.now c.args.right.now _ _ _ c.requires.0.qubits join.ensures in
-    (c.requires.0.left, c.requires.0.right, places, omega (arith, places, join.auto.known), joined_support c.args.left.now c.args.right.now _ _ _ c.requires.0.qubits join.ensures, c.requires.1)
+    let g = rw (← c.qubits-joined.ensures.list) at c.join_support-support.ensures in
+    (c.requires.0.left, c.requires.0.right, joined_places c.args.left.now c.args.right.now _ c.requires.0.qubits g, joined_support c.args.left.now c.args.right.now _ c.requires.0.qubits g, c.requires.1)
 
 pub write_roll-wrote-requires : goal.write_roll-wrote-requires
 write_roll-wrote-requires c =
-    let join = c.join_support-size in
-    let left = c.remainder-count.ensures in
-    let places = joined_places c.args.left.now c.args.right.now _ _ _ c.requires.0.qubits join.ensures in (
+    let g = rw (← c.qubits-joined.ensures.list) at c.join_support-support.ensures in
+    let left = c.remainder-count.ensures in (
       omega (arith, left.few, c.remainder-count.auto.w, c.requires.1),
       omega (arith, left.few),
-      places,
-      omega (arith, places, join.auto.known),
-      remainder_on left _ (joined_size c.args.left.now c.args.right.now _ _ _ c.requires.0.qubits join.ensures),
+      joined_places c.args.left.now c.args.right.now _ c.requires.0.qubits g,
+      remainder_on left _ (joined_size c.args.left.now c.args.right.now _ c.requires.0.qubits g),
     )
 
 pub shape_of-w : goal.shape_of-w
@@ -36,6 +31,6 @@ shape_of-out c = c.write_roll-wrote.auto.out
 
 pub returns : goal.returns
 returns c =
-    let joint = joined_support c.args.left.now c.args.right.now _ _ _ c.requires.0.qubits c.join_support-size.ensures in
+    let joint = joined_support c.args.left.now c.args.right.now _ c.requires.0.qubits (rw (← c.qubits-joined.ensures.list) at c.join_support-support.ensures) in
     let roll = remainder_written c.remainder-count.ensures _ joint in
     let write = c.write_roll-wrote.ensures in record { told = write.told ∙ ap (λ b. told_bytes (answer b) c.args.out.now) roll; left = write.left ∙ ap (λ b. left_in (answer b) c.args.out.now) roll; area = c.clear_bits.ensures ∙ cleared_whole _ c.args.w.now (c.remainder-count.auto.w ∙ c.requires.1) c.requires.1 }

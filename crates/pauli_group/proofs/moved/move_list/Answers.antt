@@ -14,8 +14,8 @@ load-p-requires c = let i = c.loop-i.invariant in omega (arith, i.1.rest.size, c
 pub move_pauli-requires : goal.move_pauli-requires
 move_pauli-requires c =
     let l = c.loop-i in
-    let m = kept_movable _ _ _ _ _ _ _ l.invariant.1.rest c.requires.0 c.loop-i-test.true _ _ _ c.requires.6 c.requires.7 _ c.load-p.ensures in
-    (c.requires.2, c.requires.3, c.requires.4, c.requires.5, m.0, m.1, m.2)
+    let m = kept_movable _ _ _ _ _ _ _ l.invariant.1.rest c.requires.0 c.loop-i-test.true _ _ _ c.requires.4 c.requires.5 _ c.load-p.ensures in
+    (c.requires.2, c.requires.3, m.0, m.1, m.2)
 
 pub loop-i-preserved : goal.loop-i-preserved
 loop-i-preserved c =

@@ -1,5 +1,5 @@
 -- Invariant: the first i Paulis are moved.
-use Rattle.std.proofs.Common.{◌≤◌, take}
+use Rattle.std.proofs.Common.{◌≤◌}
 use Rattle.pauli.specs.Pauli.{normal}
 use Rattle.pauli.specs.Signed.{list_in}
 use Rattle.pauli_theory.specs.Inner.ModuloPlaces.{moved_pauli}
@@ -7,4 +7,4 @@ use Rattle.pauli_group.proofs.list.ListLaws.{StoredUpTo}
 use Rattle.pauli_group.proofs.moved.move_list.Given as goal
 
 abbrev pub invariant-loop-i : goal.invariant-loop-i
-invariant-loop-i l = (l.i ≤ l.n) × StoredUpTo (λ p. normal (moved_pauli (take l.count l.own) (take l.size l.joined) p)) (list_in l.initial.w l.base l.n) l.to l.n l.initial.w l.i l.w
+invariant-loop-i l = (l.i ≤ l.n) × StoredUpTo (λ p. normal (moved_pauli l.own l.joined p)) (list_in l.initial.w l.base l.n) l.to l.n l.initial.w l.i l.w

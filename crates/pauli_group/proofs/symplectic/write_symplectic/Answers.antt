@@ -2,7 +2,6 @@
 use Rattle.std.proofs.Common.{ℕ, List, ap, ◌∙◌, arith}
 use Rattle.pauli.proofs.joined.JoinLaws.{accepted, accepted_length, accepted_few}
 use Rattle.pauli.specs.Roll.{most_paulis}
-use Rattle.pauli.specs.Support.{most_qubits}
 use Rattle.pauli.specs.Told.{answer}
 use Rattle.pauli.specs.Writing.{told_bytes, left_in}
 use Rattle.pauli_group.proofs.group.GroupedLaws.{cleared_whole}
@@ -19,17 +18,15 @@ overflow_add-n c = omega (arith, accepted_length c.args.b.now c.args.n c.require
 pub numbers_of-requires : goal.numbers_of-requires
 numbers_of-requires c = c.requires.0
 
-pub gather-places-requires : goal.gather-places-requires
-unfolding most_qubits
-gather-places-requires c = (omega (arith, accepted_length c.args.b.now c.args.n c.requires.0, c.numbers_of.ensures), omega arith, omega arith, tt)
+pub gather-requires : goal.gather-requires
+gather-requires c = omega (arith, accepted_length c.args.b.now c.args.n c.requires.0, c.numbers_of.ensures)
 
 pub read_list-requires : goal.read_list-requires
-unfolding most_paulis most_qubits
-read_list-requires c = let g = own_gathered c.args.b.now c.args.n c.requires.0 _ c.numbers_of.ensures _ _ _ c.gather-places.ensures in
+unfolding most_paulis
+read_list-requires c = let g = own_gathered c.args.b.now c.args.n c.requires.0 _ c.numbers_of.ensures _ (rw (c.new-known.ensures, ← c.qubits-qubits.ensures.list) at c.gather.ensures) in
     let few = own_few c.args.b.now c.args.n c.requires.0 in (
-      part_readable _ _ _ _ g few c.args.b.now c.args.n c.requires.0 (λ p m. m),
-      places_few _ _ _ _ g few,
-      omega (arith, places_few _ _ _ _ g few, c.gather-places.auto.known),
+      part_readable _ _ g few c.args.b.now c.args.n c.requires.0 (λ p m. m),
+      places_few _ _ g few,
       omega (arith, c.requires.1, accepted_few c.args.b.now c.args.n c.requires.0),
       (accepted c.args.b.now c.args.n c.requires.0).1,
     )
@@ -40,18 +37,17 @@ pair_up-requires c = (c.read_list.ensures.rest.size ∙ c.requires.1, accepted_f
 
 pub write_roll-wrote-requires : goal.write_roll-wrote-requires
 unfolding most_paulis
-write_roll-wrote-requires c = let g = own_gathered c.args.b.now c.args.n c.requires.0 _ c.numbers_of.ensures _ _ _ c.gather-places.ensures in
+write_roll-wrote-requires c = let g = own_gathered c.args.b.now c.args.n c.requires.0 _ c.numbers_of.ensures _ (rw (c.new-known.ensures, ← c.qubits-qubits.ensures.list) at c.gather.ensures) in
     let few = own_few c.args.b.now c.args.n c.requires.0 in
     let count = accepted_few c.args.b.now c.args.n c.requires.0 in (
       omega (arith, count, c.pair_up.auto.w, c.read_list.ensures.rest.size, c.requires.1),
       omega (arith, count),
-      places_few _ _ _ _ g few,
-      omega (arith, places_few _ _ _ _ g few, c.gather-places.auto.known),
-      pairs_on c.args.b.now c.args.n c.requires.0 _ _ _ g _ c.read_list.ensures.list _ c.pair_up.ensures,
+      places_few _ _ g few,
+      pairs_on c.args.b.now c.args.n c.requires.0 _ g _ c.read_list.ensures.list _ c.pair_up.ensures,
     )
 
 pub returns : goal.returns
 returns c = let out = c.args.out.now in
-    let g = own_gathered c.args.b.now c.args.n c.requires.0 _ c.numbers_of.ensures _ _ _ c.gather-places.ensures in
+    let g = own_gathered c.args.b.now c.args.n c.requires.0 _ c.numbers_of.ensures _ (rw (c.new-known.ensures, ← c.qubits-qubits.ensures.list) at c.gather.ensures) in
     let wrote = c.write_roll-wrote.ensures in
-    let roll = pairs_written c.args.b.now c.args.n c.requires.0 _ _ _ g _ c.read_list.ensures.list _ c.pair_up.ensures in record { told = wrote.told ∙ ap (λ (bs : List ℕ). told_bytes (answer bs) out) roll; left = wrote.left ∙ ap (λ (bs : List ℕ). left_in (answer bs) out) roll; area = c.clear_bits.ensures ∙ cleared_whole _ _ (c.pair_up.auto.w ∙ c.read_list.ensures.rest.size ∙ c.requires.1) c.requires.1 }
+    let roll = pairs_written c.args.b.now c.args.n c.requires.0 _ g _ c.read_list.ensures.list _ c.pair_up.ensures in record { told = wrote.told ∙ ap (λ (bs : List ℕ). told_bytes (answer bs) out) roll; left = wrote.left ∙ ap (λ (bs : List ℕ). left_in (answer bs) out) roll; area = c.clear_bits.ensures ∙ cleared_whole _ _ (c.pair_up.auto.w ∙ c.read_list.ensures.rest.size ∙ c.requires.1) c.requires.1 }

@@ -1,7 +1,6 @@
--- The array starts with nothing known.
-use Rattle.std.proofs.Common.{arith}
+-- The support starts with nothing known.
+use Rattle.std.proofs.Common.{◌∙◌, arith}
 use Rattle.pauli.proofs.joined.JoinLaws.{accepted_length}
-use Rattle.pauli.specs.Support.{most_qubits}
 use Rattle.pauli_group.proofs.group.GroupLaws.{own_gathered, own_few, places_are}
 use Rattle.sizes.proofs.bound.qubits_of.Goals as goal
 
@@ -15,12 +14,10 @@ pub numbers_of-requires : goal.numbers_of-requires
 numbers_of-requires c = c.requires
 
 pub gather-requires : goal.gather-requires
-unfolding most_qubits
-gather-requires c =
-    (omega (arith, accepted_length c.args.b.now c.args.n c.requires, c.numbers_of.ensures), omega arith, omega arith, tt)
+gather-requires c = omega (arith, accepted_length c.args.b.now c.args.n c.requires, c.numbers_of.ensures)
 
 pub returns : goal.returns
 returns c =
     let total = c.numbers_of.ensures in
-    let g = own_gathered c.args.b.now c.args.n c.requires _ total _ _ _ c.gather.ensures in
-    places_are _ _ _ _ g (own_few c.args.b.now c.args.n c.requires)
+    let g = own_gathered c.args.b.now c.args.n c.requires _ total _ (rw c.new-known.ensures at c.gather.ensures) in
+    c.len.ensures ∙ places_are _ _ g (own_few c.args.b.now c.args.n c.requires)

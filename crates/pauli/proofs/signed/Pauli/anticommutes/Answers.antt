@@ -1,5 +1,5 @@
 -- By the two overlaps.
-use Rattle.std.proofs.Common.{ℕ, ◌+◌, ◌%◌, ap₂, arith}
+use Rattle.std.proofs.Common.{ℕ, ◌+◌, ◌%◌, eqb, ap₂, arith}
 use Rattle.pauli.specs.Pauli.{anticommute}
 use Rattle.pauli.specs.Signed.{held}
 use Rattle.pauli.proofs.signed.Pauli.anticommutes.Goals as goal
@@ -9,4 +9,4 @@ overflow_add-result c = omega (arith, c.dot.ensures.1, c.dot-2.ensures.1)
 
 pub returns : goal.returns
 unfolding held anticommute
-returns c = ap₂ (λ (x : ℕ) (y : ℕ). (x + y) % 2) c.dot.ensures.0 c.dot-2.ensures.0
+returns c = ap₂ (λ (x : ℕ) (y : ℕ). eqb ((x + y) % 2) 1) c.dot.ensures.0 c.dot-2.ensures.0

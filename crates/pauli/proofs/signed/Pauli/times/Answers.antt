@@ -1,5 +1,5 @@
 -- The exponents wrap at 256, a multiple of 4; the rest is by the two sets.
-use Rattle.std.proofs.Common.{arith}
+use Rattle.std.proofs.Common.{refl, arith}
 use Rattle.pauli.proofs.signed.Algebra.{pauli_path}
 use Rattle.pauli.proofs.signed.SignedLaws.{wrap_value}
 use Rattle.pauli.specs.Pauli.{normal, times}
@@ -14,4 +14,4 @@ overflow_cast-sign c = omega (arith, c.dot-crossed.ensures.1)
 
 pub returns : goal.returns
 unfolding held normal times
-returns c = pauli_path (wrap_value _ _ _ _ _ _ c.wrapping_add_u8-sum.ensures.value c.wrapping_add_u8.ensures.value c.dot-crossed.ensures.0) c.bitxor.ensures c.bitxor-2.ensures
+returns c = pauli_path (wrap_value _ _ _ _ _ _ refl refl c.dot-crossed.ensures.0) c.bitxor.ensures c.bitxor-2.ensures

@@ -1,0 +1,24 @@
+use Rattle.std.proofs.Common.{sym, ◌∙◌, arith, length-take-le}
+use borrow.Author.Tests.{ltb-true, ltb-false}
+use Rattle.pauli.proofs.support.Walk.{walk_from, walking_start, walking_next, walking_full, walking_end}
+use Rattle.pauli.specs.Support.{most_qubits}
+use Rattle.pauli.proofs.support.Support.gather.Goals as goal
+
+pub loop-i-init : goal.loop-i-init
+unfolding most_qubits
+loop-i-init c =
+    let size = length-take-le c.self.inside.count c.self.inside.numbers (omega arith) in
+    walking_start _ _ _ _ (rw (← c.self.view_is) (omega (arith, size))) (rw (← c.self.view_is) c.self.invariant.1)
+
+pub returns-then-is_past_limit : goal.returns-then-is_past_limit
+returns-then-is_past_limit c = walking_full _ _ _ _ _ _ _ _ c.loop-i.invariant (ltb-true _ _ (sym c.is_past_limit.ensures ∙ c.if-is_past_limit.true))
+
+pub note-from-requires : goal.note-from-requires
+note-from-requires c = (ltb-false _ _ (sym c.is_past_limit.ensures ∙ c.if-is_past_limit.false), rw c.walk_start.ensures (walk_from _ _ _ c.loop-i.invariant.walk _))
+
+pub loop-i-preserved : goal.loop-i-preserved
+loop-i-preserved c =
+    walking_next _ _ _ _ _ _ _ _ c.loop-i.invariant c.loop-i-test.true _ c.u32_at.ensures _ _ (ltb-false _ _ (sym c.is_past_limit.ensures ∙ c.if-is_past_limit.false)) c.note-from.ensures.known c.note-from.ensures.next
+
+pub returns : goal.returns
+returns c = walking_end _ _ _ _ _ _ _ _ c.loop-i.invariant c.loop-i-test.false

@@ -1,0 +1,6 @@
+-- Invariant: what is left to note gives what was to be noted at the start.
+use Rattle.pauli.proofs.support.Walk.{Walking}
+use Rattle.pauli.proofs.support.Support.gather.Given as goal
+
+abbrev pub invariant-loop-i : goal.invariant-loop-i
+invariant-loop-i l = Walking l.b l.at l.total l.initial.self l.self l.from.0 l.last.0 l.i

@@ -1,6 +1,0 @@
--- Invariant: what is left to note gives what was to be noted at the start.
-use Rattle.pauli.proofs.support.Walk.{Walking}
-use Rattle.pauli.proofs.support.gather.Given as goal
-
-abbrev pub invariant-loop-i : goal.invariant-loop-i
-invariant-loop-i l = Walking l.b l.at l.total l.initial.known l.count l.known l.n l.from.0 l.last.0 l.i
