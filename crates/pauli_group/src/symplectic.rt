@@ -105,7 +105,7 @@ fn pair_last(w: &mut [u64], p: Pairing) -> Pairing
     }
 }
 
-// Copies the n Paulis from word from on to word to.
+// Copies the n Paulis from word from on to word to, each by its value: a copy of the words would keep their exponents as they stand.
 fn copy_list(w: &mut [u64], from: usize, n: usize, to: usize)
     requires { (to + 5 * n ≤ from) × (from + 5 * n ≤ length w.old) }
     ensures list { list_in w.new to n ≡ map normal (list_in w.old from n) }
