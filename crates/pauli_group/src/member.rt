@@ -27,7 +27,7 @@ use binar::row::clear_bits;
 use pauli::bytes::u32_at;
 use pauli::condense::condense_from;
 use pauli::places::Places;
-use pauli::roll::entry_at;
+use pauli::roll::{Roll, entry_at};
 use pauli::signed::{Pauli, indexed_product};
 use pauli::support::{Place, Qubit, place_from, qubit_at, walk_start};
 use pauli::write::put_u16;
@@ -120,7 +120,11 @@ pub fn factor(
     if !is_supported(b, m, i, known) {
         return Factoring::NotFound;
     }
-    let p = condense_from(b, m, i, known);
+    let roll = Roll {
+        bytes: b,
+        count: m,
+    };
+    let p = condense_from(roll, i, known);
     let solved = solve(w, n, places, group.rank, p);
     match solved {
         Solved::NoSet => Factoring::NotFound,
