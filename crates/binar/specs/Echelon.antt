@@ -2,24 +2,23 @@
 --
 -- Bits past column c take part in swaps and additions and never in the search. The transform T is made that way: the
 -- identity is written beside A, past column c, so that it takes the same swaps and additions.
-use Rattle.std.specs.Prelude.{Bool, true, false, List, [], ◌∷◌, map, ℕ, zero, suc, ◌+◌, ◌-◌, ◌*◌, ◌/◌, ◌%◌, ◌^◌, eqb, length, get_or, set, drop}
+use Rattle.std.specs.Prelude.{Bool, true, false, List, [], ◌∷◌, map, ℕ, zero, suc, ◌+◌, ◌-◌, ◌*◌, ◌/◌, ◌%◌, ◌^◌, eqb, length, get_or, set, drop, Option, Some, None}
+use Rattle.binar.specs.declared.echelon.Cell.{Cell}
 use Rattle.binar.specs.Row.{◌⊕◌, bit, if_bit}
-use Rattle.binar.specs.declared.echelon.Found.{Found}
-use Rattle.binar.specs.declared.echelon.Found.TheVariants.{At, Nothing}
 
 -- "each from the start row down": the first of the rows vs, numbered from i, with a one in column c, else what later
 -- columns give
-unfoldable pub in_column : ℕ → ℕ → List ℕ → Found → Found
+unfoldable pub in_column : ℕ → ℕ → List ℕ → Option Cell → Option Cell
 in_column c i [] later = later
-in_column c i (v ∷ vs) later = if_bit (bit v c) (At (record { row = i; col = c })) (in_column c (suc i) vs later)
+in_column c i (v ∷ vs) later = if_bit (bit v c) (Some (record { row = i; col = c })) (in_column c (suc i) vs later)
 
 -- "column by column": n columns from column c on
-unfoldable pub by_columns : ℕ → ℕ → ℕ → List ℕ → Found
-by_columns zero c i vs = Nothing
+unfoldable pub by_columns : ℕ → ℕ → ℕ → List ℕ → Option Cell
+by_columns zero c i vs = None
 by_columns (suc n) c i vs = in_column c i vs (by_columns n (suc c) i vs)
 
 -- `pivot_of` in the first cols columns of M, from row i and column c on
-unfoldable pub pivot_of : ℕ → ℕ → ℕ → List ℕ → Found
+unfoldable pub pivot_of : ℕ → ℕ → ℕ → List ℕ → Option Cell
 pivot_of cols i c M = by_columns (cols - c) c i (drop i M)
 
 -- "that row is swapped into place"
@@ -51,9 +50,9 @@ pub record Reduction : Type 0 where
 unfoldable pub with_pivot : ℕ → Reduction → Reduction
 with_pivot c f = record { rows = f.rows; pivots = c ∷ f.pivots }
 
-unfoldable pub on_found {ℓ} : {X : Type ℓ} → Found → X → (ℕ → ℕ → X) → X
-on_found Nothing x k = x
-on_found (At cell) x k = k cell.row cell.col
+unfoldable pub on_found {ℓ} : {X : Type ℓ} → Option Cell → X → (ℕ → ℕ → X) → X
+on_found None x k = x
+on_found (Some cell) x k = k cell.row cell.col
 
 -- at most n more pivots, the next of them to go to row r and to be looked for from column c on
 unfoldable pub echelonize_from : ℕ → ℕ → ℕ → ℕ → List ℕ → Reduction

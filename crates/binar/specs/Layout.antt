@@ -1,9 +1,5 @@
 -- What the functions of the module matrix_form answer and leave in the slice lent.
-use Rattle.std.specs.Prelude.{◌≡◌, Bool, true, false, List, map, ℕ, ◌+◌, ◌*◌, ◌/◌, ◌%◌, ◌^◌, ◌≤◌, ◌<◌, leb, eqb, length, get_or, take, drop}
-use Rattle.binar.specs.declared.matrix_form.Formation.{Formation}
-use Rattle.binar.specs.declared.matrix_form.Formation.TheVariants.{Rank, Misfit}
-use Rattle.binar.specs.declared.matrix_form.Solution.{Solution}
-use Rattle.binar.specs.declared.matrix_form.Solution.TheVariants.{Set, NoSet}
+use Rattle.std.specs.Prelude.{◌≡◌, Bool, cond, ◌&&◌, List, map, ℕ, ◌+◌, ◌*◌, ◌/◌, ◌%◌, ◌^◌, ◌≤◌, ◌<◌, leb, eqb, length, get_or, take, drop, Option, Some, None}
 use Rattle.binar.specs.Words.{row_at, put_row, matrix}
 use Rattle.binar.specs.Echelon.{Reduction, echelonize, beside_identity, EchelonForm}
 use Rattle.binar.specs.Solve.{sweep}
@@ -15,26 +11,18 @@ use Rattle.binar.specs.Laid.{laid_out}
 unfoldable pub form_stride : ℕ → ℕ → ℕ
 form_stride width n = width + (n + 63) / 64
 
-abbrev pub both : Bool → Bool → Bool
-both true b = b
-both false b = false
-
 -- the columns lie in R's words, and the slice of m words has room for the rows and as many pivots
 unfoldable pub fits : ℕ → ℕ → ℕ → ℕ → Bool
-fits width n cols m = both (leb cols (64 * width)) (leb (n * form_stride width n + n) m)
+fits width n cols m = leb cols (64 * width) && leb (n * form_stride width n + n) m
 
 -- the n rows of a slice, with the identity in T's words, reduced by the first cols columns
 unfoldable pub formed : ℕ → ℕ → ℕ → List ℕ → Reduction
 formed width n cols l = echelonize cols (beside_identity (64 * width) 0 (matrix (form_stride width n) n l))
 
-abbrev pub pick {ℓ} : {X : Type ℓ} → Bool → X → X → X
-pick true x y = x
-pick false x y = y
-
--- `echelon_form`: the rank and the form, or a misfit and the slice as it was
-pub record FormIs (l : List ℕ) (width n cols : ℕ) (answer : Formation) (exit : List ℕ) : Type 0 where
-  pub told : answer ≡ pick (fits width n cols (length l)) (Rank (length (formed width n cols l).pivots)) Misfit
-  pub left : exit ≡ pick (fits width n cols (length l)) (laid_out (form_stride width n) (formed width n cols l) l) l
+-- `echelon_form`: the rank and the form; or none, where the shape does not fit, and the slice as it was
+pub record FormIs (l : List ℕ) (width n cols : ℕ) (answer : Option ℕ) (exit : List ℕ) : Type 0 where
+  pub told : answer ≡ cond (fits width n cols (length l)) (Some (length (formed width n cols l).pivots)) None
+  pub left : exit ≡ cond (fits width n cols (length l)) (laid_out (form_stride width n) (formed width n cols l) l) l
 
 -- ---- a form in a slice, read and used
 
@@ -58,12 +46,8 @@ pub record FormLeft (l : List ℕ) (s n cols rank place : ℕ) : Type 0 where
 unfoldable pub swept : ℕ → ℕ → ℕ → ℕ → List ℕ → ℕ
 swept s n rank place l = sweep (take rank (drop (n * s) l)) (matrix s n l) (row_at l place s)
 
--- the answer of `transpose_solve`: a set, if nothing is left of the target's first cols columns
-abbrev pub solution : Bool → Solution
-solution true = Set
-solution false = NoSet
-
--- `transpose_solve`: whether there is a set, and the target's row with what is left of the target and, beside it, the set
-pub record SolutionIs (l : List ℕ) (s n cols rank place : ℕ) (answer : Solution) (exit : List ℕ) : Type 0 where
-  pub told : answer ≡ solution (eqb (swept s n rank place l % 2 ^ cols) 0)
+-- `transpose_solve`: whether there is a set, which there is if nothing is left of the target's first cols columns; and the target's row
+-- with what is left of the target and, beside it, the set
+pub record SolutionIs (l : List ℕ) (s n cols rank place : ℕ) (answer : Bool) (exit : List ℕ) : Type 0 where
+  pub told : answer ≡ eqb (swept s n rank place l % 2 ^ cols) 0
   pub left : exit ≡ put_row l place s (swept s n rank place l)

@@ -1,16 +1,12 @@
 -- What is proved of the echelon form, for every matrix A and every number c of columns. Each statement is a type; its
 -- proof, a term of it, is in proofs/.
-use Rattle.std.specs.Prelude.{◌≡◌, true, false, List, map, ℕ, ◌+◌, ◌*◌, ◌/◌, ◌%◌, ◌^◌, ◌≤◌, ◌<◌, length, get_or, take}
+use Rattle.std.specs.Prelude.{◌≡◌, Bool, true, false, List, map, ℕ, ◌+◌, ◌*◌, ◌/◌, ◌%◌, ◌^◌, ◌≤◌, ◌<◌, length, get_or, take, Option, Some, None}
 use Rattle.std.proofs.Math.Option.{some, none}
 use Rattle.binar.specs.Row.{columns, row_sum, units}
 use Rattle.binar.specs.Echelon.{echelon, R, T, rank}
 use Rattle.binar.specs.Solve.{solved, transpose_solve}
 use Rattle.binar.specs.Words.{row_at, matrix}
 use Rattle.binar.specs.Layout.{form_stride, fits, FormIs, form_in, FormLeft, swept, SolutionIs}
-use Rattle.binar.specs.declared.matrix_form.Formation.{Formation}
-use Rattle.binar.specs.declared.matrix_form.Formation.TheVariants.{Rank, Misfit}
-use Rattle.binar.specs.declared.matrix_form.Solution.{Solution}
-use Rattle.binar.specs.declared.matrix_form.Solution.TheVariants.{Set, NoSet}
 use Rattle.binar.specs.Space.{RowSpace, SameSpace, ReducedForm, Independent, Dimension}
 
 -- 1. T·A = R over GF(2), where T is a square matrix
@@ -47,10 +43,10 @@ pub record SolveLaw (c : ℕ) (A : List ℕ) (v : ℕ) : Type 0 where
   pub none_only : (RowSpace (columns c A) (v % 2 ^ c) → ⊥) → transpose_solve c (echelon c A) v ≡ none
 
 -- 6. What `echelon_form` leaves in a slice is the echelon form of the matrix that was there
-pub record FormLaw (l : List ℕ) (width n cols : ℕ) (answer : Formation) (exit : List ℕ) : Type 0 where
+pub record FormLaw (l : List ℕ) (width n cols : ℕ) (answer : Option ℕ) (exit : List ℕ) : Type 0 where
   pub fitting : fits width n cols (length l) ≡ true → let f = echelon cols (matrix (form_stride width n) n l) in
-      (answer ≡ Rank (rank f)) × (form_in (form_stride width n) n width cols (rank f) exit ≡ f)
-  pub other : fits width n cols (length l) ≡ false → (answer ≡ Misfit) × (exit ≡ l)
+      (answer ≡ Some (rank f)) × (form_in (form_stride width n) n width cols (rank f) exit ≡ f)
+  pub other : fits width n cols (length l) ≡ false → (answer ≡ None) × (exit ≡ l)
 
 -- 7. What `transpose_solve` leaves is the solution by the form in the slice, where the target's T words are zero at entry
 abbrev pub SolutionLaw : List ℕ → ℕ → ℕ → ℕ → ℕ → ℕ → ℕ → Type 0
@@ -72,16 +68,16 @@ pub record Targeted (x w : List ℕ) (width n r place v : ℕ) : Type 0 where
 -- that was in l. What the call requires is met; whatever it answers and leaves, a set told is in the T words of the target's row
 pub record SetLaw (l w : List ℕ) (width n cols r place v : ℕ) : Type 0 where
   pub required : FormLeft w (form_stride width n) n cols r place
-  pub set_sums : (answer : Solution) (w' : List ℕ) → SolutionIs w (form_stride width n) n cols r place answer w' → answer ≡ Set
+  pub set_sums : (answer : Bool) (w' : List ℕ) → SolutionIs w (form_stride width n) n cols r place answer w' → answer ≡ true
       → let set = row_at w' place (form_stride width n) / 2 ^ (64 * width) in
       (set < 2 ^ n) × (row_sum set (columns cols (matrix (form_stride width n) n l)) ≡ v % 2 ^ cols)
-  pub none_right : (answer : Solution) (w' : List ℕ) → SolutionIs w (form_stride width n) n cols r place answer w' → answer ≡ NoSet
+  pub none_right : (answer : Bool) (w' : List ℕ) → SolutionIs w (form_stride width n) n cols r place answer w' → answer ≡ false
       → RowSpace (columns cols (matrix (form_stride width n) n l)) (v % 2 ^ cols) → ⊥
-  pub none_only : (answer : Solution) (w' : List ℕ) → SolutionIs w (form_stride width n) n cols r place answer w'
-      → (RowSpace (columns cols (matrix (form_stride width n) n l)) (v % 2 ^ cols) → ⊥) → answer ≡ NoSet
+  pub none_only : (answer : Bool) (w' : List ℕ) → SolutionIs w (form_stride width n) n cols r place answer w'
+      → (RowSpace (columns cols (matrix (form_stride width n) n l)) (v % 2 ^ cols) → ⊥) → answer ≡ false
 
 -- 8. That sentence, of the two calls as their contracts have them
 abbrev pub CallsLaw : Type 0
 CallsLaw =
-    (l x w : List ℕ) (width n cols r place v : ℕ) → FormIs l width n cols (Rank r) x → Targeted x w width n r place v
+    (l x w : List ℕ) (width n cols r place v : ℕ) → FormIs l width n cols (Some r) x → Targeted x w width n r place v
     → SetLaw l w width n cols r place v

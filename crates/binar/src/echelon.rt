@@ -1,86 +1,83 @@
 // The reduction of a matrix in a slice.
 //
-// A matrix is rows of stride words, row i at i * stride; the pivots stand behind the rows, a word each. The words of a row
-// past its matrix's columns take part in every swap and addition, so that T, kept there, needs no work of its own.
-ghost use Rattle.std.specs.Prelude.{◌≡◌, ◌+◌, ◌*◌, ◌≤◌, ◌<◌, length, drop};
+// The pivots stand behind the matrix's rows, a word each. The words of a row past its matrix's columns take part in every swap
+// and addition, so that T, kept there, needs no work of its own.
+ghost use Rattle.std.specs.Prelude.{◌≡◌, ◌+◌, ◌*◌, ◌≤◌, ◌<◌, length, drop, IfSome};
 ghost use Rattle.binar.specs.Words.{row_at, matrix, image};
-ghost use Rattle.binar.specs.Echelon.{pivot_of as pivot_of_spec, add_to_others, echelonize as echelonized};
-ghost use Rattle.binar.specs.Laid.{laid_out, Shape};
+ghost use Rattle.binar.specs.Echelon.{pivot_of, add_to_others, echelonize};
+ghost use Rattle.binar.specs.Laid.{laid_out};
 
 use crate::row::{index, swap_rows};
 use crate::sum::add_if;
 
+// How a matrix lies in a slice: rows rows of stride words, row i at i * stride, of which cols columns count.
+#[derive(Clone, Copy)]
+pub struct Layout {
+    pub stride: usize,
+    pub rows: usize,
+    pub cols: usize,
+    pub ghost wide: { cols ≤ 64 * stride },
+}
+
 // The cell of a matrix in row row and column col.
-#[derive(Drop)]
+#[derive(Clone, Copy)]
 pub(crate) struct Cell {
     pub row: usize,
     pub col: usize,
 }
 
-// What the pivot search finds.
-#[derive(Drop)]
-pub(crate) enum Found {
-    At(Cell),
-    Nothing,
-}
-
-// The first cell that holds a one, column by column from c0 on, each from row r0 down.
-fn pivot_of(w: &[u64], stride: usize, rows: usize, cols: usize, r0: usize, c0: usize) -> Found
-    requires { (rows * stride ≤ length w.now) × (cols ≤ 64 * stride) }
-    ensures { result ≡ pivot_of_spec cols r0 c0 (matrix stride rows w.now) }
+// The first cell that holds a one, column by column from that of start on, each from the row of start down.
+fn pivot_of(w: &[u64], shape: Layout, start: Cell) -> Option<Cell>
+    requires { shape.rows * shape.stride ≤ length w.now }
+    ensures first { result ≡ pivot_of shape.cols start.row start.col (matrix shape.stride shape.rows w.now) }
+    ensures inside { IfSome result (λ cell. (start.row ≤ cell.row) × (cell.row < shape.rows) × (cell.col < shape.cols)) }
 {
-    let mut c = c0;
-    let found = 'search: loop {
-        if c >= cols {
-            break 'search Found::Nothing;
-        }
-        for i in r0..rows {
-            if index(w, i * stride, c) == 1 {
-                break 'search Found::At(Cell { row: i, col: c });
+    'search: {
+        for col in start.col..shape.cols {
+            for row in start.row..shape.rows {
+                if index(w, row * shape.stride, col) == 1 {
+                    break 'search Some(Cell { row, col });
+                }
             }
         }
-        c += 1;
-    };
-    found
+        None
+    }
 }
 
-// Adds row r to all other rows with a one in column c.
-fn reduce(w: &mut [u64], stride: usize, rows: usize, r: usize, c: usize)
-    requires { (rows * stride ≤ length w.old) × (r < rows) × (c < 64 * stride) }
-    ensures { w.new ≡ image stride (add_to_others c (row_at w.old (r * stride) stride) r 0 (matrix stride rows w.old)) (drop (rows * stride) w.old) }
+// Adds row pivot.row to all other rows with a one in column pivot.col.
+fn reduce(w: &mut [u64], shape: Layout, pivot: Cell)
+    requires { (shape.rows * shape.stride ≤ length w.old) × (pivot.row < shape.rows) × (pivot.col < shape.cols) }
+    ensures { w.new ≡ image shape.stride (add_to_others pivot.col (row_at w.old (pivot.row * shape.stride) shape.stride) pivot.row 0 (matrix shape.stride shape.rows w.old)) (drop (shape.rows * shape.stride) w.old) }
 {
-    for i in 0..rows {
-        if i != r {
-            let bit = index(w, i * stride, c);
-            add_if(w, i * stride, r * stride, stride, bit);
+    let stride = shape.stride;
+    for i in 0..shape.rows {
+        if i != pivot.row {
+            let bit = index(w, i * stride, pivot.col);
+            add_if(w, i * stride, pivot.row * stride, stride, bit);
         }
     }
 }
 
-// Reduces the rows by their first cols columns, in place, writes the pivots behind them, and returns how many there are.
-pub(crate) fn echelonize(w: &mut [u64], stride: usize, rows: usize, cols: usize) -> usize
-    requires { Shape w.old stride rows cols }
-    ensures rank { result ≡ length (echelonized cols (matrix stride rows w.old)).pivots }
-    ensures left { w.new ≡ laid_out stride (echelonized cols (matrix stride rows w.old)) w.old }
+// Reduces the matrix in place, writes the pivots behind its rows, and returns how many there are.
+pub(crate) fn echelonize(w: &mut [u64], shape: Layout) -> usize
+    requires { shape.rows * shape.stride + shape.rows ≤ length w.old }
+    ensures rank { result ≡ length (echelonize shape.cols (matrix shape.stride shape.rows w.old)).pivots }
+    ensures left { w.new ≡ laid_out shape.stride (echelonize shape.cols (matrix shape.stride shape.rows w.old)) w.old }
 {
-    let mut r = 0;
-    let mut c = 0;
-    while r < rows {
-        let found = pivot_of(w, stride, rows, cols, r, c);
-        match found {
-            Found::Nothing => {
-                return r;
-            }
-            Found::At(cell) => {
-                let i = cell.row;
-                let j = cell.col;
-                swap_rows(w, i * stride, r * stride, stride);
-                reduce(w, stride, rows, r, j);
-                w[rows * stride + r] = j as u64;
-                r += 1;
-                c = j + 1;
-            }
-        }
+    let stride = shape.stride;
+    let mut next = Cell { row: 0, col: 0 };
+    while let Some(found) = pivot_of(w, shape, next) {
+        let pivot = Cell {
+            row: next.row,
+            ..found
+        };
+        swap_rows(w, found.row * stride, pivot.row * stride, stride);
+        reduce(w, shape, pivot);
+        w[shape.rows * stride + pivot.row] = pivot.col as u64;
+        next = Cell {
+            row: pivot.row + 1,
+            col: pivot.col + 1,
+        };
     }
-    r
+    next.row
 }

@@ -4,24 +4,9 @@ ghost use Rattle.binar.specs.Words.{row_at, put_row, matrix, image};
 ghost use Rattle.binar.specs.Echelon.{beside_identity};
 ghost use Rattle.binar.specs.Layout.{fits, FormIs, FormLeft, SolutionIs};
 
-use crate::echelon::echelonize;
+use crate::echelon::{Layout, echelonize};
 use crate::row::{clear_bits, index, is_zero};
 use crate::sum::bitxor_assign;
-
-// What becomes of a matrix of any shape: its rank, with the echelon form in the slice; or its shape does not fit the slice,
-// which is left alone.
-#[derive(Drop)]
-pub enum Formation {
-    Rank(usize),
-    Misfit,
-}
-
-// Whether a set of rows sums to the target; it is left in the T words of the target's row.
-#[derive(Drop)]
-pub enum Solution {
-    Set,
-    NoSet,
-}
 
 // Writes row i of the identity behind the first width words of the row of stride words at word at.
 fn unit_row(w: &mut [u64], at: usize, width: usize, stride: usize, i: usize)
@@ -63,39 +48,30 @@ fn fits_in(width: usize, rows: usize, cols: usize, n: usize) -> bool
 }
 
 // The echelon form of a matrix of any shape: rows rows of width words, of which cols columns count, in rows of
-// width + (rows + 63) / 64 words, so that T's words stand behind R's. The pivots come behind the rows.
-pub fn echelon_form(w: &mut [u64], width: usize, rows: usize, cols: usize) -> Formation
+// width + (rows + 63) / 64 words, so that T's words stand behind R's. The pivots come behind the rows. Returns the rank; or
+// None where the shape does not fit the slice, which is then left alone.
+pub fn echelon_form(w: &mut [u64], width: usize, rows: usize, cols: usize) -> Option<usize>
     ensures { FormIs w.old width rows cols result w.new }
 {
     if !fits_in(width, rows, cols, w.len()) {
-        return Formation::Misfit;
+        return None;
     }
     let stride = width + (rows + 63) / 64;
     write_identity(w, width, stride, rows);
-    Formation::Rank(echelonize(w, stride, rows, cols))
+    Some(echelonize(w, Layout { stride, rows, cols }))
 }
 
-// Finds a set of rows that sums to the target, the row at word at, by a form with rank pivots in the slice: adds each pivot
-// row to the target's row if that has a one at the pivot.
-pub fn transpose_solve(
-    w: &mut [u64],
-    stride: usize,
-    rows: usize,
-    cols: usize,
-    rank: usize,
-    at: usize,
-) -> Solution
-    requires { FormLeft w.old stride rows cols rank at }
-    ensures { SolutionIs w.old stride rows cols rank at result w.new }
+// Whether a set of rows sums to the target, the row at word at, by a form with rank pivots in the slice: adds each pivot row
+// to the target's row if that has a one at the pivot, which leaves the set in that row's T words.
+pub fn transpose_solve(w: &mut [u64], shape: Layout, rank: usize, at: usize) -> bool
+    requires { FormLeft w.old shape.stride shape.rows shape.cols rank at }
+    ensures { SolutionIs w.old shape.stride shape.rows shape.cols rank at result w.new }
 {
     for k in 0..rank {
-        let pivot = w[rows * stride + k] as usize;
+        let pivot = w[shape.rows * shape.stride + k] as usize;
         if index(w, at, pivot) == 1 {
-            bitxor_assign(w, at, k * stride, stride);
+            bitxor_assign(w, at, k * shape.stride, shape.stride);
         }
     }
-    if is_zero(w, at, cols) {
-        return Solution::Set;
-    }
-    Solution::NoSet
+    is_zero(w, at, shape.cols)
 }

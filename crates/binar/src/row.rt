@@ -1,6 +1,6 @@
 // Rows in a slice of words. A row is named by the word at which it starts and by how many words or columns of it count.
 ghost use Rattle.std.specs.Prelude.{◌≡◌, ◌+◌, ◌/◌, ◌%◌, ◌^◌, ◌≤◌, ◌<◌, eqb, length, drop};
-ghost use Rattle.binar.specs.Row.{bit, weight as weight_of, dot as dot_of};
+ghost use Rattle.binar.specs.Row.{bit, weight, dot};
 ghost use Rattle.binar.specs.Words.{value, row_at, put_row, TwoRows};
 
 // The bit of column k of the row at word at.
@@ -16,27 +16,19 @@ pub(crate) fn is_zero(w: &[u64], at: usize, cols: usize) -> bool
     requires { at + (cols + 63) / 64 ≤ length w.now }
     ensures { result ≡ eqb (value (drop at w.now) % 2 ^ cols) 0 }
 {
-    let mut k = 0;
-    while k < cols / 64 {
-        if w[at + k] != 0 {
-            return false;
-        }
-        k += 1;
-    }
-    if cols % 64 == 0 {
-        return true;
-    }
-    w[at + k] % (1u64 << (cols % 64)) == 0
+    let last = at + cols / 64;
+    w[at..last].iter().all(|word| *word == 0)
+        && (cols % 64 == 0 || w[last] % (1 << (cols % 64)) == 0)
 }
 
 // How many ones the row of n words at word at has.
 pub fn weight(w: &[u64], at: usize, n: usize) -> usize
     requires { (at + n ≤ length w.now) × (n < 2 ^ 57) }
-    ensures { result ≡ weight_of (row_at w.now at n) }
+    ensures { result ≡ weight (row_at w.now at n) }
 {
-    let mut total: usize = 0;
+    let mut total = 0;
     for k in 0..n {
-        total += u64::count_ones(w[at + k]) as usize;
+        total += w[at + k].count_ones() as usize;
     }
     total
 }
@@ -44,13 +36,13 @@ pub fn weight(w: &[u64], at: usize, n: usize) -> usize
 // 1 where the rows of n words at words i and j share an odd number of ones, else 0.
 pub fn dot(w: &[u64], i: usize, j: usize, n: usize) -> u64
     requires { (i + n ≤ length w.now) × (j + n ≤ length w.now) }
-    ensures { result ≡ dot_of (row_at w.now i n) (row_at w.now j n) }
+    ensures { result ≡ dot (row_at w.now i n) (row_at w.now j n) }
 {
-    let mut shared: u64 = 0;
+    let mut shared = 0;
     for k in 0..n {
-        shared = shared ^ (w[i + k] & w[j + k]);
+        shared ^= w[i + k] & w[j + k];
     }
-    (u64::count_ones(shared) % 2) as u64
+    (shared.count_ones() % 2) as u64
 }
 
 // Makes the row of n words at word at zero.
@@ -58,9 +50,7 @@ pub fn clear_bits(w: &mut [u64], at: usize, n: usize)
     requires { at + n ≤ length w.old }
     ensures { w.new ≡ put_row w.old at n 0 }
 {
-    for k in 0..n {
-        w[at + k] = 0;
-    }
+    w[at..at + n].fill(0);
 }
 
 // Copies the row of n words at word from to word to.
@@ -68,9 +58,7 @@ pub fn assign(w: &mut [u64], to: usize, from: usize, n: usize)
     requires { TwoRows w.old to from n }
     ensures { w.new ≡ put_row w.old to n (row_at w.old from n) }
 {
-    for k in 0..n {
-        w[to + k] = w[from + k];
-    }
+    w.copy_within(from..from + n, to);
 }
 
 // Exchanges the rows of n words at words i and j.
@@ -79,8 +67,6 @@ pub(crate) fn swap_rows(w: &mut [u64], i: usize, j: usize, n: usize)
     ensures { w.new ≡ put_row (put_row w.old i n (row_at w.old j n)) j n (row_at w.old i n) }
 {
     for k in 0..n {
-        let x = w[i + k];
-        w[i + k] = w[j + k];
-        w[j + k] = x;
+        w.swap(i + k, j + k);
     }
 }

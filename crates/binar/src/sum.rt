@@ -8,18 +8,20 @@ fn added_word(x: u64, y: u64, bit: u64) -> u64
     requires { bit ≤ 1 }
     ensures { result ≡ x ⊕ bit * y }
 {
-    x ^ ((bit * 18446744073709551615) & y)
+    x ^ ((bit * u64::MAX) & y)
 }
 
-// Adds two words of a row to those of another, if bit is 1.
-fn add_two(w: &mut [u64], to: usize, from: usize, bit: u64)
-    requires { TwoRows w.old to from 2 × (bit ≤ 1) }
-    ensures { w.new ≡ put_row w.old to 2 (row_at w.old to 2 ⊕ bit * row_at w.old from 2) }
+// Adds the row of N words at word from to the one at word to, if bit is 1. All sums are made before the first is stored, so that
+// they can be made side by side.
+fn add_row<const N: usize>(w: &mut [u64], to: usize, from: usize, bit: u64)
+    requires { TwoRows w.old to from N × (bit ≤ 1) }
+    ensures { w.new ≡ put_row w.old to N (row_at w.old to N ⊕ bit * row_at w.old from N) }
 {
-    let a = added_word(w[to], w[from], bit);
-    let b = added_word(w[to + 1], w[from + 1], bit);
-    w[to] = a;
-    w[to + 1] = b;
+    let mut sums = [0; N];
+    for k in 0..N {
+        sums[k] = added_word(w[to + k], w[from + k], bit);
+    }
+    w[to..to + N].copy_from_slice(&sums);
 }
 
 // Adds n words of a row to those of another, if bit is 1.
@@ -38,19 +40,11 @@ pub(crate) fn add_if(w: &mut [u64], to: usize, from: usize, n: usize, bit: u64)
     requires { TwoRows w.old to from n × (bit ≤ 1) }
     ensures { w.new ≡ put_row w.old to n (row_at w.old to n ⊕ bit * row_at w.old from n) }
 {
-    if n == 6 {
-        add_two(w, to, from, bit);
-        add_two(w, to + 2, from + 2, bit);
-        add_two(w, to + 4, from + 4, bit);
-        return;
+    match n {
+        5 => add_row::<5>(w, to, from, bit),
+        6 => add_row::<6>(w, to, from, bit),
+        _ => add_words(w, to, from, n, bit),
     }
-    if n == 5 {
-        add_two(w, to, from, bit);
-        add_two(w, to + 2, from + 2, bit);
-        add_words(w, to + 4, from + 4, 1, bit);
-        return;
-    }
-    add_words(w, to, from, n, bit);
 }
 
 // Adds the row of n words at word from to the one at word to, over GF(2).

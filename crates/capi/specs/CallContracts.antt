@@ -1,8 +1,7 @@
 -- What each kind of call promises: the answer's five numbers, the output at exit and the work area at exit, by what it was lent.
-use Rattle.std.specs.Prelude.{◌≡◌, List, ℕ, length, take, drop}
+use Rattle.std.specs.Prelude.{◌≡◌, cond, List, ℕ, length, take, drop, Some, None}
 use Rattle.std.proofs.Math.Option.{Option}
-use Rattle.binar.specs.declared.matrix_form.Formation.TheVariants.{Rank, Misfit}
-use Rattle.binar.specs.Layout.{form_stride, fits, formed, pick}
+use Rattle.binar.specs.Layout.{form_stride, fits, formed}
 use Rattle.binar.specs.Laid.{laid_out}
 use Rattle.pauli.specs.Told.{Told, map_told}
 use Rattle.pauli.specs.Writing.{told_bytes, left_in}
@@ -50,5 +49,5 @@ pub record Locating (l r : List ℕ) (n : ℕ) (found : Answer) : Type 0 where
 
 -- the echelon form
 pub record Forming (words : List ℕ) (width rows cols : ℕ) (r : Answer) (words' : List ℕ) : Type 0 where
-  pub told : r ≡ code_form (pick (fits width rows cols (length words)) (Rank (length (formed width rows cols words).pivots)) Misfit)
-  pub left : words' ≡ pick (fits width rows cols (length words)) (laid_out (form_stride width rows) (formed width rows cols words) words) words
+  pub told : r ≡ code_form (cond (fits width rows cols (length words)) (Some (length (formed width rows cols words).pivots)) None)
+  pub left : words' ≡ cond (fits width rows cols (length words)) (laid_out (form_stride width rows) (formed width rows cols words) words) words

@@ -1,11 +1,8 @@
--- The five numbers of each answer, and promises by number.
+-- The five numbers of each answer.
 use Rattle.std.proofs.Math.Option.{Option, some, none as nothing}
-use Rattle.std.specs.Prelude.{List, ℕ, zero, suc, length}
-use Rattle.binar.specs.declared.matrix_form.Formation.{Formation}
-use Rattle.binar.specs.declared.matrix_form.Formation.TheVariants.{Rank, Misfit}
+use Rattle.std.specs.Prelude.{List, ℕ, zero, suc, length, Option as CodeOption, Some, None}
 use Rattle.pauli.specs.Told.{Told, answer, refused}
 use Rattle.pauli.specs.JoinCalls.{Looked, Stretch}
-use Rattle.pauli_theory.specs.Group.{Promise, none, abelian, not_abelian}
 use Rattle.pauli_theory.specs.Order.{Order, equal, less, greater, no_order}
 use Rattle.pauli_group.specs.Calls.{Factored}
 use Rattle.factorizations.specs.Calls.{Totals}
@@ -67,13 +64,6 @@ code_order (answer o) = code_values (order_number o) 0 0
 code_order (refused n p) = code_refusal n p
 
 -- 1 and the rank; or 0: the matrix does not fit the words lent
-abbrev pub code_form : Formation → Answer
-code_form (Rank n) = code_values 1 n 0
-code_form Misfit = code_values 0 0 0
-
--- "A promise (none, abelian, not abelian)": 0, 1 and 2; every other number is none
-unfoldable pub promise_numbered : ℕ → Promise
-promise_numbered zero = none
-promise_numbered (suc zero) = abelian
-promise_numbered (suc (suc zero)) = not_abelian
-promise_numbered (suc (suc (suc n))) = none
+abbrev pub code_form : CodeOption ℕ → Answer
+code_form (Some n) = code_values 1 n 0
+code_form None = code_values 0 0 0

@@ -7,7 +7,6 @@ ghost use Rattle.factorizations.specs.Answers.{totals_in};
 ghost use Rattle.sizes.specs.Answers.{sizes_in};
 ghost use Rattle.capi.specs.Code.{code_refusal, code_values, code_number, code_phases, code_looked, code_member, code_results, code_sizes, order_number, code_order, code_form};
 
-use binar::matrix_form::Formation;
 use factorizations::answers::Results;
 use pauli::lookup::JoinedEntry;
 use pauli::refusal::{Refusal, number_of};
@@ -149,11 +148,11 @@ pub(crate) fn code_order(found: Result<Option<Ordering>, Refusal>) -> Answer
     }
 }
 
-pub(crate) fn code_form(formation: Formation) -> Answer
-    ensures { result ≡ code_form formation }
+pub(crate) fn code_form(rank: Option<usize>) -> Answer
+    ensures { result ≡ code_form rank }
 {
-    match formation {
-        Formation::Rank(n) => code_values(1, n, 0),
-        Formation::Misfit => code_values(0, 0, 0),
+    match rank {
+        Some(n) => code_values(1, n, 0),
+        None => code_values(0, 0, 0),
     }
 }

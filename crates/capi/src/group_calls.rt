@@ -2,17 +2,18 @@
 ghost use Rattle.std.specs.Prelude.{length};
 ghost use Rattle.pauli_group.specs.Calls.{one_list, standard_generators as standard_generators_spec, rank_call, phases_call, abelian_call, stabilizer_call, size_call, question, factorization_call, symplectic_call, elements_call};
 ghost use Rattle.factorizations.specs.Calls.{questions, factorizations_call};
-ghost use Rattle.capi.specs.Code.{code_number, code_phases, promise_numbered as promise_numbered_spec};
+ghost use Rattle.capi.specs.Code.{code_number, code_phases};
+ghost use Rattle.pauli_group.specs.Promises.{promise_numbered};
 ghost use Rattle.capi.specs.CallContracts.{Telling, Listing, Factoring, FactoringAll};
 
 use crate::answer::{Answer, code_decided, code_member, code_number, code_phases, code_results};
-use crate::promise::promise_numbered;
 use factorizations::calls::indexed_factorizations_of;
 use pauli_group::calls::{
     is_abelian, is_stabilizer_group, log2_size, phases, rank, standard_generators,
 };
 use pauli_group::factorization::indexed_factorization_of;
 use pauli_group::listing::elements;
+use pauli_group::promise::Promise;
 use pauli_group::symplectic::symplectic_form_of;
 
 #[unsafe(no_mangle)]
@@ -38,18 +39,18 @@ pub extern "C" fn howhiruke_rank(roll: &[u8], work: &mut [u64]) -> Answer
 // How many phases the group has: 1, 2 or 4.
 #[unsafe(no_mangle)]
 pub extern "C" fn howhiruke_phases(roll: &[u8], promise: u64, work: &mut [u64]) -> Answer
-    ensures { Telling (code_phases (phases_call (promise_numbered_spec promise) roll.now (length work.old))) (one_list roll.now (length work.old)) work.old result work.new }
+    ensures { Telling (code_phases (phases_call (promise_numbered promise) roll.now (length work.old))) (one_list roll.now (length work.old)) work.old result work.new }
 {
-    let promised = promise_numbered(promise);
+    let promised = Promise::from(promise);
     let found = phases(roll, promised, work);
     code_phases(found)
 }
 
 #[unsafe(no_mangle)]
 pub extern "C" fn howhiruke_is_abelian(roll: &[u8], promise: u64, work: &mut [u64]) -> Answer
-    ensures { Telling (code_number (abelian_call (promise_numbered_spec promise) roll.now (length work.old))) (one_list roll.now (length work.old)) work.old result work.new }
+    ensures { Telling (code_number (abelian_call (promise_numbered promise) roll.now (length work.old))) (one_list roll.now (length work.old)) work.old result work.new }
 {
-    let promised = promise_numbered(promise);
+    let promised = Promise::from(promise);
     let decided = is_abelian(roll, promised, work);
     code_decided(decided)
 }
@@ -60,18 +61,18 @@ pub extern "C" fn howhiruke_is_stabilizer_group(
     promise: u64,
     work: &mut [u64],
 ) -> Answer
-    ensures { Telling (code_number (stabilizer_call (promise_numbered_spec promise) roll.now (length work.old))) (one_list roll.now (length work.old)) work.old result work.new }
+    ensures { Telling (code_number (stabilizer_call (promise_numbered promise) roll.now (length work.old))) (one_list roll.now (length work.old)) work.old result work.new }
 {
-    let promised = promise_numbered(promise);
+    let promised = Promise::from(promise);
     let decided = is_stabilizer_group(roll, promised, work);
     code_decided(decided)
 }
 
 #[unsafe(no_mangle)]
 pub extern "C" fn howhiruke_log2_size(roll: &[u8], promise: u64, work: &mut [u64]) -> Answer
-    ensures { Telling (code_number (size_call (promise_numbered_spec promise) roll.now (length work.old))) (one_list roll.now (length work.old)) work.old result work.new }
+    ensures { Telling (code_number (size_call (promise_numbered promise) roll.now (length work.old))) (one_list roll.now (length work.old)) work.old result work.new }
 {
-    let promised = promise_numbered(promise);
+    let promised = Promise::from(promise);
     let found = log2_size(roll, promised, work);
     code_number(found)
 }
@@ -86,9 +87,9 @@ pub extern "C" fn howhiruke_indexed_factorization_of(
     work: &mut [u64],
     out: &mut [u8],
 ) -> Answer
-    ensures { Factoring (factorization_call (promise_numbered_spec promise) generators.now elements.now number (length work.old)) (question generators.now elements.now number (length work.old)) work.old out.old result work.new out.new }
+    ensures { Factoring (factorization_call (promise_numbered promise) generators.now elements.now number (length work.old)) (question generators.now elements.now number (length work.old)) work.old out.old result work.new out.new }
 {
-    let promised = promise_numbered(promise);
+    let promised = Promise::from(promise);
     let found = indexed_factorization_of(generators, elements, number, promised, work, out);
     code_member(found)
 }
@@ -102,9 +103,9 @@ pub extern "C" fn howhiruke_indexed_factorizations_of(
     work: &mut [u64],
     out: &mut [u8],
 ) -> Answer
-    ensures { FactoringAll (factorizations_call (promise_numbered_spec promise) generators.now elements.now (length work.old)) (questions generators.now elements.now (length work.old)) work.old out.old result work.new out.new }
+    ensures { FactoringAll (factorizations_call (promise_numbered promise) generators.now elements.now (length work.old)) (questions generators.now elements.now (length work.old)) work.old out.old result work.new out.new }
 {
-    let promised = promise_numbered(promise);
+    let promised = Promise::from(promise);
     let found = indexed_factorizations_of(generators, elements, promised, work, out);
     code_results(found)
 }
@@ -119,9 +120,9 @@ pub extern "C" fn howhiruke_elements(
     work: &mut [u64],
     out: &mut [u8],
 ) -> Answer
-    ensures { Listing (elements_call (promise_numbered_spec promise) start count roll.now (length work.old)) (one_list roll.now (length work.old)) work.old out.old result work.new out.new }
+    ensures { Listing (elements_call (promise_numbered promise) start count roll.now (length work.old)) (one_list roll.now (length work.old)) work.old out.old result work.new out.new }
 {
-    let promised = promise_numbered(promise);
+    let promised = Promise::from(promise);
     let wrote = elements(roll, promised, start, count, work, out);
     code_number(wrote)
 }

@@ -4,8 +4,6 @@
 
 // The answer of a call, and what codes each kind of answer.
 pub mod answer;
-// Promises by number.
-pub mod promise;
 // The calls on rolls alone.
 pub mod roll_calls;
 // The calls on one list.

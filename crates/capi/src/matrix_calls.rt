@@ -14,6 +14,5 @@ pub extern "C" fn howhiruke_echelon_form(
 ) -> Answer
     ensures { Forming words.old width rows cols result words.new }
 {
-    let formation = echelon_form(words, width, rows, cols);
-    code_form(formation)
+    code_form(echelon_form(words, width, rows, cols))
 }

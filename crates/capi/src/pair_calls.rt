@@ -2,14 +2,15 @@
 ghost use Rattle.std.specs.Prelude.{length};
 ghost use Rattle.pauli_group.specs.Calls.{common_call};
 ghost use Rattle.pauli_group.specs.Calls.{two_lists, order_call, modulo_call, quotient_call};
-ghost use Rattle.capi.specs.Code.{code_order, promise_numbered as promise_numbered_spec};
+ghost use Rattle.capi.specs.Code.{code_order};
+ghost use Rattle.pauli_group.specs.Promises.{promise_numbered};
 ghost use Rattle.capi.specs.CallContracts.{Telling, Listing};
 
 use crate::answer::{Answer, code_number, code_order};
-use crate::promise::promise_numbered;
 use pauli_group::common::bitand;
 use pauli_group::modulo::modulo;
 use pauli_group::order::partial_cmp;
+use pauli_group::promise::Promise;
 use pauli_group::quotient::try_quotient;
 
 // Compares the groups of two lists.
@@ -21,10 +22,10 @@ pub extern "C" fn howhiruke_partial_cmp(
     right_promise: u64,
     work: &mut [u64],
 ) -> Answer
-    ensures { Telling (code_order (order_call (promise_numbered_spec left_promise) (promise_numbered_spec right_promise) left.now right.now (length work.old))) (two_lists left.now right.now (length work.old)) work.old result work.new }
+    ensures { Telling (code_order (order_call (promise_numbered left_promise) (promise_numbered right_promise) left.now right.now (length work.old))) (two_lists left.now right.now (length work.old)) work.old result work.new }
 {
-    let l = promise_numbered(left_promise);
-    let r = promise_numbered(right_promise);
+    let l = Promise::from(left_promise);
+    let r = Promise::from(right_promise);
     let found = partial_cmp(left, right, l, r, work);
     code_order(found)
 }
@@ -39,10 +40,10 @@ pub extern "C" fn howhiruke_modulo(
     work: &mut [u64],
     out: &mut [u8],
 ) -> Answer
-    ensures { Listing (modulo_call (promise_numbered_spec right_promise) left.now right.now (length work.old)) (two_lists left.now right.now (length work.old)) work.old out.old result work.new out.new }
+    ensures { Listing (modulo_call (promise_numbered right_promise) left.now right.now (length work.old)) (two_lists left.now right.now (length work.old)) work.old out.old result work.new out.new }
 {
-    let l = promise_numbered(left_promise);
-    let r = promise_numbered(right_promise);
+    let l = Promise::from(left_promise);
+    let r = Promise::from(right_promise);
     let wrote = modulo(left, right, l, r, work, out);
     code_number(wrote)
 }
@@ -57,10 +58,10 @@ pub extern "C" fn howhiruke_try_quotient(
     work: &mut [u64],
     out: &mut [u8],
 ) -> Answer
-    ensures { Listing (quotient_call (promise_numbered_spec left_promise) (promise_numbered_spec right_promise) left.now right.now (length work.old)) (two_lists left.now right.now (length work.old)) work.old out.old result work.new out.new }
+    ensures { Listing (quotient_call (promise_numbered left_promise) (promise_numbered right_promise) left.now right.now (length work.old)) (two_lists left.now right.now (length work.old)) work.old out.old result work.new out.new }
 {
-    let l = promise_numbered(left_promise);
-    let r = promise_numbered(right_promise);
+    let l = Promise::from(left_promise);
+    let r = Promise::from(right_promise);
     let wrote = try_quotient(left, right, l, r, work, out);
     code_number(wrote)
 }
@@ -75,10 +76,10 @@ pub extern "C" fn howhiruke_bitand(
     work: &mut [u64],
     out: &mut [u8],
 ) -> Answer
-    ensures { Listing (common_call (promise_numbered_spec left_promise) (promise_numbered_spec right_promise) left.now right.now (length work.old)) (two_lists left.now right.now (length work.old)) work.old out.old result work.new out.new }
+    ensures { Listing (common_call (promise_numbered left_promise) (promise_numbered right_promise) left.now right.now (length work.old)) (two_lists left.now right.now (length work.old)) work.old out.old result work.new out.new }
 {
-    let l = promise_numbered(left_promise);
-    let r = promise_numbered(right_promise);
+    let l = Promise::from(left_promise);
+    let r = Promise::from(right_promise);
     let wrote = bitand(left, right, l, r, work, out);
     code_number(wrote)
 }

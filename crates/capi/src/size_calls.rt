@@ -2,11 +2,12 @@
 ghost use Rattle.std.specs.Prelude.{◌≡◌, length};
 ghost use Rattle.pauli_group.specs.Calls.{one_list};
 ghost use Rattle.sizes.specs.Calls.{joined_sizes as joined_sizes_spec, standard_bound as standard_bound_spec, page_call};
-ghost use Rattle.capi.specs.Code.{code_number, code_sizes, promise_numbered as promise_numbered_spec};
+ghost use Rattle.capi.specs.Code.{code_number, code_sizes};
+ghost use Rattle.pauli_group.specs.Promises.{promise_numbered};
 ghost use Rattle.capi.specs.CallContracts.{Telling};
 
 use crate::answer::{Answer, code_number, code_sizes};
-use crate::promise::promise_numbered;
+use pauli_group::promise::Promise;
 use sizes::bound::standard_bound;
 use sizes::joined::joined_sizes;
 use sizes::page::page_size;
@@ -38,9 +39,9 @@ pub extern "C" fn howhiruke_page_size(
     count: u32,
     work: &mut [u64],
 ) -> Answer
-    ensures { Telling (code_number (page_call (promise_numbered_spec promise) start count roll.now (length work.old))) (one_list roll.now (length work.old)) work.old result work.new }
+    ensures { Telling (code_number (page_call (promise_numbered promise) start count roll.now (length work.old))) (one_list roll.now (length work.old)) work.old result work.new }
 {
-    let promised = promise_numbered(promise);
+    let promised = Promise::from(promise);
     let found = page_size(roll, promised, start, count, work);
     code_number(found)
 }

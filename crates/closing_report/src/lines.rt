@@ -4,6 +4,8 @@ ghost use Rattle.std.proofs.Math.Option.{some, none};
 ghost use Rattle.pauli.specs.Refusals.{number_of};
 ghost use Rattle.pauli.specs.Sets.{members};
 ghost use Rattle.pauli.specs.PlaceSet.{set_in};
+ghost use Rattle.pauli_group.specs.Inner.Lists.{step_told};
+ghost use Rattle.pauli_group.specs.Answers.{yes_number};
 ghost use Rattle.closing_report.specs.Lines.{phases_text, abelian_text, first_line, indexes_text, member_line, refused_line};
 ghost use Rattle.closing_report.specs.Put.{Put};
 
@@ -11,66 +13,67 @@ use crate::text::{number_length, put_labelled, put_number, put_text};
 use pauli::places::Places;
 use pauli::refusal::{Refusal, number_of};
 use pauli::support::Place;
+use pauli_group::answers::Phases;
+use pauli_group::standard::Signs;
 
 // ---- the first line
 
-fn phases_length(step: u64) -> usize
-    ensures { (result ≡ length (phases_text step)) × (result ≤ 7) }
+fn phases_length(phases: Phases) -> usize
+    ensures { (result ≡ length (phases_text (step_told phases))) × (result ≤ 7) }
 {
-    match step {
-        1 => 7,
-        2 => 3,
-        _ => 1,
+    match phases {
+        Phases::Zero => 1,
+        Phases::ZeroTwo => 3,
+        Phases::All => 7,
     }
 }
 
-fn put_phases(out: &mut [u8], at: usize, step: u64) -> usize
-    requires { at + length (phases_text step) ≤ length out.old }
-    ensures { Put out.old at (phases_text step) out.new result }
+fn put_phases(out: &mut [u8], at: usize, phases: Phases) -> usize
+    requires { at + length (phases_text (step_told phases)) ≤ length out.old }
+    ensures { Put out.old at (phases_text (step_told phases)) out.new result }
 {
-    match step {
-        1 => put_text(out, at, b"0,1,2,3"),
-        2 => put_text(out, at, b"0,2"),
-        _ => put_text(out, at, b"0"),
+    match phases {
+        Phases::Zero => put_text(out, at, b"0"),
+        Phases::ZeroTwo => put_text(out, at, b"0,2"),
+        Phases::All => put_text(out, at, b"0,1,2,3"),
     }
 }
 
 // yes or no
-fn abelian_length(clash: u64) -> usize
-    ensures { (result ≡ length (abelian_text clash)) × (result ≤ 3) }
+fn abelian_length(clash: bool) -> usize
+    ensures { (result ≡ length (abelian_text (yes_number clash))) × (result ≤ 3) }
 {
-    if clash == 0 {
-        return 3;
+    if clash {
+        return 2;
     }
-    2
+    3
 }
 
-fn put_abelian(out: &mut [u8], at: usize, clash: u64) -> usize
-    requires { at + length (abelian_text clash) ≤ length out.old }
-    ensures { Put out.old at (abelian_text clash) out.new result }
+fn put_abelian(out: &mut [u8], at: usize, clash: bool) -> usize
+    requires { at + length (abelian_text (yes_number clash)) ≤ length out.old }
+    ensures { Put out.old at (abelian_text (yes_number clash)) out.new result }
 {
-    if clash == 0 {
-        return put_text(out, at, b"yes");
+    if clash {
+        return put_text(out, at, b"no");
     }
-    put_text(out, at, b"no")
+    put_text(out, at, b"yes")
 }
 
-// clash is 0 where the group is abelian
-pub(crate) fn first_line_length(rank: usize, step: u64, clash: u64) -> usize
-    ensures { (result ≡ length (first_line rank step clash)) × (result ≤ 53) }
+pub(crate) fn first_line_length(rank: usize, signs: Signs) -> usize
+    ensures { (result ≡ length (first_line rank (step_told signs.phases) (yes_number signs.clash))) × (result ≤ 53) }
 {
-    5 + number_length(rank) + 8 + phases_length(step) + 9 + abelian_length(clash) + 1
+    5 + number_length(rank) + 8 + phases_length(signs.phases) + 9 + abelian_length(signs.clash) + 1
 }
 
-pub(crate) fn put_first_line(out: &mut [u8], at: usize, rank: usize, step: u64, clash: u64) -> usize
-    requires { at + length (first_line rank step clash) ≤ length out.old }
-    ensures { Put out.old at (first_line rank step clash) out.new result }
+pub(crate) fn put_first_line(out: &mut [u8], at: usize, rank: usize, signs: Signs) -> usize
+    requires { at + length (first_line rank (step_told signs.phases) (yes_number signs.clash)) ≤ length out.old }
+    ensures { Put out.old at (first_line rank (step_told signs.phases) (yes_number signs.clash)) out.new result }
 {
     let phases = put_labelled(out, at, b"rank ", rank);
     let step_at = put_text(out, phases, b" phases ");
-    let abelian = put_phases(out, step_at, step);
+    let abelian = put_phases(out, step_at, signs.phases);
     let clash_at = put_text(out, abelian, b" abelian ");
-    let end = put_abelian(out, clash_at, clash);
+    let end = put_abelian(out, clash_at, signs.clash);
     put_text(out, end, b"\n")
 }
 

@@ -8,6 +8,7 @@ ghost use Rattle.pauli_theory.specs.Membership.{factorization_of};
 ghost use Rattle.pauli_group.specs.Inner.Area.{further_at};
 ghost use Rattle.pauli_group.specs.WorkArea.{cleared};
 ghost use Rattle.pauli_group.specs.Calls.{paulis};
+ghost use Rattle.pauli_group.specs.Inner.Lists.{step_told};
 ghost use Rattle.pauli_group.specs.Inner.Members.{factoring_told, Asked};
 ghost use Rattle.closing_report.specs.Contract.{ReportCall};
 ghost use Rattle.closing_report.specs.Lines.{refused_line};
@@ -22,9 +23,10 @@ use binar::row::clear_bits;
 use pauli::refusal::{Reason, Refusal};
 use pauli::roll::check_roll;
 use pauli::support::Support;
+use pauli_group::answers::Phases;
 use pauli_group::area::{FURTHER, WORK_WORDS};
 use pauli_group::group::{Group, group_of};
-use pauli_group::member::{Factoring, factor};
+use pauli_group::member::{IndexSet, factor};
 use pauli_group::promise::Promise;
 use pauli_group::standard::signs_of;
 
@@ -32,24 +34,32 @@ use pauli_group::standard::signs_of;
 pub const MOST_TEXT: usize = 53924;
 
 // Stores what membership tells of an element.
-fn store_result(w: &mut [u64], at: usize, factoring: Factoring)
+fn store_result(w: &mut [u64], at: usize, factoring: Option<IndexSet>)
     requires { (at + 5 ≤ length w.old) × Storable (factoring_told factoring) }
     ensures { Stored w.old at (factoring_told factoring) w.new }
 {
     match factoring {
-        Factoring::NotFound => store_other(w, at),
-        Factoring::Found(found) => store_member(w, at, found.set, found.exponent),
+        None => store_other(w, at),
+        Some(found) => store_member(w, at, found.set, found.exponent),
     }
 }
 
-// Factors the m Paulis of an accepted roll by the group of a list of n that is in the work area, whose phases have this step, and
+// Factors the m Paulis of an accepted roll by the group of a list of n that is in the work area, which has these phases, and
 // stores the results in place of a further list.
-fn factor_all(b: &[u8], m: usize, known: &[u32], n: usize, group: Group, step: u64, w: &mut [u64])
-    requires { (count_of b.now ≡ answer m) × (n ≤ 128) × (length w.old ≡ 4096) × (group.places ≤ 128) × Asked known.now w.old n group.places group.rank group.total step }
-    ensures { (g : Asked known.now w.old n group.places group.rank group.total step) → stored_in w.new further_at m ≡ map (factorization_of g.promise g.list) (paulis (list_of b.now)) }
+fn factor_all(
+    b: &[u8],
+    m: usize,
+    known: &[u32],
+    n: usize,
+    group: Group,
+    phases: Phases,
+    w: &mut [u64],
+)
+    requires { (count_of b.now ≡ answer m) × (n ≤ 128) × (length w.old ≡ 4096) × (group.places ≤ 128) × Asked known.now w.old n group.places group.rank group.total (step_told phases) }
+    ensures { (g : Asked known.now w.old n group.places group.rank group.total (step_told phases)) → stored_in w.new further_at m ≡ map (factorization_of g.promise g.list) (paulis (list_of b.now)) }
 {
     for k in 0..m {
-        let factoring = factor(b, m, k, known, n, group, step, w);
+        let factoring = factor(b, m, k, known, n, group, phases, w);
         store_result(w, FURTHER + 5 * k, factoring);
     }
 }
@@ -70,8 +80,8 @@ fn write_report(
     let mut known = Support::new();
     let g = group_of(b, n, &mut known, w);
     let signs = signs_of(w, g.total, Promise::None);
-    factor_all(elements, m, known.qubits(), n, g, signs.step, w);
-    write_listing(g.rank, signs.step, signs.clash, w, FURTHER, m, out)
+    factor_all(elements, m, known.qubits(), n, g, signs.phases, w);
+    write_listing(g.rank, signs, w, FURTHER, m, out)
 }
 
 // Writes the line for an input without a whole first roll.

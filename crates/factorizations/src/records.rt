@@ -18,16 +18,16 @@ use pauli::places::Places;
 use pauli::refusal::{Reason, Refusal};
 use pauli::support::Place;
 use pauli::write::put_u16;
-use pauli_group::member::Factoring;
+use pauli_group::member::IndexSet;
 
 // ---- one record
 
-fn record_length(res: Factoring) -> usize
+fn record_length(res: Option<IndexSet>) -> usize
     ensures { (result ≡ length (result_bytes (factoring_told res))) × (result ≤ 260) }
 {
     match res {
-        Factoring::NotFound => 1,
-        Factoring::Found(found) => {
+        None => 1,
+        Some(found) => {
             let set = found.set;
             4 + 2 * set.weight()
         }
@@ -69,13 +69,13 @@ fn put_member(out: &mut [u8], at: usize, set: Places, exponent: u8) -> usize
     at + 4 + 2 * count
 }
 
-fn put_record(out: &mut [u8], at: usize, res: Factoring) -> usize
+fn put_record(out: &mut [u8], at: usize, res: Option<IndexSet>) -> usize
     requires { at + length (result_bytes (factoring_told res)) ≤ length out.old }
     ensures { Put out.old at (result_bytes (factoring_told res)) out.new result }
 {
     match res {
-        Factoring::NotFound => put_other(out, at),
-        Factoring::Found(found) => put_member(out, at, found.set, found.exponent),
+        None => put_other(out, at),
+        Some(found) => put_member(out, at, found.set, found.exponent),
     }
 }
 

@@ -9,14 +9,16 @@ ghost use Rattle.pauli_group.specs.Calls.{paulis};
 ghost use Rattle.pauli_group.specs.Promises.{promise_of};
 ghost use Rattle.pauli_group.specs.Inner.Area.{further_at};
 ghost use Rattle.pauli_group.specs.Inner.Groups.{facts_in, facts_of};
+ghost use Rattle.pauli_group.specs.Inner.Lists.{step_told};
 ghost use Rattle.pauli_group.specs.Inner.Members.{factoring_told, Asked};
 ghost use Rattle.factorizations.specs.Stored.{result_in, put_member, put_other, stored_in, Storable, Stored};
 
 use pauli::places::Places;
 use pauli::support::Support;
+use pauli_group::answers::Phases;
 use pauli_group::area::FURTHER;
 use pauli_group::group::{Description, Group, group_of};
-use pauli_group::member::{Factoring, IndexSet, factor};
+use pauli_group::member::{IndexSet, factor};
 use pauli_group::promise::Promise;
 use pauli_group::standard::signs_of;
 
@@ -40,43 +42,51 @@ fn store_other(w: &mut [u64], at: usize)
 }
 
 // Stores what membership tells of an element.
-fn store_result(w: &mut [u64], at: usize, factoring: Factoring)
+fn store_result(w: &mut [u64], at: usize, factoring: Option<IndexSet>)
     requires { (at + 5 ≤ length w.old) × Storable (factoring_told factoring) }
     ensures { Stored w.old at (factoring_told factoring) w.new }
 {
     match factoring {
-        Factoring::NotFound => store_other(w, at),
-        Factoring::Found(found) => store_member(w, at, found.set, found.exponent),
+        None => store_other(w, at),
+        Some(found) => store_member(w, at, found.set, found.exponent),
     }
 }
 
 // The result that stands at word at.
-pub fn result_at(w: &[u64], at: usize) -> Factoring
+pub fn result_at(w: &[u64], at: usize) -> Option<IndexSet>
     requires { at + 5 ≤ length w.now }
     ensures { factoring_told result ≡ result_in w.now at }
 {
     let exponent = w[at];
     if exponent >= NO_MEMBER {
-        return Factoring::NotFound;
+        return None;
     }
     let set = Places {
         low: w[at + 1],
         high: w[at + 2],
     };
-    Factoring::Found(IndexSet {
-        set: set,
+    Some(IndexSet {
+        set,
         exponent: exponent as u8,
     })
 }
 
-// Factors the m Paulis of an accepted roll by the group of a list of n that is in the work area, whose phases have this step, and
+// Factors the m Paulis of an accepted roll by the group of a list of n that is in the work area, which has these phases, and
 // stores the results in place of a further list.
-fn factor_all(b: &[u8], m: usize, known: &[u32], n: usize, group: Group, step: u64, w: &mut [u64])
-    requires { (count_of b.now ≡ answer m) × (n ≤ 128) × (length w.old ≡ 4096) × (group.places ≤ 128) × Asked known.now w.old n group.places group.rank group.total step }
-    ensures { (g : Asked known.now w.old n group.places group.rank group.total step) → stored_in w.new further_at m ≡ map (factorization_of g.promise g.list) (paulis (list_of b.now)) }
+fn factor_all(
+    b: &[u8],
+    m: usize,
+    known: &[u32],
+    n: usize,
+    group: Group,
+    phases: Phases,
+    w: &mut [u64],
+)
+    requires { (count_of b.now ≡ answer m) × (n ≤ 128) × (length w.old ≡ 4096) × (group.places ≤ 128) × Asked known.now w.old n group.places group.rank group.total (step_told phases) }
+    ensures { (g : Asked known.now w.old n group.places group.rank group.total (step_told phases)) → stored_in w.new further_at m ≡ map (factorization_of g.promise g.list) (paulis (list_of b.now)) }
 {
     for k in 0..m {
-        let factoring = factor(b, m, k, known, n, group, step, w);
+        let factoring = factor(b, m, k, known, n, group, phases, w);
         store_result(w, FURTHER + 5 * k, factoring);
     }
 }
@@ -98,11 +108,9 @@ pub fn factor_rolls(
     let mut known = Support::new();
     let g = group_of(b, n, &mut known, w);
     let signs = signs_of(w, g.total, promise);
-    factor_all(elements, m, known.qubits(), n, g, signs.step, w);
+    factor_all(elements, m, known.qubits(), n, g, signs.phases, w);
     Description {
         rank: g.rank,
-        step: signs.step,
-        clash: signs.clash,
-        stabilizer: signs.stabilizer,
+        signs,
     }
 }

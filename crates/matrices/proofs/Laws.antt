@@ -4,8 +4,7 @@ use mathlib.Core.List.{List}
 use Prim.Native.Nat.{ℕ, ◌+◌, ◌*◌, ◌≤◌}
 use native.Mathlib.Omega.{arith}
 use lib.ListN.{length}
-use Rattle.binar.specs.declared.matrix_form.Formation.{Formation}
-use Rattle.binar.specs.declared.matrix_form.Formation.TheVariants.{Rank}
+use Rattle.std.proofs.Common.{Option, Some}
 use Rattle.binar.specs.Words.{put_row}
 use Rattle.binar.specs.Layout.{form_stride, FormIs, FormLeft}
 use Rattle.binar.proofs.row.Slice.{length_put}
@@ -15,10 +14,10 @@ use Rattle.binar.proofs.matrix_form.Sweep.{get_put_before}
 use Rattle.matrices.specs.Room.{SameBefore}
 
 -- after `echelon_form` has told a rank, targets behind the pivots can be solved for
-pub form_solvable : (l x : List ℕ) (width n cols r place : ℕ) (answer : Formation) → FormIs l width n cols answer x → answer ≡ Rank r
+pub form_solvable : (l x : List ℕ) (width n cols r place : ℕ) (answer : Option ℕ) → FormIs l width n cols answer x → answer ≡ Some r
     → n * form_stride width n + n ≤ place → place + form_stride width n ≤ length x → FormLeft x (form_stride width n) n cols r place
 form_solvable l x width n cols r place answer h told before inside =
-    let F : FormIs l width n cols (Rank r) x = rw told at h in
+    let F : FormIs l width n cols (Some r) x = rw told at h in
     form_left l x width n cols r F place (omega (arith, told_rows l x width n cols r F, before)) inside
 
 pub solvable_kept : (l x : List ℕ) (s n cols r place : ℕ) → length x ≡ length l → SameBefore place l x → FormLeft l s n cols r place → FormLeft x s n cols r place

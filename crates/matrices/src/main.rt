@@ -9,141 +9,102 @@ ghost use Rattle.std.specs.Prelude.{◌≡◌, ◌+◌, ◌*◌, ◌/◌, ◌^�
 ghost use Rattle.binar.specs.Layout.{FormLeft};
 ghost use Rattle.matrices.specs.Room.{Room, SameBefore};
 
-use binar::matrix_form::{Formation, Solution, echelon_form, transpose_solve};
+use binar::echelon::Layout;
+use binar::matrix_form::{echelon_form, transpose_solve};
 use binar::row::{clear_bits, index};
 use binar::sum::bitxor_assign;
 use std::io;
 use std::io::Write;
 
-// ---- lines. A line that is longer than its buffer is cut.
+// ---- lines
 
-// Puts b at index n, and returns where the next byte goes.
-fn put(line: &mut [u8], n: usize, b: u8) -> usize
-    requires { n ≤ length line.old }
-    ensures { result ≤ length line.new }
-{
-    if n == line.len() {
-        return n;
-    }
-    line[n] = b;
-    n + 1
+// A line to be printed; what its buffer has no room for is cut.
+#[derive(Drop)]
+struct Line {
+    bytes: [u8; 1024],
+    len: usize,
+    ghost inside: { len ≤ 1024 },
 }
 
-fn put_text(line: &mut [u8], n: usize, text: &[u8]) -> usize
-    requires { n ≤ length line.old }
-    ensures { result ≤ length line.new }
-{
-    let mut m = n;
-    for b in text {
-        m = put(line, m, *b);
+impl Line {
+    fn new() -> Self {
+        Line {
+            bytes: [0; 1024],
+            len: 0,
+        }
     }
-    m
-}
 
-fn put_number(line: &mut [u8], n: usize, x: u64) -> usize
-    requires { n ≤ length line.old }
-    ensures { result ≤ length line.new }
-{
-    let mut digits = itoa::Buffer::new();
-    put_text(line, n, digits.format(x).as_bytes())
-}
-
-fn glyph(bit: u64) -> u8 {
-    if bit == 1 { b'1' } else { b'0' }
-}
-
-// The first cols bits of the row at word at, or `-`.
-fn put_bits(line: &mut [u8], n: usize, w: &[u64], at: usize, cols: usize) -> usize
-    requires { (n ≤ length line.old) × (at + (cols + 63) / 64 ≤ length w.now) }
-    ensures { result ≤ length line.new }
-{
-    if cols == 0 {
-        return put(line, n, b'-');
+    fn put(&mut self, b: u8) {
+        if self.len < self.bytes.len() {
+            self.bytes[self.len] = b;
+            self.len += 1;
+        }
     }
-    let mut m = n;
-    for k in 0..cols {
-        m = put(line, m, glyph(index(w, at, k)));
-    }
-    m
-}
 
-// The rank pivots at word from, each after a space, or `-`.
-fn put_pivots(line: &mut [u8], n: usize, w: &[u64], from: usize, rank: usize) -> usize
-    requires { (n ≤ length line.old) × (from + rank ≤ length w.now) }
-    ensures { result ≤ length line.new }
-{
-    if rank == 0 {
-        return put_text(line, n, b" -");
+    fn put_text(&mut self, text: &[u8]) {
+        for b in text {
+            self.put(*b);
+        }
     }
-    let mut m = n;
-    for k in 0..rank {
-        m = put(line, m, b' ');
-        m = put_number(line, m, w[from + k]);
-    }
-    m
-}
 
-// Ends the line at index n and writes it.
-fn print_line<W: Write>(out: &mut W, line: &mut [u8], n: usize) -> io::Result<()>
-    requires { n ≤ length line.old }
-{
-    let end = put(line, n, b'\n');
-    out.write_all(&line[..end])
+    fn put_number(&mut self, x: u64) {
+        let mut digits = itoa::Buffer::new();
+        self.put_text(digits.format(x).as_bytes());
+    }
+
+    // The first cols bits of the row at word at, or `-`.
+    fn put_bits(&mut self, w: &[u64], at: usize, cols: usize)
+        requires { at + (cols + 63) / 64 ≤ length w.now }
+    {
+        if cols == 0 {
+            self.put(b'-');
+        }
+        for k in 0..cols {
+            self.put(if index(w, at, k) == 1 { b'1' } else { b'0' });
+        }
+    }
+
+    // The pivots, each after a space, or `-`.
+    fn put_pivots(&mut self, pivots: &[u64]) {
+        if pivots.is_empty() {
+            self.put_text(b" -");
+        }
+        for pivot in pivots {
+            self.put(b' ');
+            self.put_number(*pivot);
+        }
+    }
+
+    fn print<W: Write>(mut self, out: &mut W) -> io::Result<()> {
+        self.put(b'\n');
+        out.write_all(&self.bytes[..self.len])
+    }
 }
 
 // ---- the form
 
-fn print_head<W: Write>(
-    out: &mut W,
-    w: &[u64],
-    from: usize,
-    rows: usize,
-    cols: usize,
-    rank: usize,
-) -> io::Result<()>
-    requires { from + rank ≤ length w.now }
-{
-    let mut line = [0u8; 1024];
-    let a = put_number(&mut line, 0, rows as u64);
-    let b = put_text(&mut line, a, b" by ");
-    let c = put_number(&mut line, b, cols as u64);
-    let d = put_text(&mut line, c, b" rank ");
-    let e = put_number(&mut line, d, rank as u64);
-    let f = put_text(&mut line, e, b" pivots");
-    let n = put_pivots(&mut line, f, w, from, rank);
-    print_line(out, &mut line, n)
+fn print_head<W: Write>(out: &mut W, rows: usize, cols: usize, pivots: &[u64]) -> io::Result<()> {
+    let mut line = Line::new();
+    line.put_number(rows as u64);
+    line.put_text(b" by ");
+    line.put_number(cols as u64);
+    line.put_text(b" rank ");
+    line.put_number(pivots.len() as u64);
+    line.put_text(b" pivots");
+    line.put_pivots(pivots);
+    line.print(out)
 }
 
-// The row at word at: cols bits of R, and rows bits of T behind R's width words.
-fn print_row<W: Write>(
-    out: &mut W,
-    w: &[u64],
-    at: usize,
-    width: usize,
-    rows: usize,
-    cols: usize,
-) -> io::Result<()>
-    requires { (at + width + (rows + 63) / 64 ≤ length w.now) × (cols ≤ 64 * width) }
+// The rows: cols bits of R, and a bit of T for each row, behind R's width words.
+fn print_rows<W: Write>(out: &mut W, w: &[u64], width: usize, shape: Layout) -> io::Result<()>
+    requires { (shape.rows * shape.stride ≤ length w.now) × (shape.stride ≡ width + (shape.rows + 63) / 64) × (shape.cols ≤ 64 * width) }
 {
-    let mut line = [0u8; 1024];
-    let a = put_bits(&mut line, 0, w, at, cols);
-    let b = put(&mut line, a, b' ');
-    let n = put_bits(&mut line, b, w, at + width, rows);
-    print_line(out, &mut line, n)
-}
-
-fn print_rows<W: Write>(
-    out: &mut W,
-    w: &[u64],
-    width: usize,
-    stride: usize,
-    rows: usize,
-    cols: usize,
-) -> io::Result<()>
-    requires { (rows * stride ≤ length w.now) × (stride ≡ width + (rows + 63) / 64) × (cols ≤ 64 * width) }
-{
-    for i in 0..rows {
-        print_row(out, w, i * stride, width, rows, cols)?;
+    for i in 0..shape.rows {
+        let mut line = Line::new();
+        line.put_bits(w, i * shape.stride, shape.cols);
+        line.put(b' ');
+        line.put_bits(w, i * shape.stride + width, shape.rows);
+        line.print(out)?;
     }
     Ok(())
 }
@@ -154,24 +115,21 @@ fn print_rows<W: Write>(
 fn add_even_rows(w: &mut [u64], stride: usize, rows: usize, at: usize)
     requires { (rows * stride + rows ≤ at) × (at + stride ≤ length w.old) }
 {
-    let mut i = 0;
-    while i < rows {
+    for i in (0..rows).step_by(2) {
         bitxor_assign(w, at, i * stride, stride);
-        i += 2;
     }
 }
 
 // The first column that is no pivot: pivots rise, so before it each pivot is its own index.
-fn free_column(w: &[u64], from: usize, rank: usize) -> usize
-    requires { from + rank ≤ length w.now }
-    ensures { result ≤ rank }
+fn free_column(pivots: &[u64]) -> usize
+    ensures { result ≤ length pivots.now }
 {
-    for k in 0..rank {
-        if w[from + k] != k as u64 {
+    for (k, pivot) in pivots.iter().enumerate() {
+        if *pivot != k as u64 {
             return k;
         }
     }
-    rank
+    pivots.len()
 }
 
 // Flips the bit of column k of the row at word at.
@@ -179,7 +137,7 @@ fn flip(w: &mut [u64], at: usize, k: usize)
     requires { at + k / 64 < length w.old }
     ensures { SameBefore at w.old w.new }
 {
-    w[at + k / 64] = w[at + k / 64] ^ (1u64 << (k % 64));
+    w[at + k / 64] ^= 1u64 << (k % 64);
 }
 
 // The target with a one in column k alone.
@@ -196,24 +154,21 @@ fn print_solution<W: Write>(
     out: &mut W,
     w: &mut [u64],
     width: usize,
-    stride: usize,
-    rows: usize,
-    cols: usize,
+    shape: Layout,
     rank: usize,
     at: usize,
 ) -> io::Result<()>
-    requires { FormLeft w.old stride rows cols rank at × (stride ≡ width + (rows + 63) / 64) }
-    ensures { FormLeft w.new stride rows cols rank at }
+    requires { FormLeft w.old shape.stride shape.rows shape.cols rank at × (shape.stride ≡ width + (shape.rows + 63) / 64) }
+    ensures { FormLeft w.new shape.stride shape.rows shape.cols rank at }
 {
-    match transpose_solve(w, stride, rows, cols, rank, at) {
-        Solution::NoSet => out.write_all(b"solve none\n"),
-        Solution::Set => {
-            let mut line = [0u8; 1024];
-            let a = put_text(&mut line, 0, b"solve ");
-            let n = put_bits(&mut line, a, w, at + width, rows);
-            print_line(out, &mut line, n)
-        }
+    let mut line = Line::new();
+    line.put_text(b"solve ");
+    if transpose_solve(w, shape, rank, at) {
+        line.put_bits(w, at + width, shape.rows);
+    } else {
+        line.put_text(b"none");
     }
+    line.print(out)
 }
 
 // Prints all that is said of the matrix at the front of w. Its T words and the target's row are zero at entry.
@@ -227,32 +182,32 @@ fn print_form<W: Write>(
     requires { Room width rows cols (length w.old) }
 {
     let stride = width + (rows + 63) / 64;
-    let at = rows * stride + rows;
+    let behind = rows * stride;
+    let at = behind + rows;
     add_even_rows(w, stride, rows, at);
-    match echelon_form(w, width, rows, cols) {
-        Formation::Misfit => out.write_all(b"misfit\n"),
-        Formation::Rank(rank) => {
-            print_head(out, w, rows * stride, rows, cols, rank)?;
-            print_rows(out, w, width, stride, rows, cols)?;
-            print_solution(out, w, width, stride, rows, cols, rank, at)?;
-            if rank < cols {
-                let free = free_column(w, rows * stride, rank);
-                set_unit(w, at, stride, free);
-                print_solution(out, w, width, stride, rows, cols, rank, at)?;
-            }
-            Ok(())
-        }
+    let Some(rank) = echelon_form(w, width, rows, cols) else {
+        return out.write_all(b"misfit\n");
+    };
+    let shape = Layout { stride, rows, cols };
+    print_head(out, rows, cols, &w[behind..behind + rank])?;
+    print_rows(out, w, width, shape)?;
+    print_solution(out, w, width, shape, rank, at)?;
+    if rank < cols {
+        let free = free_column(&w[behind..behind + rank]);
+        set_unit(w, at, stride, free);
+        print_solution(out, w, width, shape, rank, at)?;
     }
+    Ok(())
 }
 
 // ---- matrices
 
-// The row at word at from cols digits of text at index from.
-fn read_row(w: &mut [u64], at: usize, cols: usize, text: &[u8], from: usize)
-    requires { (at + (cols + 63) / 64 ≤ length w.old) × (from + cols ≤ length text.now) }
+// The row at word at from its digits.
+fn read_row(w: &mut [u64], at: usize, digits: &[u8])
+    requires { at + (length digits.now + 63) / 64 ≤ length w.old }
 {
-    for k in 0..cols {
-        if text[from + k] == b'1' {
+    for (k, digit) in digits.iter().enumerate() {
+        if *digit == b'1' {
             flip(w, at, k);
         }
     }
@@ -262,7 +217,7 @@ fn read_rows(w: &mut [u64], stride: usize, rows: usize, cols: usize, text: &[u8]
     requires { (rows * stride ≤ length w.old) × (rows * cols ≤ length text.now) × (cols ≤ 64 * stride) }
 {
     for i in 0..rows {
-        read_row(w, i * stride, cols, text, i * cols);
+        read_row(w, i * stride, &text[i * cols..i * cols + cols]);
     }
 }
 
@@ -281,35 +236,35 @@ fn given<W: Write>(
     print_form(out, &mut w, width, rows, cols)
 }
 
-// A linear congruential generator; its highest bit is used.
-fn next(x: u64) -> u64
-    requires { x < 2 ^ 32 }
-    ensures { result < 2 ^ 32 }
-{
-    (x * 1664525 + 1013904223) % 4294967296
+// A linear congruential generator of pseudo-random bits: the highest bit of each state.
+#[derive(Drop)]
+struct Generator {
+    state: u64,
+    ghost small: { state < 2 ^ 32 },
 }
 
-// A row of pseudo-random bits; returns the generator's state behind it.
-fn random_row(w: &mut [u64], at: usize, cols: usize, seed: u64) -> u64
-    requires { (at + (cols + 63) / 64 ≤ length w.old) × (seed < 2 ^ 32) }
-    ensures { result < 2 ^ 32 }
-{
-    let mut x = seed;
-    for k in 0..cols {
-        x = next(x);
-        if x >= 2147483648 {
-            flip(w, at, k);
-        }
+impl Generator {
+    fn new(seed: u32) -> Self {
+        Generator { state: seed as u64 }
     }
-    x
+
+    fn bit(&mut self) -> bool {
+        self.state = (self.state * 1664525 + 1013904223) % 4294967296;
+        self.state >= 2147483648
+    }
 }
 
-fn random_rows(w: &mut [u64], stride: usize, rows: usize, cols: usize, seed: u64)
-    requires { (rows * stride ≤ length w.old) × (cols ≤ 64 * stride) × (seed < 2 ^ 32) }
+// Rows of pseudo-random bits.
+fn random_rows(w: &mut [u64], stride: usize, rows: usize, cols: usize, seed: u32)
+    requires { (rows * stride ≤ length w.old) × (cols ≤ 64 * stride) }
 {
-    let mut x = seed;
+    let mut generator = Generator::new(seed);
     for i in 0..rows {
-        x = random_row(w, i * stride, cols, x);
+        for k in 0..cols {
+            if generator.bit() {
+                flip(w, i * stride, k);
+            }
+        }
     }
 }
 
@@ -318,9 +273,9 @@ fn random<W: Write>(
     width: usize,
     rows: usize,
     cols: usize,
-    seed: u64,
+    seed: u32,
 ) -> io::Result<()>
-    requires { Room width rows cols 2048 × (seed < 2 ^ 32) }
+    requires { Room width rows cols 2048 }
 {
     let mut w = [0u64; 2048];
     random_rows(&mut w, width + (rows + 63) / 64, rows, cols, seed);
@@ -338,9 +293,7 @@ fn add_sums(w: &mut [u64], stride: usize, half: usize)
 }
 
 // 128 rows of 256 columns, the second half sums of rows of the first.
-fn repeated<W: Write>(out: &mut W, seed: u64) -> io::Result<()>
-    requires { seed < 2 ^ 32 }
-{
+fn repeated<W: Write>(out: &mut W, seed: u32) -> io::Result<()> {
     let mut w = [0u64; 2048];
     random_rows(&mut w, 6, 64, 256, seed);
     add_sums(&mut w, 6, 64);

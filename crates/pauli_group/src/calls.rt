@@ -8,10 +8,9 @@ ghost use Rattle.pauli_group.specs.Promises.{promise_of};
 ghost use Rattle.pauli_group.specs.WorkArea.{cleared};
 ghost use Rattle.pauli_group.specs.Calls.{paulis, standard_bytes};
 ghost use Rattle.pauli_group.specs.Inner.Groups.{DescriptionCall};
-ghost use Rattle.pauli_group.specs.Inner.Lists.{step_told};
+ghost use Rattle.pauli_group.specs.Answers.{yes_number};
 ghost use Rattle.pauli_group.specs.CallContracts.{StandardCall, RankCall, PhasesCall, AbelianCall, StabilizerCall, SizeCall};
 ghost use Rattle.pauli.specs.Refusals.{told_by, told_of};
-ghost use Rattle.pauli_group.specs.Answers.{yes_number};
 
 use crate::answers::Phases;
 use crate::area::{STANDARD, WORK_WORDS};
@@ -61,26 +60,12 @@ pub fn rank(b: &[u8], work: &mut [u64]) -> Result<usize, Refusal>
     Ok(d.rank)
 }
 
-// The phases with this step.
-fn phases_by(step: u64) -> Phases
-    requires { (0 < step) × (step ≤ 4) × (step ≢ 3) }
-    ensures { step_told result ≡ step }
-{
-    if step == 4 {
-        return Phases::Zero;
-    }
-    if step == 2 {
-        return Phases::ZeroTwo;
-    }
-    Phases::All
-}
-
 // The phases of the group: the powers of i in it.
 pub fn phases(b: &[u8], promise: Promise, work: &mut [u64]) -> Result<Phases, Refusal>
     ensures { PhasesCall (promise_of promise) b.now work.old result work.new }
 {
     let d = describe_list(b, promise, work)?;
-    Ok(phases_by(d.step))
+    Ok(d.signs.phases)
 }
 
 // Whether no two generators anticommute, or what is promised.
@@ -88,7 +73,7 @@ pub fn is_abelian(b: &[u8], promise: Promise, work: &mut [u64]) -> Result<bool, 
     ensures { AbelianCall (promise_of promise) b.now work.old result work.new }
 {
     let d = describe_list(b, promise, work)?;
-    Ok(d.clash == 0)
+    Ok(!d.signs.clash)
 }
 
 // Whether the group is abelian and does not have -I.
@@ -96,7 +81,7 @@ pub fn is_stabilizer_group(b: &[u8], promise: Promise, work: &mut [u64]) -> Resu
     ensures { StabilizerCall (promise_of promise) b.now work.old result work.new }
 {
     let d = describe_list(b, promise, work)?;
-    Ok(d.stabilizer == 1)
+    Ok(d.signs.stabilizer)
 }
 
 // The binary logarithm of the number of elements.
@@ -104,5 +89,5 @@ pub fn log2_size(b: &[u8], promise: Promise, work: &mut [u64]) -> Result<usize, 
     ensures { SizeCall (promise_of promise) b.now work.old result work.new }
 {
     let d = describe_list(b, promise, work)?;
-    Ok(d.rank + (2 - (d.step / 2) as usize))
+    Ok(d.rank + d.signs.phases.log2_count())
 }

@@ -1,5 +1,5 @@
 // The call for the common part.
-ghost use Rattle.std.specs.Prelude.{◌≡◌, ◌+◌, ◌*◌, ◌^◌, ◌<◌, ◌≤◌, ◌++◌, map, length, take};
+ghost use Rattle.std.specs.Prelude.{◌≡◌, IfSome, ◌+◌, ◌*◌, ◌^◌, ◌<◌, ◌≤◌, ◌++◌, map, length, take};
 ghost use Rattle.pauli.specs.Roll.{support, count_of, write};
 ghost use Rattle.pauli.specs.Support.{most_qubits, All};
 ghost use Rattle.pauli.specs.Told.{answer};
@@ -11,20 +11,21 @@ ghost use Rattle.pauli_theory.specs.Common.{with_exponent as with_exponent_spec,
 ghost use Rattle.pauli_theory.specs.Inner.CommonPlaces.{shared_exponent as shared_exponent_spec, shared_with};
 ghost use Rattle.pauli_group.specs.Inner.Area.{target_at, further_at, stride_of, Outside};
 ghost use Rattle.pauli_group.specs.WorkArea.{cleared};
-ghost use Rattle.pauli_group.specs.Inner.Lists.{Joinable};
+ghost use Rattle.pauli_group.specs.Inner.Lists.{Joinable, step_told, found};
 ghost use Rattle.pauli_group.specs.Calls.{paulis, list_bytes, common_bytes};
 ghost use Rattle.pauli_group.specs.Promises.{promise_of};
 ghost use Rattle.pauli_group.specs.Answers.{order_of};
 ghost use Rattle.pauli_group.specs.CallContracts.{CommonCall};
 ghost use Rattle.pauli_group.specs.Inner.Moved.{MovablePauli};
-ghost use Rattle.pauli_group.specs.Inner.Shared.{Solving, exponent_over, exponent_for, noted, shared_noted, exponent_found};
+ghost use Rattle.pauli_group.specs.Inner.Shared.{Solving, exponent_over, exponent_for, noted, shared_noted};
 ghost use Rattle.pauli.specs.Refusals.{told_of};
 
+use crate::answers::Phases;
 use crate::area::{FURTHER, LIST, WORK_WORDS};
 use crate::basis::common_basis;
 use crate::checks::check_pair;
 use crate::group::{Group, group_of};
-use crate::member::{Solved, solve};
+use crate::member::solve;
 use crate::moved::move_pauli;
 use crate::order::order_of;
 use crate::promise::Promise;
@@ -49,10 +50,9 @@ fn exponent_of(w: &mut [u64], at: usize, n: usize, group: Group, own: &[u32], jo
 {
     let places = group.places;
     let p = move_pauli(load(w, at), joint, own);
-    let solved = solve(w, n, places, group.rank, p);
-    match solved {
-        Solved::NoSet => 0,
-        Solved::Set(set) => {
+    match solve(w, n, places, group.rank, p) {
+        None => 0,
+        Some(set) => {
             let product = indexed_product(w, LIST, n, set);
             (product.exponent % 4) as u64
         }
@@ -71,72 +71,68 @@ fn note_exponents(w: &mut [u64], m: usize, n: usize, group: Group, own: &[u32], 
     }
 }
 
-// Notes with each of the m Paulis of the further list the exponent by the group of an accepted roll of n Paulis; tells the step between
-// its phases.
-fn note_by(b: &[u8], n: usize, promise: Promise, joint: &[u32], w: &mut [u64], m: usize) -> u64
+// Notes with each of the m Paulis of the further list the exponent by the group of an accepted roll of n Paulis; tells its phases.
+fn note_by(b: &[u8], n: usize, promise: Promise, joint: &[u32], w: &mut [u64], m: usize) -> Phases
     requires { (count_of b.now ≡ answer n) × (length w.old ≡ 4096) × (m ≤ 128) × (length joint.now ≤ 128) × OnPlaces (length joint.now) (list_in w.old further_at m) × All (MovablePauli joint.now (support_of (paulis (list_of b.now)))) (list_in w.old further_at m) }
-    ensures step { result ≡ phase_step (promise_of promise) (paulis (list_of b.now)) }
+    ensures step { step_told result ≡ phase_step (promise_of promise) (paulis (list_of b.now)) }
     ensures list { list_in w.new further_at m ≡ map (λ p. noted (exponent_for joint.now (paulis (list_of b.now)) p) p) (list_in w.old further_at m) }
 {
     let mut known = Support::new();
     let group = group_of(b, n, &mut known, w);
     let signs = signs_of(w, group.total, promise);
     note_exponents(w, m, n, group, known.qubits(), joint);
-    signs.step
+    signs.phases
 }
 
-// The first exponent that is, less u, a multiple of a and, less v, a multiple of b; 4 where there is none.
-fn shared_exponent(a: u64, b: u64, u: u64, v: u64) -> u64
-    requires { (0 < a) × (0 < b) × (u < 4) × (v < 4) }
-    ensures { exponent_found result ≡ shared_exponent_spec a b u v }
+// The first exponent that is, less u, a phase of the first group and, less v, of the second.
+fn shared_exponent(first: Phases, second: Phases, u: u64, v: u64) -> Option<u8>
+    requires { (u < 4) × (v < 4) }
+    ensures below { IfSome result (λ e. e < 4) }
+    ensures first { found result ≡ shared_exponent_spec (step_told first) (step_told second) u v }
 {
+    let a = first.step();
+    let b = second.step();
     for e in 0..4 {
-        if (e + 4 - u) % 4 % a + (e + 4 - v) % 4 % b == 0 {
-            return e;
+        if ((e as u64) + 4 - u) % 4 % a + ((e as u64) + 4 - v) % 4 % b == 0 {
+            return Some(e);
         }
     }
-    4
+    None
 }
 
 // p with this exponent.
 fn with_exponent(e: u8, p: Pauli) -> Pauli
     ensures { held result ≡ with_exponent_spec e (held p) }
 {
-    let x = p.x;
-    let z = p.z;
-    Pauli {
-        exponent: e,
-        x: x,
-        z: z,
-    }
+    Pauli { exponent: e, ..p }
 }
 
 // Keeps those of the m Paulis of the further list that have a shared exponent, with it; tells how many.
-fn keep_shared(w: &mut [u64], m: usize, a: u64, b: u64) -> usize
-    requires { (length w.old ≡ 4096) × (m ≤ 128) × (0 < a) × (0 < b) }
+fn keep_shared(w: &mut [u64], m: usize, first: Phases, second: Phases) -> usize
+    requires { (length w.old ≡ 4096) × (m ≤ 128) }
     ensures few { result ≤ m }
-    ensures list { list_in w.new further_at result ≡ shared_with (shared_noted a b) (list_in w.old further_at m) }
+    ensures list { list_in w.new further_at result ≡ shared_with (shared_noted (step_told first) (step_told second)) (list_in w.old further_at m) }
 {
     let mut kept = 0;
     for i in 0..m {
         let at = FURTHER + 5 * i;
-        let e = shared_exponent(a, b, w[at] / 4 % 4, w[at] % 4);
-        if e < 4 {
+        if let Some(e) = shared_exponent(first, second, w[at] / 4 % 4, w[at] % 4) {
             let p = load(w, at);
-            store(w, FURTHER + 5 * kept, with_exponent(e as u8, p));
+            store(w, FURTHER + 5 * kept, with_exponent(e, p));
             kept += 1;
         }
     }
     kept
 }
 
-// Appends to the n Paulis of the further list the powers of i whose exponents are multiples of a and of b; tells how many there are
-// then.
-fn append_phases(w: &mut [u64], n: usize, a: u64, b: u64) -> usize
-    requires { (length w.old ≡ 4096) × (n ≤ 128) × (0 < a) × (0 < b) }
+// Appends to the n Paulis of the further list the powers of i that are phases of both groups; tells how many there are then.
+fn append_phases(w: &mut [u64], n: usize, first: Phases, second: Phases) -> usize
+    requires { (length w.old ≡ 4096) × (n ≤ 128) }
     ensures few { result ≤ n + 4 }
-    ensures list { list_in w.new further_at result ≡ list_in w.old further_at n ++ phases_from a b 4 0 }
+    ensures list { list_in w.new further_at result ≡ list_in w.old further_at n ++ phases_from (step_told first) (step_told second) 4 0 }
 {
+    let a = first.step();
+    let b = second.step();
     let mut total = n;
     for k in 0..4 {
         if k % a + k % b == 0 {
@@ -173,10 +169,10 @@ fn write_part(
     let support = join_support(first, second);
     let joint = support.qubits();
     let m = common_basis(left, nl, right, nr, joint, w);
-    let a = note_by(left, nl, left_promise, joint, w, m);
-    let b = note_by(right, nr, right_promise, joint, w, m);
-    let kept = keep_shared(w, m, a, b);
-    let total = append_phases(w, kept, a, b);
+    let first = note_by(left, nl, left_promise, joint, w, m);
+    let second = note_by(right, nr, right_promise, joint, w, m);
+    let kept = keep_shared(w, m, first, second);
+    let total = append_phases(w, kept, first, second);
     write_roll(w, FURTHER, total, joint, out)
 }
 

@@ -15,7 +15,7 @@ use crate::answers::Factors;
 use crate::area::WORK_WORDS;
 use crate::checks::check_question;
 use crate::group::group_of;
-use crate::member::{Factoring, factor, put_indexes};
+use crate::member::{IndexSet, factor, put_indexes};
 use crate::promise::Promise;
 use crate::standard::signs_of;
 use binar::row::clear_bits;
@@ -31,7 +31,7 @@ fn factor_once(
     number: usize,
     promise: Promise,
     w: &mut [u64],
-) -> Factoring
+) -> Option<IndexSet>
     requires { (count_of b.now ≡ answer n) × (count_of elements.now ≡ answer m) × (number < m) × (length w.old ≡ 4096) }
     ensures told { factoring_told result ≡ factorization_of (promise_of promise) (paulis (list_of b.now)) (pauli_of (slice_index_or (list_of elements.now) number nothing)) }
     ensures area { w.new ≡ cleared w.old }
@@ -39,7 +39,7 @@ fn factor_once(
     let mut known = Support::new();
     let g = group_of(b, n, &mut known, w);
     let signs = signs_of(w, g.total, promise);
-    let factoring = factor(elements, m, number, known.qubits(), n, g, signs.step, w);
+    let factoring = factor(elements, m, number, known.qubits(), n, g, signs.phases, w);
     clear_bits(w, 0, WORK_WORDS);
     factoring
 }
@@ -67,10 +67,10 @@ pub fn indexed_factorization_of(
         &mut work[..WORK_WORDS],
     );
     let found = match factoring {
-        Factoring::NotFound => {
+        None => {
             return Ok(None);
         }
-        Factoring::Found(found) => found,
+        Some(found) => found,
     };
     let set = found.set;
     let count = set.weight();

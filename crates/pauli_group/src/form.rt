@@ -11,7 +11,7 @@ ghost use Rattle.pauli_group.specs.Inner.Lists.{form_over, products_by};
 
 use crate::area::ROW_WORDS;
 use crate::rows::put_rows;
-use binar::matrix_form::{Formation, echelon_form};
+use binar::matrix_form::echelon_form;
 use pauli::places::Places;
 use pauli::signed::{indexed_product, store};
 
@@ -51,11 +51,7 @@ pub(crate) fn form_of(w: &mut [u64], base: usize, n: usize, s: usize) -> usize
     ensures rest { Outside 0 (n * stride_of n + n) w.old w.new }
 {
     put_rows(w, base, n, s, stride_of(n));
-    let formation = echelon_form(w, ROW_WORDS, n, 2 * s);
-    match formation {
-        Formation::Rank(r) => r,
-        Formation::Misfit => 0,
-    }
+    echelon_form(w, ROW_WORDS, n, 2 * s).unwrap()
 }
 
 // Writes to the words from word to on the products that T names in count rows of a form of n rows, from row first on: those of the

@@ -1,13 +1,14 @@
 // The group of a list: its form and its standard generators in the work area.
-ghost use Rattle.std.specs.Prelude.{◌≡◌, ◌+◌, ◌<◌, ◌≤◌, ◌++◌, length};
+ghost use Rattle.std.specs.Prelude.{◌≡◌, ℕ, ◌+◌, ◌*◌, ◌<◌, ◌≤◌, List, ◌++◌, length};
 ghost use Rattle.pauli.specs.Condense.{list_of};
 ghost use Rattle.pauli.specs.Roll.{support, count_of};
+ghost use Rattle.pauli.specs.Pauli.{Pauli};
 ghost use Rattle.pauli.specs.Signed.{list_in};
 ghost use Rattle.pauli.specs.Told.{answer};
 ghost use Rattle.pauli.specs.Writing.{OnPlaces};
 ghost use Rattle.pauli_theory.specs.Group.{none};
 ghost use Rattle.pauli_group.specs.Promises.{promise_of};
-ghost use Rattle.pauli_group.specs.Inner.Area.{list_at, further_at, Outside};
+ghost use Rattle.pauli_group.specs.Inner.Area.{list_at, standard_at, further_at, Outside};
 ghost use Rattle.pauli_group.specs.WorkArea.{cleared};
 ghost use Rattle.pauli_group.specs.Inner.Groups.{Built, Grouped, facts_in, facts_of};
 ghost use Rattle.pauli_group.specs.Inner.Lists.{Joinable};
@@ -17,7 +18,7 @@ use crate::area::{LIST, STANDARD, WORK_WORDS};
 use crate::form::{form_of, put_products};
 use crate::list::read_list;
 use crate::promise::Promise;
-use crate::standard::{signs_of, standardize};
+use crate::standard::{Signs, signs_of, standardize};
 use binar::row::clear_bits;
 use pauli::joined::join_support;
 use pauli::roll::Roll;
@@ -31,13 +32,11 @@ pub struct Group {
     pub total: usize,
 }
 
-// What the calls tell of a group: its rank, the step between its phases, and 1 or 0 for not abelian and for a stabilizer group.
+// What the calls tell of a group: its rank, and what its standard generators tell.
 #[derive(Clone, Copy)]
 pub struct Description {
     pub rank: usize,
-    pub step: u64,
-    pub clash: u64,
-    pub stabilizer: u64,
+    pub signs: Signs,
 }
 
 // Makes the form and the standard generators of the n generators over s places.
@@ -100,6 +99,17 @@ fn group_of_two(
     build(w, nl + nr, qubits.len())
 }
 
+// What the calls tell of the group of a list, which is in the work area.
+fn describe_group(group: Group, promise: Promise, w: &[u64]) -> Description
+    requires { standard_at + 5 * group.total ≤ length w.now }
+    ensures { (gs : List Pauli) (known : List ℕ) → Grouped gs known w.now group.places group.rank group.total → facts_in result ≡ facts_of (promise_of promise) gs }
+{
+    Description {
+        rank: group.rank,
+        signs: signs_of(w, group.total, promise),
+    }
+}
+
 // What the calls tell of the group of an accepted roll of n Paulis.
 pub(crate) fn describe(b: &[u8], n: usize, promise: Promise, w: &mut [u64]) -> Description
     requires { (count_of b.now ≡ answer n) × (length w.old ≡ 4096) }
@@ -107,13 +117,7 @@ pub(crate) fn describe(b: &[u8], n: usize, promise: Promise, w: &mut [u64]) -> D
 {
     let mut known = Support::new();
     let g = group_of(b, n, &mut known, w);
-    let s = signs_of(w, g.total, promise);
-    Description {
-        rank: g.rank,
-        step: s.step,
-        clash: s.clash,
-        stabilizer: s.stabilizer,
-    }
+    describe_group(g, promise, w)
 }
 
 // What the calls tell of the group of two accepted rolls joined, without promise.
@@ -129,13 +133,7 @@ pub(crate) fn describe_two(
 {
     let mut known = Support::new();
     let g = group_of_two(left, nl, right, nr, &mut known, w);
-    let s = signs_of(w, g.total, Promise::None);
-    Description {
-        rank: g.rank,
-        step: s.step,
-        clash: s.clash,
-        stabilizer: s.stabilizer,
-    }
+    describe_group(g, Promise::None, w)
 }
 
 // Describes the group, and clears the work area.

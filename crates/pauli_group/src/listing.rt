@@ -14,8 +14,10 @@ ghost use Rattle.pauli_group.specs.WorkArea.{cleared};
 ghost use Rattle.pauli_group.specs.Calls.{paulis, most_listed, page_bytes};
 ghost use Rattle.pauli_group.specs.CallContracts.{ElementsCall};
 ghost use Rattle.pauli_group.specs.Inner.Listed.{RowOf, elements_from};
+ghost use Rattle.pauli_group.specs.Inner.Lists.{step_told};
 ghost use Rattle.pauli.specs.Refusals.{told_of};
 
+use crate::answers::Phases;
 use crate::area::{FURTHER, STANDARD, WORK_WORDS};
 use crate::checks::check_list;
 use crate::group::group_of;
@@ -40,10 +42,8 @@ fn next_row(row: &mut [u64], n: usize)
     requires { RowOf n row.old × (n < 16) }
     ensures { RowOf (n + 1) row.new }
 {
-    let mut k = 16;
-    while k > 0 {
-        row[k] = row[k] + row[k - 1];
-        k -= 1;
+    for k in (1..17).rev() {
+        row[k] += row[k - 1];
     }
 }
 
@@ -131,21 +131,27 @@ fn subset_at(n: usize, i: u64) -> Places
 }
 
 // Writes the n elements from number `start` on of the group whose standard generators are in the area, to the further list's place.
-fn put_elements(w: &mut [u64], rank: usize, step: u64, start: u64, n: usize)
-    requires { (length w.old ≡ 4096) × (rank ≤ 16) × (0 < step) × (step ≤ 4) × (n ≤ 128) × (start < 2 ^ 32) }
-    ensures list { list_in w.new further_at n ≡ elements_from rank (4 / step) step (list_in w.old standard_at rank) start n }
+fn put_elements(w: &mut [u64], rank: usize, phases: Phases, start: u64, n: usize)
+    requires { (length w.old ≡ 4096) × (rank ≤ 16) × (n ≤ 128) × (start < 2 ^ 32) }
+    ensures list { list_in w.new further_at n ≡ elements_from rank (4 / step_told phases) (step_told phases) (list_in w.old standard_at rank) start n }
     ensures rest { Outside further_at (5 * n) w.old w.new }
 {
-    let phases = 4 / step;
+    let count = phases.count();
+    let step = phases.step();
     for i in 0..n {
         let number = start + (i as u64);
-        let set = subset_at(rank, number / phases);
+        let set = subset_at(rank, number / count);
         let product = indexed_product(w, STANDARD, rank, set);
-        let turn = (step * (number % phases)) as u8;
+        let turn = (step * (number % count)) as u8;
         let exponent = std::num::wrapping_add_u8(product.exponent, turn);
-        let x = product.x;
-        let z = product.z;
-        store(w, FURTHER + 5 * i, Pauli { exponent, x, z });
+        store(
+            w,
+            FURTHER + 5 * i,
+            Pauli {
+                exponent,
+                ..product
+            },
+        );
     }
 }
 
@@ -176,12 +182,12 @@ fn page_length(total: u64, start: u64, size: usize) -> usize
     size
 }
 
-// How many elements a page holds of a group of this rank, whose phases have this step.
-pub fn page_elements(rank: usize, step: u64, start: u32, count: u32) -> usize
-    requires { (rank ≤ 16) × (0 < step) × (step ≤ 4) }
-    ensures { (result ≡ min (page_size_spec count) (2 ^ rank * (4 / step) - start)) × (result ≤ 128) }
+// How many elements a page holds of a group of this rank and these phases.
+pub fn page_elements(rank: usize, phases: Phases, start: u32, count: u32) -> usize
+    requires { rank ≤ 16 }
+    ensures { (result ≡ min (page_size_spec count) (2 ^ rank * (4 / step_told phases) - start)) × (result ≤ 128) }
 {
-    let total = (1u64 << rank) * (4 / step);
+    let total = (1u64 << rank) * phases.count();
     page_length(total, start as u64, page_size(count as usize))
 }
 
@@ -207,8 +213,8 @@ fn write_page(
         return Err(Reason::Listing.into());
     }
     let signs = signs_of(w, g.total, promise);
-    let length = page_elements(g.rank, signs.step, start, count);
-    put_elements(w, g.rank, signs.step, start as u64, length);
+    let length = page_elements(g.rank, signs.phases, start, count);
+    put_elements(w, g.rank, signs.phases, start as u64, length);
     let wrote = write_roll(w, FURTHER, length, known.qubits(), out);
     clear_bits(w, 0, WORK_WORDS);
     wrote

@@ -16,13 +16,15 @@ ghost use Rattle.pauli_theory.specs.Membership.{factorization_of};
 ghost use Rattle.pauli_group.specs.Inner.Area.{target_at, row_words, stride_of, Outside};
 ghost use Rattle.pauli_group.specs.Inner.Members.{covered, set_told, factoring_told, Asked};
 ghost use Rattle.pauli_group.specs.Calls.{le16s};
-ghost use Rattle.pauli_group.specs.Inner.Lists.{row_over};
+ghost use Rattle.pauli_group.specs.Inner.Lists.{row_over, step_told};
 
+use crate::answers::Phases;
 use crate::area::{LIST, ROW_WORDS, TARGET};
 use crate::form::{named_by, stride_of};
 use crate::group::Group;
 use crate::rows::put_row;
-use binar::matrix_form::{Solution, transpose_solve};
+use binar::echelon::Layout;
+use binar::matrix_form::transpose_solve;
 use binar::row::clear_bits;
 use pauli::bytes::u32_at;
 use pauli::condense::condense_from;
@@ -32,24 +34,11 @@ use pauli::signed::{Pauli, indexed_product};
 use pauli::support::{Place, Qubit, place_from, qubit_at, walk_start};
 use pauli::write::put_u16;
 
-// A set of generators whose rows add up to a row, or none.
-#[derive(Drop)]
-pub(crate) enum Solved {
-    Set(Places),
-    NoSet,
-}
-
 // The index set of an element, and the exponent left.
 #[derive(Clone, Copy)]
 pub struct IndexSet {
     pub set: Places,
     pub exponent: u8,
-}
-
-#[derive(Drop)]
-pub enum Factoring {
-    Found(IndexSet),
-    NotFound,
 }
 
 // Whether the total numbers from byte at on are all in the support. A set that rises is looked up by one walk.
@@ -86,7 +75,7 @@ fn is_supported(b: &[u8], n: usize, i: usize, support: &[u32]) -> bool
 }
 
 // Finds the generators whose rows add up to that of p, by the form of n rows over s places.
-pub(crate) fn solve(w: &mut [u64], n: usize, s: usize, rank: usize, p: Pauli) -> Solved
+pub(crate) fn solve(w: &mut [u64], n: usize, s: usize, rank: usize, p: Pauli) -> Option<Places>
     requires { (length w.old ≡ 4096) × (n ≤ 128) × (s ≤ 128) × ((held p).x < 2 ^ s) × ((held p).z < 2 ^ s) × FormLeft w.old (stride_of n) n (2 * s) rank target_at }
     ensures told { set_told result ≡ transpose_solve_spec (2 * s) (form_in (stride_of n) n row_words (2 * s) rank w.old) (row_over s (held p)) }
     ensures rest { Outside target_at (stride_of n) w.old w.new }
@@ -94,14 +83,19 @@ pub(crate) fn solve(w: &mut [u64], n: usize, s: usize, rank: usize, p: Pauli) ->
     let stride = stride_of(n);
     clear_bits(w, TARGET + ROW_WORDS, stride - ROW_WORDS);
     put_row(w, TARGET, p, s);
-    let solution = transpose_solve(w, stride, n, 2 * s, rank, TARGET);
-    match solution {
-        Solution::Set => Solved::Set(named_by(w, TARGET, n)),
-        Solution::NoSet => Solved::NoSet,
+    let shape = Layout {
+        stride,
+        rows: n,
+        cols: 2 * s,
+    };
+    if transpose_solve(w, shape, rank, TARGET) {
+        Some(named_by(w, TARGET, n))
+    } else {
+        None
     }
 }
 
-// Factors Pauli i of an accepted roll of m by the group of a list of n that is in the work area, whose phases have this step.
+// Factors Pauli i of an accepted roll of m by the group of a list of n that is in the work area, which has these phases.
 pub fn factor(
     b: &[u8],
     m: usize,
@@ -109,37 +103,29 @@ pub fn factor(
     known: &[u32],
     n: usize,
     group: Group,
-    step: u64,
+    phases: Phases,
     w: &mut [u64],
-) -> Factoring
-    requires { (count_of b.now ≡ answer m) × (i < m) × (n ≤ 128) × (length w.old ≡ 4096) × (group.places ≤ 128) × Asked known.now w.old n group.places group.rank group.total step }
-    ensures told { (g : Asked known.now w.old n group.places group.rank group.total step) → factoring_told result ≡ factorization_of g.promise g.list (pauli_of (slice_index_or (list_of b.now) i nothing)) }
+) -> Option<IndexSet>
+    requires { (count_of b.now ≡ answer m) × (i < m) × (n ≤ 128) × (length w.old ≡ 4096) × (group.places ≤ 128) × Asked known.now w.old n group.places group.rank group.total (step_told phases) }
+    ensures told { (g : Asked known.now w.old n group.places group.rank group.total (step_told phases)) → factoring_told result ≡ factorization_of g.promise g.list (pauli_of (slice_index_or (list_of b.now) i nothing)) }
     ensures rest { Outside target_at (stride_of n) w.old w.new }
 {
     let places = group.places;
     if !is_supported(b, m, i, known) {
-        return Factoring::NotFound;
+        return None;
     }
-    let roll = Roll {
-        bytes: b,
-        count: m,
-    };
+    let roll = Roll { bytes: b, count: m };
     let p = condense_from(roll, i, known);
-    let solved = solve(w, n, places, group.rank, p);
-    match solved {
-        Solved::NoSet => Factoring::NotFound,
-        Solved::Set(set) => {
-            let product = indexed_product(w, LIST, n, set);
-            let left = std::num::wrapping_sub_u8(p.exponent, product.exponent) % 4;
-            if (left as u64) % step == 0 {
-                return Factoring::Found(IndexSet {
-                    set: set,
-                    exponent: left,
-                });
-            }
-            Factoring::NotFound
-        }
+    let set = solve(w, n, places, group.rank, p)?;
+    let product = indexed_product(w, LIST, n, set);
+    let left = std::num::wrapping_sub_u8(p.exponent, product.exponent) % 4;
+    if (left as u64) % phases.step() != 0 {
+        return None;
     }
+    Some(IndexSet {
+        set,
+        exponent: left,
+    })
 }
 
 // Writes the numbers below n in the set, rising, two bytes each: places in the list of generators.

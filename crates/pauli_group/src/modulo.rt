@@ -101,7 +101,7 @@ fn remainder(
     let b = group_of(right, nr, &mut other, w);
     let signs = signs_of(w, b.total, promise);
     multiply_all(w, a.total, nr, b, other.qubits(), joined);
-    take_mod(w, FURTHER, a.total, signs.step);
+    take_mod(w, FURTHER, a.total, signs.phases.step());
     a.total
 }
 

@@ -4,11 +4,11 @@ ghost use Rattle.pauli.specs.Condense.{list_of};
 ghost use Rattle.pauli.specs.Roll.{support, count_of};
 ghost use Rattle.pauli.specs.Support.{most_qubits};
 ghost use Rattle.pauli.specs.Told.{answer};
-ghost use Rattle.pauli_theory.specs.Order.{partial_cmp, and, same_ranks as same_ranks_spec, no_more};
+ghost use Rattle.pauli_theory.specs.Order.{partial_cmp, no_more};
 ghost use Rattle.pauli_group.specs.Promises.{promise_of};
 ghost use Rattle.pauli_group.specs.Answers.{order_of};
 ghost use Rattle.pauli_group.specs.WorkArea.{cleared};
-ghost use Rattle.pauli_group.specs.Inner.Lists.{Joinable};
+ghost use Rattle.pauli_group.specs.Inner.Lists.{Joinable, step_told};
 ghost use Rattle.pauli_group.specs.Calls.{paulis};
 ghost use Rattle.pauli_group.specs.Inner.Compare.{ranks_in, order_by};
 ghost use Rattle.pauli_group.specs.CallContracts.{OrderCall};
@@ -22,61 +22,41 @@ use pauli::refusal::Refusal;
 use std::cmp::Ordering;
 
 // How many phases a group has, and its rank.
-#[derive(Clone, Copy)]
+#[derive(Clone, Copy, PartialEq, Eq)]
 pub(crate) struct GroupRanks {
     pub phases: u64,
     pub rank: usize,
 }
 
 fn ranks_of(d: Description) -> GroupRanks
-    requires { 0 < d.step }
-    ensures { (result.phases ≡ 4 / d.step) × (result.rank ≡ d.rank) }
+    ensures { (result.phases ≡ 4 / step_told d.signs.phases) × (result.rank ≡ d.rank) }
 {
     GroupRanks {
-        phases: 4 / d.step,
+        phases: d.signs.phases.count(),
         rank: d.rank,
     }
 }
 
-fn same_ranks(a: GroupRanks, b: GroupRanks) -> bool
-    ensures { result ≡ same_ranks_spec (ranks_in a) (ranks_in b) }
-{
-    if a.phases != b.phases {
-        return false;
-    }
-    a.rank == b.rank
-}
-
 // Whether neither number of a is above that of b.
+#[tactic(auto, unfolding(pauli_theory::specs::Order::no_more))]
 fn no_more(a: GroupRanks, b: GroupRanks) -> bool
     ensures { result ≡ no_more (ranks_in a) (ranks_in b) }
 {
-    if a.phases > b.phases {
-        return false;
-    }
-    a.rank <= b.rank
-}
-
-fn both_hold(a: bool, b: bool) -> bool
-    ensures { result ≡ and a b }
-{
-    if a {
-        return b;
-    }
-    false
+    a.phases <= b.phases && a.rank <= b.rank
 }
 
 // The order of two groups, by their numbers and those of the two joined.
+#[tactic(auto, unfolding(pauli_theory::specs::Order::same_ranks, pauli_theory::specs::Order::first_of, crate::specs::Inner::Compare::order_by))]
 fn order_by(a: GroupRanks, b: GroupRanks, both: GroupRanks) -> Option<Ordering>
     ensures { order_of result ≡ order_by (ranks_in a) (ranks_in b) (ranks_in both) }
 {
-    if both_hold(same_ranks(a, b), same_ranks(a, both)) {
+    if a == b && a == both {
         return Some(Ordering::Equal);
     }
-    if both_hold(no_more(a, b), same_ranks(b, both)) {
+    if no_more(a, b) && b == both {
         return Some(Ordering::Less);
     }
-    if same_ranks(a, both) {
+    if a == both {
         return Some(Ordering::Greater);
     }
     None

@@ -5,3 +5,18 @@ pub enum Promise {
     Abelian,
     NotAbelian,
 }
+
+impl From<u64> for Promise {
+    ghost use Rattle.std.specs.Prelude.{◌≡◌};
+    ghost use Rattle.pauli_group.specs.Promises.{promise_of, promise_numbered};
+
+    ghost from_gives = { λ number promise. promise_of promise ≡ promise_numbered number };
+
+    fn from(number: u64) -> Promise {
+        match number {
+            1 => Promise::Abelian,
+            2 => Promise::NotAbelian,
+            _ => Promise::None,
+        }
+    }
+}

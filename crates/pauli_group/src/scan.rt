@@ -4,6 +4,8 @@ ghost use Rattle.pauli.specs.Signed.{held, list_in};
 ghost use Rattle.pauli.specs.Pauli.{Pauli as PauliOf, phase};
 ghost use Rattle.pauli_theory.specs.Standard.{modulus_of as modulus_of_spec, exponent_mod, some_order_four as some_order_four_spec, anticommutes_with_some as anticommutes_with_some_spec, some_anticommute as some_anticommute_spec, appended, some_imaginary as some_imaginary_spec, some_minus as some_minus_spec};
 ghost use Rattle.pauli_group.specs.Inner.Area.{Outside};
+ghost use Rattle.pauli_group.specs.Inner.Lists.{SomeTested};
+ghost use Rattle.pauli_group.specs.Answers.{yes_number};
 
 use pauli::places::Places;
 use pauli::signed::{Pauli, load, store};
@@ -37,44 +39,55 @@ pub(crate) fn take_mod(w: &mut [u64], base: usize, n: usize, m: u64)
     }
 }
 
-// 1 where one of the n Paulis from word base on is of order four, else 0.
-pub(crate) fn some_order_four(w: &[u64], base: usize, n: usize) -> u64
-    requires { base + 5 * n ≤ length w.now }
-    ensures { result ≡ some_order_four_spec (list_in w.now base n) }
+// Whether a test holds of one of the n Paulis from word base on.
+fn some<F: Fn(Pauli) -> bool>(w: &[u64], base: usize, n: usize, test: F) -> bool
+    requires { (base + 5 * n ≤ length w.now) × F.IsAlwaysCallable test }
+    ensures { SomeTested (F.post test) w.now base n result }
 {
-    for i in 0..n {
-        if !load(w, base + 5 * i).is_order_two() {
-            return 1;
-        }
-    }
-    0
+    (0..n).any(|i| test(load(w, base + 5 * i)))
 }
 
-// 1 where one of the n Paulis from word base on anticommutes with p, else 0.
-fn anticommutes_with_some(w: &[u64], base: usize, n: usize, p: Pauli) -> u64
+// Whether one of the n Paulis from word base on is of order four.
+pub(crate) fn some_order_four(w: &[u64], base: usize, n: usize) -> bool
     requires { base + 5 * n ≤ length w.now }
-    ensures { result ≡ anticommutes_with_some_spec (held p) (list_in w.now base n) }
+    ensures { yes_number result ≡ some_order_four_spec (list_in w.now base n) }
 {
-    for i in 0..n {
-        if p.anticommutes(load(w, base + 5 * i)) {
-            return 1;
-        }
-    }
-    0
+    some(w, base, n, |p| !p.is_order_two())
 }
 
-// 1 where two of the n Paulis from word base on anticommute, else 0.
-pub(crate) fn some_anticommute(w: &[u64], base: usize, n: usize) -> u64
+// Whether one of the n Paulis from word base on anticommutes with p.
+fn anticommutes_with_some(w: &[u64], base: usize, n: usize, p: Pauli) -> bool
     requires { base + 5 * n ≤ length w.now }
-    ensures { result ≡ some_anticommute_spec (list_in w.now base n) }
+    ensures { yes_number result ≡ anticommutes_with_some_spec (held p) (list_in w.now base n) }
 {
-    for i in 0..n {
+    some(w, base, n, |q| p.anticommutes(q))
+}
+
+// Whether two of the n Paulis from word base on anticommute.
+pub(crate) fn some_anticommute(w: &[u64], base: usize, n: usize) -> bool
+    requires { base + 5 * n ≤ length w.now }
+    ensures { yes_number result ≡ some_anticommute_spec (list_in w.now base n) }
+{
+    (0..n).any(|i| {
         let at = base + 5 * i;
-        if anticommutes_with_some(w, at + 5, n - i - 1, load(w, at)) == 1 {
-            return 1;
-        }
-    }
-    0
+        anticommutes_with_some(w, at + 5, n - i - 1, load(w, at))
+    })
+}
+
+// Whether one of the n Paulis from word base on is of weight 0 and has an odd phase.
+pub(crate) fn some_imaginary(w: &[u64], base: usize, n: usize) -> bool
+    requires { base + 5 * n ≤ length w.now }
+    ensures { yes_number result ≡ some_imaginary_spec (list_in w.now base n) }
+{
+    some(w, base, n, |p| p.weight() == 0 && p.exponent % 2 == 1)
+}
+
+// Whether one of the n Paulis from word base on is -I.
+pub(crate) fn some_minus(w: &[u64], base: usize, n: usize) -> bool
+    requires { base + 5 * n ≤ length w.now }
+    ensures { yes_number result ≡ some_minus_spec (list_in w.now base n) }
+{
+    some(w, base, n, |p| p.weight() == 0 && p.exponent % 4 == 2)
 }
 
 // Writes i^k to the five words from word at on.
@@ -113,36 +126,4 @@ pub(crate) fn append_phase(w: &mut [u64], base: usize, n: usize, m: u64) -> usiz
         return 1;
     }
     n
-}
-
-// 1 where one of the n Paulis from word base on is of weight 0 and has an odd phase, else 0.
-pub(crate) fn some_imaginary(w: &[u64], base: usize, n: usize) -> u64
-    requires { base + 5 * n ≤ length w.now }
-    ensures { result ≡ some_imaginary_spec (list_in w.now base n) }
-{
-    for i in 0..n {
-        let p = load(w, base + 5 * i);
-        if p.weight() == 0 {
-            if p.exponent % 2 == 1 {
-                return 1;
-            }
-        }
-    }
-    0
-}
-
-// 1 where one of the n Paulis from word base on is -I, else 0.
-pub(crate) fn some_minus(w: &[u64], base: usize, n: usize) -> u64
-    requires { base + 5 * n ≤ length w.now }
-    ensures { result ≡ some_minus_spec (list_in w.now base n) }
-{
-    for i in 0..n {
-        let p = load(w, base + 5 * i);
-        if p.weight() == 0 {
-            if p.exponent % 4 == 2 {
-                return 1;
-            }
-        }
-    }
-    0
 }

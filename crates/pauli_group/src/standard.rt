@@ -4,8 +4,10 @@ ghost use Rattle.pauli.specs.Signed.{list_in};
 ghost use Rattle.pauli_theory.specs.Standard.{if_zero, step_of};
 ghost use Rattle.pauli_group.specs.Inner.Area.{standard_at, Outside};
 ghost use Rattle.pauli_group.specs.Promises.{promise_of};
-ghost use Rattle.pauli_group.specs.Inner.Lists.{from_products, clash_of as clash_of_spec, stabilizer_of};
+ghost use Rattle.pauli_group.specs.Inner.Lists.{step_told, from_products, clash_of as clash_of_spec, stabilizer_of};
+ghost use Rattle.pauli_group.specs.Answers.{yes_number};
 
+use crate::answers::Phases;
 use crate::area::STANDARD;
 use crate::promise::Promise;
 use crate::scan::{
@@ -13,12 +15,12 @@ use crate::scan::{
     take_mod,
 };
 
-// What the standard generators tell: the phases, as the step between them, and 1 or 0 for not abelian and for a stabilizer group.
+// What the standard generators tell: the phases, whether the group is not abelian, and whether it is a stabilizer group.
 #[derive(Clone, Copy)]
 pub struct Signs {
-    pub step: u64,
-    pub clash: u64,
-    pub stabilizer: u64,
+    pub phases: Phases,
+    pub clash: bool,
+    pub stabilizer: bool,
 }
 
 // Makes the standard generators of the n products that stand in their place, the first rank of them of nonzero rows; tells how
@@ -31,54 +33,53 @@ pub(crate) fn standardize(w: &mut [u64], n: usize, rank: usize) -> usize
 {
     let m = modulus_of(w, STANDARD + 5 * rank, n - rank);
     take_mod(w, STANDARD, rank, m);
-    if some_order_four(w, STANDARD, rank) + some_anticommute(w, STANDARD, rank) == 0 {
-        return append_phase(w, STANDARD, rank, m);
+    if some_order_four(w, STANDARD, rank) || some_anticommute(w, STANDARD, rank) {
+        take_mod(w, STANDARD, rank, 2);
+        return append_phase(w, STANDARD, rank, m % 2);
     }
-    take_mod(w, STANDARD, rank, 2);
-    append_phase(w, STANDARD, rank, m % 2)
+    append_phase(w, STANDARD, rank, m)
 }
 
-// 1 where the group of the n standard generators is not abelian, or is promised not to be, else 0.
-fn clash_of(w: &[u64], n: usize, promise: Promise) -> u64
+// Whether the group of the n standard generators is not abelian, or is promised not to be.
+fn clash_of(w: &[u64], n: usize, promise: Promise) -> bool
     requires { standard_at + 5 * n ≤ length w.now }
-    ensures { (result ≡ clash_of_spec (promise_of promise) (list_in w.now standard_at n)) × (result ≤ 1) }
+    ensures { yes_number result ≡ clash_of_spec (promise_of promise) (list_in w.now standard_at n) }
 {
     match promise {
-        Promise::Abelian => 0,
-        Promise::NotAbelian => 1,
+        Promise::Abelian => false,
+        Promise::NotAbelian => true,
         Promise::None => some_anticommute(w, STANDARD, n),
+    }
+}
+
+// The phases, by whether one is odd, and else by whether -I is missing.
+fn phases_for(imaginary: bool, stabilizer: bool) -> Phases
+    ensures { step_told result ≡ if_zero (yes_number imaginary) (if_zero (yes_number stabilizer) 2 4) 1 }
+{
+    if imaginary {
+        return Phases::All;
+    }
+    if stabilizer {
+        Phases::Zero
+    } else {
+        Phases::ZeroTwo
     }
 }
 
 // What the n standard generators tell.
 pub fn signs_of(w: &[u64], n: usize, promise: Promise) -> Signs
     requires { standard_at + 5 * n ≤ length w.now }
-    ensures clash { result.clash ≡ clash_of_spec (promise_of promise) (list_in w.now standard_at n) }
-    ensures step { result.step ≡ step_of (clash_of_spec (promise_of promise) (list_in w.now standard_at n)) (list_in w.now standard_at n) }
-    ensures stabilizer { result.stabilizer ≡ stabilizer_of (clash_of_spec (promise_of promise) (list_in w.now standard_at n)) (list_in w.now standard_at n) }
+    ensures clash { yes_number result.clash ≡ clash_of_spec (promise_of promise) (list_in w.now standard_at n) }
+    ensures step { step_told result.phases ≡ step_of (clash_of_spec (promise_of promise) (list_in w.now standard_at n)) (list_in w.now standard_at n) }
+    ensures stabilizer { yes_number result.stabilizer ≡ stabilizer_of (clash_of_spec (promise_of promise) (list_in w.now standard_at n)) (list_in w.now standard_at n) }
 {
     let clash = clash_of(w, n, promise);
-    let minus = clash + some_order_four(w, STANDARD, n) + some_minus(w, STANDARD, n);
-    if some_imaginary(w, STANDARD, n) == 1 {
-        return Signs {
-            step: 1,
-            clash: clash,
-            stabilizer: one_if_zero(minus),
-        };
-    }
+    let order_four = some_order_four(w, STANDARD, n);
+    let minus = some_minus(w, STANDARD, n);
+    let stabilizer = !clash && !order_four && !minus;
     Signs {
-        step: 2 + 2 * one_if_zero(minus),
-        clash: clash,
-        stabilizer: one_if_zero(minus),
+        phases: phases_for(some_imaginary(w, STANDARD, n), stabilizer),
+        clash,
+        stabilizer,
     }
-}
-
-// 1 where n is 0, else 0.
-fn one_if_zero(n: u64) -> u64
-    ensures { result ≡ if_zero n 1 0 }
-{
-    if n == 0 {
-        return 1;
-    }
-    0
 }

@@ -1,5 +1,5 @@
 // The call for symplectic pairing.
-ghost use Rattle.std.specs.Prelude.{◌≡◌, ◌+◌, ◌-◌, ◌*◌, ◌<◌, ◌≤◌, map, length};
+ghost use Rattle.std.specs.Prelude.{◌≡◌, IfSome, ◌+◌, ◌-◌, ◌*◌, ◌<◌, ◌≤◌, map, length};
 ghost use Rattle.pauli.specs.Condense.{list_of};
 ghost use Rattle.pauli.specs.Pauli.{normal};
 ghost use Rattle.pauli.specs.Roll.{count_of};
@@ -11,6 +11,7 @@ ghost use Rattle.pauli_group.specs.Inner.Area.{list_at, standard_at, further_at,
 ghost use Rattle.pauli_group.specs.WorkArea.{cleared};
 ghost use Rattle.pauli_group.specs.Calls.{paulis, symplectic_bytes};
 ghost use Rattle.pauli_group.specs.CallContracts.{SymplecticCall};
+ghost use Rattle.pauli_group.specs.Inner.Lists.{found};
 ghost use Rattle.pauli_group.specs.Inner.Pairs.{PairedTo};
 ghost use Rattle.pauli.specs.Refusals.{told_of};
 
@@ -33,17 +34,18 @@ pub(crate) struct Pairing {
     pub commuting: usize,
 }
 
-// The number of the first of the n Paulis from word base on that anticommutes with x, or n.
-fn first_anticommuting(w: &[u64], base: usize, n: usize, x: Pauli) -> usize
+// The number of the first of the n Paulis from word base on that anticommutes with x.
+fn first_anticommuting(w: &[u64], base: usize, n: usize, x: Pauli) -> Option<usize>
     requires { base + 5 * n ≤ length w.now }
-    ensures { (result ≤ n) × (on_position (position (held x) 0 (list_in w.now base n)) n (λ k. k) ≡ result) }
+    ensures position { found result ≡ position (held x) 0 (list_in w.now base n) }
+    ensures below { IfSome result (λ k. k < n) }
 {
     for i in 0..n {
         if x.anticommutes(load(w, base + 5 * i)) {
-            return i;
+            return Some(i);
         }
     }
-    n
+    None
 }
 
 // g times q, if g anticommutes with p.
@@ -80,15 +82,17 @@ fn pair_last(w: &mut [u64], p: Pairing) -> Pairing
 {
     let m = p.left - 1;
     let x = load(w, LIST + 5 * m);
-    let k = first_anticommuting(w, LIST, m, x);
-    if k >= m {
-        store(w, FURTHER + 5 * p.commuting, x);
-        return Pairing {
-            left: m,
-            conjugate: p.conjugate,
-            commuting: p.commuting + 1,
-        };
-    }
+    let k = match first_anticommuting(w, LIST, m, x) {
+        Some(k) => k,
+        None => {
+            store(w, FURTHER + 5 * p.commuting, x);
+            return Pairing {
+                left: m,
+                conjugate: p.conjugate,
+                commuting: p.commuting + 1,
+            };
+        }
+    };
     let z = load(w, LIST + 5 * k);
     store(w, LIST + 5 * k, load(w, LIST + 5 * (m - 1)));
     clear_pair(w, LIST, m - 1, k, x, z);

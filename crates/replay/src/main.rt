@@ -8,8 +8,9 @@
 
 ghost use Rattle.std.specs.Prelude.{◌≤◌, IfOk, length};
 
-use crate::runs::{promise_of, run_group, run_rolls};
+use crate::runs::{run_group, run_rolls};
 use pauli::bytes::u32_at;
+use pauli_group::promise::Promise;
 use std::io;
 use std::io::{Read, Write};
 
@@ -76,8 +77,8 @@ fn run<'a, W: Write>(
         a,
         u32_at(request, 4),
         u32_at(request, 8),
-        promise_of(request[1]),
-        promise_of(request[2]),
+        Promise::from(u64::from(request[1])),
+        Promise::from(u64::from(request[2])),
         first,
         second,
         work,

@@ -36,14 +36,6 @@ fn run_body<'a, W: Write>(
     end_line(to, out, 0, f)
 }
 
-pub(crate) fn promise_of(n: u8) -> Promise {
-    match n {
-        1 => Promise::Abelian,
-        2 => Promise::NotAbelian,
-        _ => Promise::None,
-    }
-}
-
 // A call on one list that writes nothing.
 fn run_list<W: Write>(
     to: &mut W,

@@ -1,53 +1,29 @@
 -- Where the search finds a cell, how many pivots there are, and how long the rows become.
-use mathlib.Core.Path.{◌≡◌, ap, subst}
-use mathlib.Core.List.{List, ◌∷◌}
-use Prim.Native.Nat.{ℕ, ◌+◌, ◌^◌, ◌≤◌, ◌<◌}
+use mathlib.Core.Path.{subst}
+use mathlib.Core.List.{List}
+use Prim.Native.Nat.{ℕ, ◌^◌, ◌≤◌, ◌<◌}
 use native.Mathlib.Omega.{arith}
-use lib.ListN.{length, length-append, length-drop}
-use Rattle.binar.specs.Echelon.{pivot_of, echelonize, echelon, rank, beside_identity}
-use Rattle.binar.specs.declared.echelon.Cell.{Cell}
-use Rattle.binar.specs.declared.echelon.Found.TheVariants.{At}
+use lib.ListN.{length}
+use Rattle.binar.specs.Echelon.{echelonize, echelon, rank, beside_identity}
 use Rattle.binar.specs.Row.{◌⊕◌}
 use Rattle.binar.specs.Solve.{sweep}
 use Rattle.binar.proofs.row.Bits.{xor_lt, xors}
 use Rattle.binar.proofs.Lists.{All}
 use Rattle.binar.proofs.echelon.Span.{below_subspace}
-use Rattle.binar.proofs.echelon.Steps.{Search, found, pivot_is}
 use Rattle.binar.proofs.echelon.Kept.{echelonize_length, echelonize_in}
 use Rattle.binar.proofs.echelon.Transform.{beside_length}
 use Rattle.binar.proofs.echelon.Solve.{sweep_change}
-use Rattle.binar.proofs.echelon.Reduced.{pivots_in, reduced_room, reduced_width, echelonize_reduced}
-
-search_in : {cols c i : ℕ} {vs : List ℕ} {cell : Cell} → Search cols c i vs (At cell)
-    → (i ≤ cell.row) × (cell.row < i + length vs) × (c ≤ cell.col) × (cell.col < cols)
-search_in (found row j pre p post e r h u o b) = omega (arith, ap length e, length-append pre (p ∷ post))
-
--- a found cell lies within the part that is searched
-pub found_in : (cols r c : ℕ) (M : List ℕ) (cell : Cell) → r ≤ length M → c ≤ cols → pivot_of cols r c M ≡ At cell
-    → (r ≤ cell.row) × (cell.row < length M) × (c ≤ cell.col) × (cell.col < cols)
-found_in cols r c M cell hr hc e =
-    let h = search_in (rw e at (pivot_is cols r c M hc)) in
-    (h.0, omega (arith, h.1, length-drop r M), h.2, h.3)
+use Rattle.binar.proofs.echelon.Reduced.{reduced_room, echelonize_reduced}
 
 module _ (cols : ℕ) (M : List ℕ) where
-  pub pivots_lt : All (λ p. p < cols) (echelonize cols M).pivots
-  pivots_lt = pivots_in (echelonize_reduced cols M)
-
   pub pivots_rows : length (echelonize cols M).pivots ≤ length M
   pivots_rows = omega (arith, reduced_room (echelonize_reduced cols M), echelonize_length cols M)
-
-  pub pivots_cols : length (echelonize cols M).pivots ≤ cols
-  pivots_cols = omega (arith, reduced_width (echelonize_reduced cols M) (omega arith))
 
 -- the same of the echelon form
 module _ (c : ℕ) (A : List ℕ) where
   pub rank_rows : rank (echelon c A) ≤ length A
   unfolding echelon rank
   rank_rows = omega (arith, pivots_rows c (beside_identity c 0 A), beside_length c 0 A)
-
-  pub rank_cols : rank (echelon c A) ≤ c
-  unfolding echelon rank
-  rank_cols = pivots_cols c (beside_identity c 0 A)
 
 -- ---- the length of the rows
 pub echelonize_lt : (cols k : ℕ) (M : List ℕ) → All (λ v. v < 2 ^ k) M → All (λ v. v < 2 ^ k) (echelonize cols M).rows

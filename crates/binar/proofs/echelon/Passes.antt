@@ -1,25 +1,26 @@
 -- Laws of the reduction as the code makes it: what is still to be done to a slice in which the first r pivots are placed.
-use mathlib.Core.Path.{◌≡◌, sym, ap, ap₂, ◌∙◌}
+use Rattle.std.proofs.Common.{Some, None}
+use mathlib.Core.Path.{◌≡◌, sym, ap, ap₂, ◌∙◌, subst}
 use mathlib.Core.List.{List, [], ◌∷◌, ◌++◌}
 use Prim.Native.Nat.{ℕ, suc, ◌+◌, ◌-◌, ◌*◌, ◌^◌, ◌≤◌, ◌<◌}
 use native.Mathlib.Nat.{add-zero, add_comm, sub-zero, zero-mul, suc-mul, zero-add, add_assoc}
 use native.Mathlib.Numerals.{add-one}
 use native.Mathlib.Omega.{arith}
+use native.Mathlib.Decide.{dec_lt}
 use lib.ListN.{length, get_or, set, take, drop, length-set, take-append-drop, length-drop}
 use lib.Seq.{take-suc-set, drop-set-lt, drop-drop, append_snoc, get_or-set_same}
 use Rattle.binar.specs.declared.echelon.Cell.{Cell}
-use Rattle.binar.specs.declared.echelon.Found.TheVariants.{At, Nothing}
 use Rattle.binar.specs.Words.{row_at, put_row, matrix, image, words}
 use Rattle.binar.specs.Echelon.{pivot_of, swap_rows, add_to_others, place_pivot, Reduction, with_pivot, on_found, echelonize_from, echelonize}
 use Rattle.binar.specs.Laid.{laid_out}
 use Rattle.binar.proofs.row.Slice.{AreWords, exchanged, length_words}
-use Rattle.binar.proofs.echelon.Matrix.{Below, below_set, length_matrix, matrix_lt, image_matrix, drop_image, matrix_image, row_image, put_image}
+use Rattle.binar.proofs.echelon.Matrix.{Below, below_set, words_image, words_drop, length_matrix, matrix_lt, image_matrix, drop_image, matrix_image, row_image, put_image}
 use Rattle.binar.proofs.echelon.Kept.{echelonize_length}
 use Rattle.binar.proofs.echelon.Others.{added_below, length_added}
 
 -- ---- stores to a list of words or rows
 
-pub words_set : (l : List ℕ) (k x : ℕ) → AreWords l → x < 2 ^ 64 → AreWords (set l k x)
+words_set : (l : List ℕ) (k x : ℕ) → AreWords l → x < 2 ^ 64 → AreWords (set l k x)
 words_set l k x f h = below_set 64 l k x f h
 
 -- ---- what is left to do
@@ -63,13 +64,16 @@ module _ (l : List ℕ) (s n cols r c : ℕ) where
   abbrev Stops : Type 0
   Stops = left l s n cols r c ≡ record { rows = matrix s n l; pivots = [] }
 
-  pub stops_end : n ≤ r → Stops
+  stops_end : n ≤ r → Stops
   unfolding left echelonize_from
   stops_end h = let e : n - r ≡ 0 = omega arith in rw e
 
-  pub stops_none : r < n → pivot_of cols r c (matrix s n l) ≡ Nothing → Stops
+  stops_none : r < n → pivot_of cols r c (matrix s n l) ≡ None → Stops
   unfolding left echelonize_from on_found
   stops_none h e = let k : n - r ≡ suc (n - (r + 1)) = omega arith in rw (k, e)
+
+  pub stops : pivot_of cols r c (matrix s n l) ≡ None → Stops
+  stops e = elim (dec_lt r n) [ yes h ↦ stops_none h e | no h ↦ stops_end (omega arith) ]
 
   pub final_stop : AreWords l → n * s ≤ length l → Stops → final l s n cols r c ≡ l
   unfolding final
@@ -187,7 +191,7 @@ module _ (l : List ℕ) (s n cols r c : ℕ) (cell : Cell) (f : AreWords l) (roo
   placed_behind : drop (n * s) placed ≡ set behind r j
   placed_behind = ap (drop (n * s)) placed_is ∙ behind_image (place_pivot r i j M) place_length (set behind r j)
 
-  module _ (e : pivot_of cols r c M ≡ At cell) where
+  module _ (e : pivot_of cols r c M ≡ Some cell) where
     left_next : left l s n cols r c ≡ with_pivot j (left placed s n cols (r + 1) (j + 1))
     unfolding left echelonize_from on_found
     left_next =
@@ -214,9 +218,12 @@ module _ (l : List ℕ) (s n cols r c : ℕ) (cell : Cell) (f : AreWords l) (roo
         ∙ sym (ap (λ (t : List ℕ). image s g.rows (take (r + 1) t ++ (g.pivots ++ drop (r + 1 + k) t))) placed_behind)
 
   -- the same, for slices that are equal to these
-  module _ (a b : List ℕ) (ea : a ≡ swapped) (eb : b ≡ image s (add_to_others j (row_at a (r * s) s) r 0 (matrix s n a)) (drop (n * s) a)) (e : pivot_of cols r c M ≡ At cell) where
+  module _ (a b : List ℕ) (ea : a ≡ swapped) (eb : b ≡ image s (add_to_others j (row_at a (r * s) s) r 0 (matrix s n a)) (drop (n * s) a)) (e : pivot_of cols r c M ≡ Some cell) where
     same : placed ≡ set b (n * s + r) j
     same = sym (ap (λ (m : List ℕ). set m (n * s + r) j) (eb ∙ ap (λ (m : List ℕ). image s (add_to_others j (row_at m (r * s) s) r 0 (matrix s n m)) (drop (n * s) m)) ea))
+
+    pub turn_words : j < 2 ^ 64 → AreWords (set b (n * s + r) j)
+    turn_words h = subst AreWords (sym placed_is ∙ same) (words_image s (place_pivot r i j M) (set behind r j) (words_set behind r j (words_drop l (n * s) f) h))
 
     pub final_turn : final l s n cols r c ≡ final (set b (n * s + r) j) s n cols (r + 1) (j + 1)
     final_turn = final_next e ∙ ap (λ (m : List ℕ). final m s n cols (r + 1) (j + 1)) same

@@ -1,5 +1,6 @@
 -- The reduction by its steps: what the pivot search finds, what the placing of a pivot gives, and `Run`, the course of a
 -- whole reduction, on which the laws are proved.
+use Rattle.std.proofs.Common.{Option, Some, None}
 use mathlib.Core.Path.{◌≡◌, refl, sym, ap, ap₂, ◌∙◌, subst}
 use mathlib.Core.Bool.{Bool, true, false}
 use mathlib.Core.List.{List, [], ◌∷◌, ◌++◌, map, append_assoc}
@@ -8,26 +9,25 @@ use native.Mathlib.Omega.{arith}
 use lib.Dec.{T, eqb, eqb→eq, eqb_refl}
 use lib.ListN.{length, get_or, set, drop, length-append, length-map}
 use lib.Seq.{drop_at, get_or_at, set_at, append_snoc}
+use Rattle.binar.specs.declared.echelon.Cell.{Cell}
 use Rattle.binar.specs.Row.{bit}
 use Rattle.binar.specs.Echelon.{in_column, by_columns, pivot_of, swap_rows, clear, unless, add_to_others, place_pivot, Reduction, with_pivot, on_found, echelonize_from, echelonize}
-use Rattle.binar.specs.declared.echelon.Found.{Found}
-use Rattle.binar.specs.declared.echelon.Found.TheVariants.{At, Nothing}
 use Rattle.binar.proofs.row.Bits.{bit_lt, Blank, blank_one, blank_join}
 use Rattle.binar.proofs.Lists.{All, all_of, all_zip, all_join, all_left, all_right}
 use Rattle.binar.proofs.echelon.Span.{if_bit_case}
 
 -- ---- the search
 -- what `in_column` gives
-data InColumn (c i : ℕ) (vs : List ℕ) (later : Found) : Found → Type 0 where
+data InColumn (c i : ℕ) (vs : List ℕ) (later : Option Cell) : Option Cell → Type 0 where
   first_in : (row : ℕ) (pre : List ℕ) (p : ℕ) (post : List ℕ) → vs ≡ pre ++ p ∷ post → row ≡ i + length pre → bit p c ≡ 1
-      → InColumn c i vs later (At (record { row = row; col = c }))
+      → InColumn c i vs later (Some (record { row = row; col = c }))
   none_in : All (λ v. bit v c ≡ 0) vs → InColumn c i vs later later
 
-in_tail : {c i v : ℕ} {vs : List ℕ} {later f : Found} → bit v c ≡ 0 → InColumn c (suc i) vs later f → InColumn c i (v ∷ vs) later f
+in_tail : {c i v : ℕ} {vs : List ℕ} {later f : Option Cell} → bit v c ≡ 0 → InColumn c (suc i) vs later f → InColumn c i (v ∷ vs) later f
 in_tail {v} z (first_in row pre p post e r o) = first_in row (v ∷ pre) p post (ap (v ∷◌) e) (omega arith) o
 in_tail z (none_in a) = none_in (z, a)
 
-in_column_lem : (c i : ℕ) (vs : List ℕ) (later : Found) → InColumn c i vs later (in_column c i vs later)
+in_column_lem : (c i : ℕ) (vs : List ℕ) (later : Option Cell) → InColumn c i vs later (in_column c i vs later)
 unfolding in_column
 in_column_lem c i [] later = none_in tt
 in_column_lem c i (v ∷ vs) later =
@@ -37,12 +37,12 @@ in_column_lem c i (v ∷ vs) later =
 
 -- what the search among the rows vs, numbered from i on, gives in the columns from c up to cols: no row has a one there, or
 -- the row p after the rows pre has one in column j, and no row has one before it
-pub data Search (cols c i : ℕ) (vs : List ℕ) : Found → Type 0 where
-  nowhere : All (Blank c cols) vs → Search cols c i vs Nothing
+pub data Search (cols c i : ℕ) (vs : List ℕ) : Option Cell → Type 0 where
+  nowhere : All (Blank c cols) vs → Search cols c i vs None
   found : (row j : ℕ) (pre : List ℕ) (p : ℕ) (post : List ℕ) → vs ≡ pre ++ p ∷ post → row ≡ i + length pre → c ≤ j → j < cols → bit p j ≡ 1
-      → All (Blank c j) vs → Search cols c i vs (At (record { row = row; col = j }))
+      → All (Blank c j) vs → Search cols c i vs (Some (record { row = row; col = j }))
 
-in_columns : {cols c i : ℕ} {vs : List ℕ} {later f : Found} → c < cols → Search cols (suc c) i vs later → InColumn c i vs later f → Search cols c i vs f
+in_columns : {cols c i : ℕ} {vs : List ℕ} {later f : Option Cell} → c < cols → Search cols (suc c) i vs later → InColumn c i vs later f → Search cols c i vs f
 in_columns {c} {vs} l s (first_in row pre p post e r o) = found row c pre p post e r (omega arith) l o (all_of (λ v k h u. absurd (omega arith)) vs)
 in_columns {cols} {c} {vs} l (nowhere b) (none_in z) = nowhere (all_zip (λ v x y. blank_join c (suc c) cols v (blank_one c v x) y) vs z b)
 in_columns {c} {vs} l (found row j pre p post e r h u o b) (none_in z) =
@@ -142,7 +142,7 @@ pub data Run (cols : ℕ) : ℕ → List ℕ → List ℕ → Reduction → Type
       → All (Blank c j) (pre ++ p ∷ post) → Run cols (suc j) (map (clear j p) done ++ p ∷ []) (map (clear j p) (others pre post)) f
       → Run cols c done (pre ++ p ∷ post) (with_pivot j f)
 
-run_next : {s : Found} (cols n r c : ℕ) (done rest : List ℕ) → length done ≡ r → length rest ≡ suc n
+run_next : {s : Option Cell} (cols n r c : ℕ) (done rest : List ℕ) → length done ≡ r → length rest ≡ suc n
     → ((c' : ℕ) (done' rest' : List ℕ) → c' ≤ cols → length done' ≡ suc r → length rest' ≡ n
     → Run cols c' done' rest' (echelonize_from cols n (suc r) c' (done' ++ rest')))
     → Search cols c r rest s

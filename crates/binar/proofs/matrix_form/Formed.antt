@@ -11,10 +11,10 @@ use lib.Dec.{leb}
 use lib.ListN.{length, drop}
 use lib.Pow.{pow_pos, pow-add, pow-lt}
 use lib.Seq.{drop-drop}
-use Rattle.binar.specs.declared.matrix_form.Formation.TheVariants.{Rank, Misfit}
+use Rattle.std.proofs.Common.{Some, None, ◌&&◌}
 use Rattle.binar.specs.Words.{matrix, image}
 use Rattle.binar.specs.Echelon.{echelonize, beside_identity}
-use Rattle.binar.specs.Layout.{form_stride, both, fits, formed, FormIs}
+use Rattle.binar.specs.Layout.{form_stride, fits, formed, FormIs}
 use Rattle.binar.specs.Laid.{laid_out}
 use Rattle.binar.proofs.echelon.Matrix.{Below, length_matrix, matrix_image, drop_image}
 use Rattle.binar.proofs.Lists.{all_get_d, all_by}
@@ -24,14 +24,14 @@ use Rattle.binar.proofs.echelon.Transform.{beside_length}
 
 -- ---- the shape
 
-both_true : (a b : Bool) → both a b ≡ true → (a ≡ true) × (b ≡ true)
-both_true true b e = (refl, e)
-both_true false b e = let z : ◌≡◌ {A = ℕ} 0 1 = cc in absurd (omega arith)
+and_true_lem : (a b : Bool) → (a && b) ≡ true → (a ≡ true) × (b ≡ true)
+and_true_lem true b e = (refl, e)
+and_true_lem false b e = let z : ◌≡◌ {A = ℕ} 0 1 = cc in absurd (omega arith)
 
 pub fits_true : (width n cols m : ℕ) → fits width n cols m ≡ true → (cols ≤ 64 * width) × (n * form_stride width n + n ≤ m)
 unfolding fits
 fits_true width n cols m e =
-    let h = both_true (leb cols (64 * width)) (leb (n * form_stride width n + n) m) e in
+    let h = and_true_lem (leb cols (64 * width)) (leb (n * form_stride width n + n) m) e in
     (leb-true cols (64 * width) h.0, leb-true (n * form_stride width n + n) m h.1)
 
 -- a row's words are not too many to count
@@ -95,12 +95,12 @@ module _ (l : List ℕ) (width n cols : ℕ) (fit : fits width n cols (length l)
         ap (λ (A : List ℕ). laid_out s (echelonize cols A) w) rows
         ∙ ap (λ (t : List ℕ). image s f.rows (f.pivots ++ t)) (ap (λ (k : ℕ). drop (k * s + length f.pivots) w) size ∙ behind (length f.pivots) ∙ ap (λ (k : ℕ). drop (k * s + length f.pivots) l) (sym size))
 
-    pub form_is : r ≡ length (echelonize cols (matrix s n w)).pivots → x ≡ laid_out s (echelonize cols (matrix s n w)) w → FormIs l width n cols (Rank r) x
+    pub form_is : r ≡ length (echelonize cols (matrix s n w)).pivots → x ≡ laid_out s (echelonize cols (matrix s n w)) w → FormIs l width n cols (Some r) x
     unfolding formed
     form_is k h = record {
-      told = rw fit (ap Rank (k ∙ ap (λ (A : List ℕ). length (echelonize cols A).pivots) rows));
+      told = rw fit (ap Some (k ∙ ap (λ (A : List ℕ). length (echelonize cols A).pivots) rows));
       left = rw fit (h ∙ left_is);
     }
 
-pub form_not : (l : List ℕ) (width n cols : ℕ) → fits width n cols (length l) ≡ false → FormIs l width n cols Misfit l
+pub form_not : (l : List ℕ) (width n cols : ℕ) → fits width n cols (length l) ≡ false → FormIs l width n cols None l
 form_not l width n cols e = record { told = rw e; left = rw e }

@@ -1,5 +1,6 @@
 -- The reduction and the sweep commute with additive maps that keep the first columns; so the echelon form and its solutions
 -- come from rows that hold the identity past any column w ≥ c, too.
+use Rattle.std.proofs.Common.{Option, Some}
 use mathlib.Core.Path.{◌≡◌, refl, sym, ap, ap₂, ◌∙◌}
 use mathlib.Core.Bool.{Bool, true, false}
 use mathlib.Core.List.{List, [], ◌∷◌, map, map-map}
@@ -9,11 +10,10 @@ use native.Mathlib.Omega.{arith}
 use lib.Dec.{eqb}
 use lib.ListN.{length, get_or, set, drop, length-map, get_or-map}
 use lib.Pow.{pow_pos, mod-mod-pow}
+use Rattle.binar.specs.declared.echelon.Cell.{Cell}
 use Rattle.binar.specs.Row.{◌⊕◌, bit, if_bit}
 use Rattle.binar.specs.Echelon.{in_column, by_columns, pivot_of, swap_rows, clear, unless, add_to_others, place_pivot, Reduction, with_pivot, on_found, echelonize_from, echelonize, beside_identity, echelon}
 use Rattle.binar.specs.Solve.{sweep}
-use Rattle.binar.specs.declared.echelon.Found.{Found}
-use Rattle.binar.specs.declared.echelon.Found.TheVariants.{At}
 use Rattle.binar.proofs.row.Bits.{bit_mod, bit_beside, beside_mod, beside_shr, xor_mod, xor_shr, xor_beside}
 use Rattle.binar.proofs.Lists.{All, all_of, map_same, map_drop, map_set}
 use Rattle.binar.proofs.echelon.Span.{if_bit_map, Additive, additive_zero}
@@ -32,11 +32,11 @@ map_rows f e = record { rows = map f e.rows; pivots = e.pivots }
 module _ (cols : ℕ) (f : ℕ → ℕ) (additive : (a b : ℕ) → f (a ⊕ b) ≡ f a ⊕ f b) (origin : f 0 ≡ 0)
     (same : (v k : ℕ) → k < cols → bit (f v) k ≡ bit v k) where
   -- ---- the search
-  column_map : (c i : ℕ) (vs : List ℕ) (later : Found) → c < cols → in_column c i (map f vs) later ≡ in_column c i vs later
+  column_map : (c i : ℕ) (vs : List ℕ) (later : Option Cell) → c < cols → in_column c i (map f vs) later ≡ in_column c i vs later
   unfolding in_column
   column_map c i [] later h = refl
   column_map c i (v ∷ vs) later h =
-      ap₂ (λ (d : ℕ) (e : Found). if_bit d (At (record { row = i; col = c })) e) (same v c h) (column_map c (suc i) vs later h)
+      ap₂ (λ (d : ℕ) (e : Option Cell). if_bit d (Some (record { row = i; col = c })) e) (same v c h) (column_map c (suc i) vs later h)
 
   columns_map : (n c i : ℕ) (vs : List ℕ) → n ≤ cols - c → by_columns n c i (map f vs) ≡ by_columns n c i vs
   unfolding by_columns
@@ -71,7 +71,7 @@ module _ (cols : ℕ) (f : ℕ → ℕ) (additive : (a b : ℕ) → f (a ⊕ b) 
   place_map r i c M h = rw (get_map i M, swap_map i r M) (add_map c (get_or M i 0) r 0 (swap_rows i r M) h)
 
   -- ---- the reduction
-  next_map : {s : Found} (n r c : ℕ) (M : List ℕ)
+  next_map : {s : Option Cell} (n r c : ℕ) (M : List ℕ)
       → ((c' : ℕ) (N : List ℕ) → c' ≤ cols → echelonize_from cols n (suc r) c' (map f N) ≡ map_rows f (echelonize_from cols n (suc r) c' N)) → Search cols c r (drop r M) s
       → on_found s (record { rows = map f M; pivots = [] }) (λ i j. with_pivot j (echelonize_from cols n (suc r) (suc j) (place_pivot r i j (map f M))))
       ≡ map_rows f (on_found s (record { rows = M; pivots = [] }) (λ i j. with_pivot j (echelonize_from cols n (suc r) (suc j) (place_pivot r i j M))))

@@ -7,8 +7,7 @@ use native.Mathlib.Nat.{div-eq_of_lt}
 use native.Mathlib.Omega.{arith}
 use lib.ListN.{length, take, drop, length-drop}
 use lib.Seq.{take_at, length-take-le, get_or-take, get_or-drop}
-use Rattle.binar.specs.declared.matrix_form.Formation.{Formation}
-use Rattle.binar.specs.declared.matrix_form.Formation.TheVariants.{Rank}
+use Rattle.std.proofs.Common.{Option, Some}
 use Rattle.binar.specs.Words.{row_at, matrix, image}
 use Rattle.binar.specs.Echelon.{Reduction, EchelonForm, echelon, rank}
 use Rattle.binar.specs.Solve.{sweep, solved, transpose_solve}
@@ -65,10 +64,10 @@ module _ (l : List ℕ) (width n cols : ℕ) (fit : fits width n cols (length l)
   unfolding rank
   rank_back = ap length law.0
 
-pub form_law : (l : List ℕ) (width n cols : ℕ) (answer : Formation) (exit : List ℕ) → FormIs l width n cols answer exit → FormLaw l width n cols answer exit
+pub form_law : (l : List ℕ) (width n cols : ℕ) (answer : Option ℕ) (exit : List ℕ) → FormIs l width n cols answer exit → FormLaw l width n cols answer exit
 form_law l width n cols answer exit c = record {
   fitting = λ fit. (
-    rw fit at c.told ∙ ap Rank (rank_back l width n cols fit),
+    rw fit at c.told ∙ ap Some (rank_back l width n cols fit),
     ap (form_in (form_stride width n) n width cols (rank (echelon cols (matrix (form_stride width n) n l)))) (rw fit at c.left) ∙ form_back l width n cols fit,
   );
   other = λ fit. (rw fit at c.told, rw fit at c.left);

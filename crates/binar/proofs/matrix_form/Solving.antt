@@ -10,15 +10,13 @@ use lib.Dec.{eqb, eqb-suc-zero}
 use lib.ListN.{length, get_or, take, drop}
 use lib.Pow.{pow_mono}
 use lib.Seq.{get_or-take, get_or-drop}
-use Rattle.binar.specs.declared.matrix_form.Formation.TheVariants.{Rank}
-use Rattle.binar.specs.declared.matrix_form.Solution.{Solution}
-use Rattle.binar.specs.declared.matrix_form.Solution.TheVariants.{Set, NoSet}
+use Rattle.std.proofs.Common.{Some}
 use Rattle.binar.specs.Row.{columns, row_sum}
 use Rattle.binar.specs.Words.{row_at, matrix}
 use Rattle.binar.specs.Echelon.{EchelonForm, echelon, rank}
 use Rattle.binar.specs.Solve.{solved, transpose_solve}
 use Rattle.binar.specs.Space.{RowSpace}
-use Rattle.binar.specs.Layout.{form_stride, fits, FormIs, form_in, FormLeft, swept, solution, SolutionIs}
+use Rattle.binar.specs.Layout.{form_stride, fits, FormIs, form_in, FormLeft, swept, SolutionIs}
 use Rattle.binar.specs.Theorems.{Targeted, CallsLaw}
 use Rattle.binar.proofs.Lists.{all_by}
 use Rattle.binar.proofs.echelon.Bounds.{rank_rows, sweep_lt}
@@ -33,27 +31,27 @@ use Rattle.binar.proofs.matrix_form.Sweep.{row_put}
 
 -- ---- what the answer says of a target and a set
 
-pub solved_set : (rest set : ℕ) → Set ≡ solution (eqb rest 0) → some set ≡ solved rest set
+pub solved_set : (rest set : ℕ) → true ≡ eqb rest 0 → some set ≡ solved rest set
 unfolding solved
 solved_set zero set e = refl
 solved_set (suc rest) set e =
-    let same : Set ≡ NoSet = e ∙ ap solution (eqb-suc-zero rest) in
+    let same : true ≡ false = e ∙ eqb-suc-zero rest in
     let z : ◌≡◌ {A = ℕ} 0 1 = cc in
     absurd (omega arith)
 
-pub solved_none : (rest set : ℕ) → NoSet ≡ solution (eqb rest 0) → none ≡ solved rest set
+pub solved_none : (rest set : ℕ) → false ≡ eqb rest 0 → none ≡ solved rest set
 unfolding solved
 solved_none zero set e = let z : ◌≡◌ {A = ℕ} 0 1 = cc in absurd (omega arith)
 solved_none (suc rest) set e = refl
 
-told_none : (rest set : ℕ) → solved rest set ≡ none → solution (eqb rest 0) ≡ NoSet
+told_none : (rest set : ℕ) → solved rest set ≡ none → eqb rest 0 ≡ false
 unfolding solved
 told_none zero set e = let z : ◌≡◌ {A = ℕ} 0 1 = cc in absurd (omega arith)
-told_none (suc rest) set e = ap solution (eqb-suc-zero rest)
+told_none (suc rest) set e = eqb-suc-zero rest
 
 -- ---- after `echelon_form` has told a rank
 
-module _ (l x : List ℕ) (width n cols r : ℕ) (F : FormIs l width n cols (Rank r) x) where
+module _ (l x : List ℕ) (width n cols r : ℕ) (F : FormIs l width n cols (Some r) x) where
   abbrev s : ℕ
   s = form_stride width n
 
@@ -68,16 +66,16 @@ module _ (l x : List ℕ) (width n cols r : ℕ) (F : FormIs l width n cols (Ran
     where
       go : (b : Bool) → fits width n cols (length l) ≡ b → fits width n cols (length l) ≡ true
       go true e = e
-      go false e = let t = ((form_law l width n cols (Rank r) x F).other e).0 in let z : ◌≡◌ {A = ℕ} 0 1 = cc in absurd (omega arith)
+      go false e = let t = ((form_law l width n cols (Some r) x F).other e).0 in let z : ◌≡◌ {A = ℕ} 0 1 = cc in absurd (omega arith)
 
   told_rank_lem : r ≡ rank E
-  told_rank_lem = let t = ((form_law l width n cols (Rank r) x F).fitting told_fits).0 in cc
+  told_rank_lem = let t = ((form_law l width n cols (Some r) x F).fitting told_fits).0 in cc
 
   pub told_rows : r ≤ n
   told_rows = omega (arith, told_rank_lem, rank_rows cols A, length_matrix s n l)
 
   form_here : form_in s n width cols r x ≡ E
-  form_here = ap (λ (k : ℕ). form_in s n width cols k x) told_rank_lem ∙ ((form_law l width n cols (Rank r) x F).fitting told_fits).1
+  form_here = ap (λ (k : ℕ). form_in s n width cols k x) told_rank_lem ∙ ((form_law l width n cols (Some r) x F).fitting told_fits).1
 
   -- it requires no more than a target behind the pivots
   pub form_left : (place : ℕ) → n * s + r ≤ place → place + s ≤ length x → FormLeft x s n cols r place
@@ -126,8 +124,8 @@ module _ (l x : List ℕ) (width n cols r : ℕ) (F : FormIs l width n cols (Ran
         sweep_lt (64 * s) (take r (drop (n * s) w)) (matrix s n w) (row_at w place s)
         (all_by (λ u. u < 2 ^ (64 * s)) (matrix s n w) 0 (λ i h. rw M (rows_below i))) (rw t.target (lt_of_lt_of_le t.narrow (pow_mono k)))
 
-    module _ (answer : Solution) (w' : List ℕ) (S : SolutionIs w s n cols r place answer w') where
-      set_sums : answer ≡ Set
+    module _ (answer : Bool) (w' : List ℕ) (S : SolutionIs w s n cols r place answer w') where
+      set_sums : answer ≡ true
           → let set = row_at w' place s / 2 ^ (64 * width) in (set < 2 ^ n) × (row_sum set (columns cols A) ≡ v % 2 ^ cols)
       set_sums e =
           let set = row_at w' place s / 2 ^ (64 * width) in
@@ -137,11 +135,11 @@ module _ (l x : List ℕ) (width n cols r : ℕ) (F : FormIs l width n cols (Ran
           let sound = solve_sound cols A v set (sym found) in
           (rw (length_matrix s n l) at sound.0, sound.1)
 
-      none_right : answer ≡ NoSet → RowSpace (columns cols A) (v % 2 ^ cols) → ⊥
+      none_right : answer ≡ false → RowSpace (columns cols A) (v % 2 ^ cols) → ⊥
       none_right e =
           solve_none cols A v (sym (solved_none (left % 2 ^ cols) (left / 2 ^ (64 * width)) (sym e ∙ S.told) ∙ answered))
 
-      none_only : (RowSpace (columns cols A) (v % 2 ^ cols) → ⊥) → answer ≡ NoSet
+      none_only : (RowSpace (columns cols A) (v % 2 ^ cols) → ⊥) → answer ≡ false
       none_only h = S.told ∙ told_none (left % 2 ^ cols) (left / 2 ^ (64 * width)) (answered ∙ none_solves cols A v h)
 
 pub calls_law : CallsLaw

@@ -14,7 +14,7 @@ use Rattle.binar.specs.Row.{◌⊕◌, bit}
 use Rattle.binar.specs.Words.{value, words, row_at, put_row, matrix, TwoRows}
 use Rattle.binar.specs.Echelon.{clear}
 use Rattle.binar.specs.Solve.{sweep}
-use Rattle.binar.specs.Layout.{FormLeft, swept, solution, SolutionIs}
+use Rattle.binar.specs.Layout.{FormLeft, swept, SolutionIs}
 use Rattle.binar.proofs.row.Bits.{bit_lt, xor_lt}
 use Rattle.binar.proofs.row.Slice.{AreWords, Outside, length_words, row_kept, put_none, put_first}
 use Rattle.binar.proofs.echelon.Matrix.{value_words, words_words, words_append, words_take, words_drop, row_lt, bit_row, length_matrix, matrix_row, matrix_lt, row_in}
@@ -168,8 +168,8 @@ module _ (l : List ℕ) (s n cols rank place : ℕ) (f : AreWords l) (S : FormLe
   -- the answer and the slice at the end
   pub ends : (w : List ℕ) (b : Bool) → length w ≡ length l → w ≡ put_row l place s (row_at w place s) → swept s n rank place l ≡ row_at w place s
       → eqb (value (drop place w) % 2 ^ cols) 0 ≡ b
-      → SolutionIs l s n cols rank place (solution b) w
+      → SolutionIs l s n cols rank place b w
   ends w b size e d t = record {
-    told = ap solution (sym t ∙ ap (λ (x : ℕ). eqb x 0) (rest_zero w size e ∙ ap (λ (x : ℕ). x % 2 ^ cols) (sym d)));
+    told = sym t ∙ ap (λ (x : ℕ). eqb x 0) (rest_zero w size e ∙ ap (λ (x : ℕ). x % 2 ^ cols) (sym d));
     left = e ∙ ap (put_row l place s) (sym d);
   }

@@ -1,5 +1,5 @@
 -- Laws of what is read off the words of a row: a bit, the test for zero, the weight, the parity of an overlap.
-use mathlib.Core.Path.{◌≡◌, sym, ap, ap₂, ◌∙◌, subst}
+use mathlib.Core.Path.{◌≡◌, refl, sym, ap, ap₂, ◌∙◌, subst}
 use mathlib.Core.Bool.{Bool, true, false}
 use mathlib.Core.List.{List, [], ◌∷◌}
 use Prim.Native.Nat.{ℕ, zero, suc, ◌+◌, ◌-◌, ◌*◌, ◌/◌, ◌%◌, ◌^◌, ◌≤◌, ◌<◌}
@@ -10,8 +10,9 @@ use borrow.Author.Tests.{eq-eqb, ne_eqb}
 use lib.Bits.{bit_and, bit_xor, and_block, and_lt}
 use lib.Count.{ones, ones_cat}
 use lib.Dec.{eqb, eqb-suc-zero}
-use lib.ListN.{length, get_or, drop}
-use lib.Seq.{get_or-drop}
+use lib.ListN.{length, get_or, take, drop, length-drop}
+use lib.Seq.{get_or-drop, get_or-take, length-take-le}
+use Rattle.std.proofs.Common.{◌&&◌, ◌↔◌, IsTrue, EachIndex}
 use lib.Pow.{high, low, shr-shr, mod-pow-add, mod-mod-pow, shl_exact}
 use Rattle.binar.specs.Row.{◌⊕◌, bit, weight, dot}
 use Rattle.binar.specs.Words.{value, row_at}
@@ -126,29 +127,60 @@ pub bit_words : (l : List ℕ) (i c : ℕ) → AreWords l → bit (value (drop i
 bit_words l i c f =
     bit_value (drop i l) c (λ k. subst (λ (n : ℕ). n < 2 ^ 64) (sym (get_or-drop i l k 0)) (f (i + k))) ∙ ap (λ (n : ℕ). bit n (c % 64)) (get_or-drop i l (c / 64) 0)
 
-pub zero_start : (l : List ℕ) (i c : ℕ) → zero_from l i c ≡ zero_from l (i + 0) (c - 64 * 0)
-zero_start l i c = simp (add-zero, sub-zero)
+-- n whole words, and the c columns behind them
+module _ (l : List ℕ) (f : AreWords l) where
+  zero_words : (n i c : ℕ) → i + n ≤ length l → ((k : ℕ) → k < n → get_or l (i + k) 0 ≡ 0) → zero_from l i (c + 64 * n) ≡ zero_from l (i + n) c
+  zero_words zero i c h z = simp (add-zero)
+  zero_words (suc n) i c h z =
+      let e : c + 64 * suc n ≡ c + 64 * n + 64 = omega arith in
+      let p : i + 1 + n ≡ i + suc n = omega arith in
+      rw e (zero_miss l i (omega arith) (f i) (c + 64 * n) (ap (λ (j : ℕ). get_or l j 0) (sym (add-zero i)) ∙ z 0 (omega arith))
+      ∙ zero_words n (i + 1) c (omega arith) (λ k q. ap (λ (j : ℕ). get_or l j 0) (omega arith) ∙ z (suc k) (omega arith))
+      ∙ ap (λ (j : ℕ). zero_from l j c) p)
 
-module _ (l : List ℕ) (i c k : ℕ) (h : k < c / 64) (b : i + k < length l) (f : get_or l (i + k) 0 < 2 ^ 64) where
-  here : c - 64 * k ≡ (c - 64 * (k + 1)) + 64
-  here = omega arith
+  words_zero : (n i c : ℕ) → i + n ≤ length l → zero_from l i (c + 64 * n) ≡ true → (k : ℕ) → k < n → get_or l (i + k) 0 ≡ 0
+  words_zero zero i c h t = λ k q. absurd (omega arith)
+  words_zero (suc n) i c h t =
+      let e : c + 64 * suc n ≡ c + 64 * n + 64 = omega arith in
+      let t' : zero_from l i (c + 64 * n + 64) ≡ true = rw e at t in
+      go (λ d. words_zero n (i + 1) c (omega arith) (sym (zero_miss l i (omega arith) (f i) (c + 64 * n) d) ∙ t')) (get_or l i 0) refl t'
+    where
+      go : (get_or l i 0 ≡ 0 → (k : ℕ) → k < n → get_or l (i + 1 + k) 0 ≡ 0) → (w : ℕ) → get_or l i 0 ≡ w → zero_from l i (c + 64 * n + 64) ≡ true
+          → (k : ℕ) → k < suc n → get_or l (i + k) 0 ≡ 0
+      go rest (suc w) d t' k q =
+          let miss : zero_from l i (c + 64 * n + 64) ≡ false = zero_hit l i (omega arith) (f i) (c + 64 * n) (λ z. omega arith) in
+          let z : ◌≡◌ {A = ℕ} 0 1 = cc in
+          absurd (omega arith)
+      go rest zero d t' zero q = ap (λ (j : ℕ). get_or l j 0) (add-zero i) ∙ d
+      go rest zero d t' (suc k) q = ap (λ (j : ℕ). get_or l j 0) (omega arith) ∙ rest d k (omega arith)
 
-  pub zero_hit_step : (get_or l (i + k) 0 ≡ 0 → ⊥) → zero_from l (i + k) (c - 64 * k) ≡ false
-  zero_hit_step n = rw here (zero_hit l (i + k) b f (c - 64 * (k + 1)) n)
-
-  pub zero_miss_step : get_or l (i + k) 0 ≡ 0 → zero_from l (i + k) (c - 64 * k) ≡ zero_from l (i + (k + 1)) (c - 64 * (k + 1))
-  zero_miss_step e = rw here (zero_miss l (i + k) b f (c - 64 * (k + 1)) e ∙ ap (λ (p : ℕ). zero_from l p (c - 64 * (k + 1))) (add_assoc i k 1))
-
-pub zero_none_step : (l : List ℕ) (i c k : ℕ) → c ≤ 64 * k → zero_from l (i + k) (c - 64 * k) ≡ true
-zero_none_step l i c k h = let e : c - 64 * k ≡ 0 = omega arith in rw e (zero_none l (i + k))
+  -- b tells whether the whole words are zero
+  pub zero_split : (i c : ℕ) (b : Bool) → i + c / 64 ≤ length l
+      → (IsTrue b ↔ EachIndex (take (i + c / 64 - i) (drop i l)) (λ k. get_or (take (i + c / 64 - i) (drop i l)) k 0 ≡ 0))
+      → zero_from l i c ≡ (b && zero_from l (i + c / 64) (c % 64))
+  zero_split i c b h t =
+      let n = c / 64 in
+      let m : i + n - i ≡ n = omega arith in
+      let cols : c ≡ c % 64 + 64 * n = omega arith in
+      let count : length (take (i + n - i) (drop i l)) ≡ n = rw m (length-take-le n (drop i l) (rw length-drop (omega arith))) in
+      let word : (k : ℕ) → k < n → get_or (take (i + n - i) (drop i l)) k 0 ≡ get_or l (i + k) 0 =
+      λ k q. get_or-take (i + n - i) (drop i l) k 0 (omega arith) ∙ get_or-drop i l k 0 in
+      go b refl (zero_from l i (c % 64 + 64 * n)) refl cols (λ e k q. sym (word k q) ∙ t.0 e k (omega arith))
+      (λ z. t.1 (λ k q. word k (omega arith) ∙ z k (omega arith)))
+    where
+      go : (d : Bool) → b ≡ d → (a : Bool) → zero_from l i (c % 64 + 64 * (c / 64)) ≡ a → c ≡ c % 64 + 64 * (c / 64)
+          → (b ≡ true → (k : ℕ) → k < c / 64 → get_or l (i + k) 0 ≡ 0) → (((k : ℕ) → k < c / 64 → get_or l (i + k) 0 ≡ 0) → b ≡ true)
+          → zero_from l i c ≡ (b && zero_from l (i + c / 64) (c % 64))
+      go true d a e cols there back = rw d (ap (zero_from l i) cols ∙ zero_words (c / 64) i (c % 64) h (there d))
+      go false d false e cols there back = rw d (ap (zero_from l i) cols ∙ e)
+      go false d true e cols there back =
+          let zeros = back (words_zero (c / 64) i (c % 64) h e) in
+          let z : ◌≡◌ {A = ℕ} 0 1 = cc in
+          absurd (omega arith)
 
 -- the code's mask for the columns below k
 pub one_shifted : (k : ℕ) → k < 64 → 1 * 2 ^ k % 2 ^ 64 ≡ 2 ^ k
 one_shifted k h = shl_exact {a = 1} 1 k 64 (omega arith) (omega arith) ∙ omega arith
-
-pub zero_last_step : (l : List ℕ) (i c k : ℕ) → c - 64 * k ≡ c % 64 → i + k < length l → get_or l (i + k) 0 < 2 ^ 64
-    → zero_from l (i + k) (c - 64 * k) ≡ eqb (get_or l (i + k) 0 % 2 ^ (c % 64)) 0
-zero_last_step l i c k e b f = rw e (zero_last l (i + k) b f (c % 64) (omega arith))
 
 pub weight_start : (l : List ℕ) (i n : ℕ) → weight (row_at l i n) ≡ 0 + weight (row_at l (i + 0) (n - 0))
 weight_start l i n = simp (add-zero, sub-zero, zero-add)

@@ -3,14 +3,15 @@ use mathlib.Core.Path.{◌≡◌, refl, sym, ap, ap₂, ◌∙◌, subst}
 use mathlib.Core.Logic.{◌⊎◌, inl, inr, ⊎_elim}
 use mathlib.Core.List.{List, [], ◌∷◌, ◌++◌, append_assoc}
 use Prim.Native.Nat.{ℕ, zero, suc, ◌+◌, ◌-◌, ◌*◌, ◌/◌, ◌%◌, ◌^◌, ◌≤◌, ◌<◌}
-use native.Mathlib.Nat.{add-zero, zero-add, add_assoc, sub-zero, mul-add, mul_assoc, one-mul, mul-le-mul_right}
+use native.Mathlib.Nat.{add-zero, add_assoc, sub-zero, mul-add, mul_assoc, one-mul, mul-le-mul_right}
 use native.Mathlib.Numerals.{add-one}
 use native.Mathlib.Omega.{arith}
 use native.Mathlib.Decide.{dec_lt}
 use lib.Bits.{bit_xor, xor_block, xor_lt}
-use lib.ListN.{length, get_or, set, take, drop, take-append-drop, length-set}
+use lib.ListN.{length, replicate, get_or, set, take, drop, take-append-drop, length-set}
 use lib.Pow.{high, low}
-use lib.Seq.{drop-cons, take-suc-set, take-set-le, drop-set-lt, drop-set-add, get_or-set_same, get_or-set_other, set_comm}
+use borrow.Rule.Slice.PartMut.{put_mid}
+use lib.Seq.{drop-cons, drop-drop, take-suc-set, take-set-le, drop-set-lt, drop-set-add, get_or-set_same, get_or-set_other, set_comm}
 use Rattle.binar.specs.Row.{◌⊕◌}
 use Rattle.binar.specs.Words.{value, words, row_at, put_row, TwoRows}
 
@@ -53,6 +54,18 @@ row_kept l i j n x =
 pub put_none : (l : List ℕ) (i v : ℕ) → put_row l i 0 v ≡ l
 unfolding put_row words
 put_none l i v = rw (add-zero i) (take-append-drop i l)
+
+-- the row's words are written as a part of the slice
+pub put_part : (l ws : List ℕ) (i n v : ℕ) → ws ≡ words n v → put_mid i (i + n - i) l ws ≡ put_row l i n v
+unfolding put_row
+put_part l ws i n v e =
+    let k : i + n - i ≡ n = omega arith in
+    ap₂ (λ (s : List ℕ) (t : List ℕ). take i l ++ (s ++ t)) e (ap (λ (m : ℕ). drop m (drop i l)) k ∙ drop-drop n i l)
+
+pub zero_words : (n : ℕ) → replicate n 0 ≡ words n 0
+unfolding words
+zero_words zero = refl
+zero_words (suc n) = ap (0 ∷◌) (zero_words n)
 
 pub put_first : (l : List ℕ) (i n v : ℕ) → i < length l → put_row l i (suc n) v ≡ put_row (set l i (v % 2 ^ 64)) (i + 1) n (v / 2 ^ 64)
 unfolding put_row words
@@ -113,42 +126,55 @@ rest_kept : (l : List ℕ) (i n x : ℕ) → row_at (set l i x) (i + 1) n ≡ ro
 unfolding Outside
 rest_kept l i n x = row_kept l i (i + 1) n x (inl (omega arith))
 
--- the rows of n words at i and j, after the second is added b times to the first, the first is set to the second, or both are
--- exchanged
+-- the rows of n words at i and j, after the second is added b times to the first, or both are exchanged
 unfoldable pub added : ℕ → List ℕ → ℕ → ℕ → ℕ → List ℕ
 added b l i j n = put_row l i n (row_at l i n ⊕ b * row_at l j n)
-
-unfoldable pub copied : List ℕ → ℕ → ℕ → ℕ → List ℕ
-copied l i j n = put_row l i n (row_at l j n)
 
 unfoldable pub exchanged : List ℕ → ℕ → ℕ → ℕ → List ℕ
 exchanged l i j n = put_row (put_row l i n (row_at l j n)) j n (row_at l i n)
 
+-- the sum of two words, and the sum of two rows by their first words and the others
+module _ (b : ℕ) (hb : b ≤ 1) (l : List ℕ) (f : AreWords l) (i j : ℕ) where
+  word_times : b * get_or l j 0 < 2 ^ 64
+  word_times = omega (arith, mul-le-mul_right (get_or l j 0) hb, one-mul (get_or l j 0), f j)
+
+  word_sum : bit_xor (get_or l i 0) (b * get_or l j 0) < 2 ^ 64
+  word_sum = xor_lt 64 (get_or l i 0) (b * get_or l j 0) (f i) word_times
+
+  sum_next : (n : ℕ) → i < length l → j < length l
+      → row_at l i (suc n) ⊕ b * row_at l j (suc n) ≡ (row_at l (i + 1) n ⊕ b * row_at l (j + 1) n) * 2 ^ 64 + bit_xor (get_or l i 0) (b * get_or l j 0)
+  unfolding ◌⊕◌
+  sum_next n hi hj =
+      ap₂ (λ (v : ℕ) (w : ℕ). bit_xor v (b * w)) (row_next l i n hi) (row_next l j n hj)
+      ∙ ap (bit_xor (row_at l (i + 1) n * 2 ^ 64 + get_or l i 0))
+      (mul-add b (row_at l (j + 1) n * 2 ^ 64) (get_or l j 0) ∙ ap (◌+ b * get_or l j 0) (sym (mul_assoc b (row_at l (j + 1) n) (2 ^ 64))))
+      ∙ xor_block 64 (row_at l (i + 1) n) (b * row_at l (j + 1) n) (get_or l i 0) (b * get_or l j 0) (f i) word_times
+
+-- the sums of two rows' words are the words of the rows' sum
+pub sum_words : (b : ℕ) → b ≤ 1 → (l : List ℕ) → AreWords l → (ws : List ℕ) (i j : ℕ) → i + length ws ≤ length l → j + length ws ≤ length l
+    → ((k : ℕ) → k < length ws → get_or ws k 0 ≡ bit_xor (get_or l (i + k) 0) (b * get_or l (j + k) 0))
+    → ws ≡ words (length ws) (row_at l i (length ws) ⊕ b * row_at l j (length ws))
+unfolding words
+sum_words b hb l f [] i j hi hj h = refl
+sum_words b hb l f (w ∷ ws) i j hi hj h =
+    let n = length ws in
+    let v = row_at l (i + 1) n ⊕ b * row_at l (j + 1) n in
+    let x = bit_xor (get_or l i 0) (b * get_or l j 0) in
+    let lt : x < 2 ^ 64 = word_sum b hb l f i j in
+    let e = sum_next b hb l f i j n (omega arith) (omega arith) in
+    let first : w ≡ x = h 0 (omega arith) ∙ simp add-zero in
+    let others : ws ≡ words n v = sum_words b hb l f ws (i + 1) (j + 1) (omega arith) (omega arith)
+    (λ k q. h (suc k) (omega arith) ∙ ap₂ (λ (p : ℕ) (r : ℕ). bit_xor (get_or l p 0) (b * get_or l r 0)) (omega arith) (omega arith)) in
+    rw e (ap₂ ◌∷◌ (first ∙ sym (low v 64 lt)) (others ∙ ap (words n) (sym (high v 64 lt))))
+
 module _ (l : List ℕ) (i j n : ℕ) (f : AreWords l) (t : TwoRows l i j (suc n)) where
-  module _ (b : ℕ) (hb : b ≤ 1) where
-    word_times : b * get_or l j 0 < 2 ^ 64
-    word_times = omega (arith, mul-le-mul_right (get_or l j 0) hb, one-mul (get_or l j 0), f j)
-
-    word_sum : bit_xor (get_or l i 0) (b * get_or l j 0) < 2 ^ 64
-    word_sum = xor_lt 64 (get_or l i 0) (b * get_or l j 0) (f i) word_times
-
-    added_next : added b l i j (suc n) ≡ added b (set l i (bit_xor (get_or l i 0) (b * get_or l j 0))) (i + 1) (j + 1) n
-    unfolding added ◌⊕◌
-    added_next =
-        let x = bit_xor (get_or l i 0) (b * get_or l j 0) in
-        ap₂ (λ (v : ℕ) (w : ℕ). put_row l i (suc n) (bit_xor v (b * w))) (row_next l i n (omega (arith, t.first))) (row_next l j n (omega (arith, t.second)))
-        ∙ ap (λ (w : ℕ). put_row l i (suc n) (bit_xor (row_at l (i + 1) n * 2 ^ 64 + get_or l i 0) w)) (mul-add b (row_at l (j + 1) n * 2 ^ 64) (get_or l j 0) ∙ ap (◌+ b * get_or l j 0) (sym (mul_assoc b (row_at l (j + 1) n) (2 ^ 64))))
-        ∙ ap (put_row l i (suc n)) (xor_block 64 (row_at l (i + 1) n) (b * row_at l (j + 1) n) (get_or l i 0) (b * get_or l j 0) (f i) word_times)
-        ∙ put_next l i n (bit_xor (row_at l (i + 1) n) (b * row_at l (j + 1) n)) x (omega (arith, t.first)) word_sum
-        ∙ sym (ap₂ (λ (v : ℕ) (w : ℕ). put_row (set l i x) (i + 1) n (bit_xor v (b * w))) (rest_kept l i n x) (two_kept l i j n x t))
-
-  copied_next : copied l i j (suc n) ≡ copied (set l i (get_or l j 0)) (i + 1) (j + 1) n
-  unfolding copied
-  copied_next =
-      let x = get_or l j 0 in
-      ap (put_row l i (suc n)) (row_next l j n (omega (arith, t.second)))
-      ∙ put_next l i n (row_at l (j + 1) n) x (omega (arith, t.first)) (f j)
-      ∙ sym (ap (put_row (set l i x) (i + 1) n) (two_kept l i j n x t))
+  added_next : (b : ℕ) → b ≤ 1 → added b l i j (suc n) ≡ added b (set l i (bit_xor (get_or l i 0) (b * get_or l j 0))) (i + 1) (j + 1) n
+  unfolding added ◌⊕◌
+  added_next b hb =
+      let x = bit_xor (get_or l i 0) (b * get_or l j 0) in
+      ap (put_row l i (suc n)) (sum_next b hb l f i j n (omega (arith, t.first)) (omega (arith, t.second)))
+      ∙ put_next l i n (bit_xor (row_at l (i + 1) n) (b * row_at l (j + 1) n)) x (omega (arith, t.first)) (word_sum b hb l f i j)
+      ∙ sym (ap₂ (λ (v : ℕ) (w : ℕ). put_row (set l i x) (i + 1) n (bit_xor v (b * w))) (rest_kept l i n x) (two_kept l i j n x t))
 
   exchanged_next : exchanged l i j (suc n)
       ≡ exchanged (set (set l i (get_or l j 0)) j (get_or l i 0)) (i + 1) (j + 1) n
@@ -195,76 +221,9 @@ module _ (l : List ℕ) (i j n k : ℕ) (h : k < n) (t : TwoRows l (i + k) (j + 
     pub added_step : (b : ℕ) → b ≤ 1 → added b l (i + k) (j + k) (n - k) ≡ added b (set l (i + k) (bit_xor (get_or l (i + k) 0) (b * get_or l (j + k) 0))) (i + (k + 1)) (j + (k + 1)) (n - (k + 1))
     added_step b hb = by_step (added b) _ (added_next l (i + k) (j + k) (n - (k + 1)) f two_here b hb)
 
-    pub copied_step : copied l (i + k) (j + k) (n - k) ≡ copied (set l (i + k) (get_or l (j + k) 0)) (i + (k + 1)) (j + (k + 1)) (n - (k + 1))
-    copied_step = by_step copied _ (copied_next l (i + k) (j + k) (n - (k + 1)) f two_here)
-
     pub exchanged_step : exchanged l (i + k) (j + k) (n - k)
         ≡ exchanged (set (set l (i + k) (get_or l (j + k) 0)) (j + k) (get_or l (i + k) 0)) (i + (k + 1)) (j + (k + 1)) (n - (k + 1))
     exchanged_step = by_step exchanged _ (exchanged_next l (i + k) (j + k) (n - (k + 1)) f two_here)
-
-nothing_added : (b : ℕ) (l : List ℕ) (i j : ℕ) → added b l i j 0 ≡ l
-unfolding added
-nothing_added b l i j = put_none l i _
-
--- two words of each row: both sums are made before the first is stored
-pub added_pair : (b : ℕ) → b ≤ 1 → (l : List ℕ) (i j x y : ℕ) → AreWords l → TwoRows l i j 2
-    → x ≡ bit_xor (get_or l i 0) (b * get_or l j 0) → y ≡ bit_xor (get_or l (i + 1) 0) (b * get_or l (j + 1) 0) → set (set l i x) (i + 1) y ≡ added b l i j 2
-added_pair b hb l i j x y f t p q =
-    let m = set l i x in
-    let g : AreWords m = words_set l i x (omega (arith, t.first)) (rw p (word_sum l i j 1 f t b hb)) f in
-    let own : get_or m (i + 1) 0 ≡ get_or l (i + 1) 0 = get_or-set_other l i (i + 1) x 0 (λ e. omega arith) in
-    let other : get_or m (j + 1) 0 ≡ get_or l (j + 1) 0 = get_or-set_other l i (j + 1) x 0 (λ e. ⊎_elim (λ a. omega arith) (⊎_elim (λ a. omega arith) (λ a. omega arith)) t.apart) in
-    sym
-    (added_next l i j 1 f t b hb
-    ∙ ap (λ (v : ℕ). added b (set l i v) (i + 1) (j + 1) 1) (sym p)
-    ∙ added_next m (i + 1) (j + 1) 0 g (two_next l i j 1 x t) b hb
-    ∙ ap (λ (v : ℕ). added b (set m (i + 1) v) (i + 1 + 1) (j + 1 + 1) 0) (ap₂ (λ (v : ℕ) (w : ℕ). bit_xor v (b * w)) own other ∙ sym q)
-    ∙ nothing_added b (set m (i + 1) y) (i + 1 + 1) (j + 1 + 1))
-
--- ---- a part of two rows, and the rest
-
-pub two_part : (l m : List ℕ) (i j n k p : ℕ) → length m ≡ length l → TwoRows l i j n → k + p ≤ n → TwoRows m (i + k) (j + k) p
-two_part l m i j n k p e t h = record {
-  first = rw e (omega (arith, t.first));
-  second = rw e (omega (arith, t.second));
-  apart = ⊎_elim (λ a. inl (omega arith)) (⊎_elim (λ a. inr (inl (omega arith))) (λ a. inr (inr (omega arith)))) t.apart;
-}
-
--- the first m of n words are added, then the others
-pub added_split : (b : ℕ) → b ≤ 1 → (l : List ℕ) (i j m n : ℕ) → AreWords l → TwoRows l i j (m + n) → added b l i j (m + n) ≡ added b (added b l i j m) (i + m) (j + m) n
-added_split b hb l i j zero n f t = sym (ap (λ (k : List ℕ). added b k (i + 0) (j + 0) n) (nothing_added b l i j) ∙ simp (add-zero, zero-add))
-added_split b hb l i j (suc m) n f t =
-    let e : suc m + n ≡ suc (m + n) = omega arith in
-    let s : TwoRows l i j (suc (m + n)) = rw e at t in
-    let u : TwoRows l i j (suc m) = record { first = omega (arith, t.first); second = omega (arith, t.second); apart = ⊎_elim inl (⊎_elim (λ a. inr (inl (omega arith))) (λ a. inr (inr (omega arith)))) t.apart } in
-    let x = bit_xor (get_or l i 0) (b * get_or l j 0) in
-    let p : i + 1 + m ≡ i + suc m = omega arith in
-    let q : j + 1 + m ≡ j + suc m = omega arith in
-    ap (added b l i j) e
-    ∙ added_next l i j (m + n) f s b hb
-    ∙ added_split b hb (set l i x) (i + 1) (j + 1) m n (words_set l i x (omega (arith, t.first)) (word_sum l i j (m + n) f s b hb) f) (two_next l i j (m + n) x s)
-    ∙ ap₂ (λ (c : ℕ) (d : ℕ). added b (added b (set l i x) (i + 1) (j + 1) m) c d n) p q
-    ∙ ap (λ (k : List ℕ). added b k (i + suc m) (j + suc m) n) (sym (added_next l i j m f u b hb))
-
-pub two_first : (l : List ℕ) (i j n p : ℕ) → TwoRows l i j n → p ≤ n → TwoRows l i j p
-two_first l i j n p t h = simp add-zero at (two_part l l i j n 0 p refl t (omega arith))
-
--- two words, two more, and the p words behind them
-pub added_parts : (b : ℕ) → b ≤ 1 → (l₀ l₁ l₂ l₃ : List ℕ) (i j n p : ℕ) → n ≡ 4 + p → AreWords l₀ → AreWords l₁ → TwoRows l₀ i j n
-    → l₁ ≡ added b l₀ i j 2 → l₂ ≡ added b l₁ (i + 2) (j + 2) 2 → l₃ ≡ added b l₂ (i + 4) (j + 4) p → l₃ ≡ added b l₀ i j n
-unfolding added
-added_parts b hb l₀ l₁ l₂ l₃ i j n p e f g t first second third =
-    let all : n ≡ 2 + (2 + p) = omega arith in
-    let size : length l₁ ≡ length l₀ = ap length first ∙ length_put l₀ i 2 _ (omega (arith, t.first)) in
-    let four : (k : ℕ) → k + 2 + 2 ≡ k + 4 = λ k. omega arith in
-    third
-    ∙ ap (λ (l : List ℕ). added b l (i + 4) (j + 4) p) second
-    ∙ sym
-    (ap (added b l₀ i j) all
-    ∙ added_split b hb l₀ i j 2 (2 + p) f (two_first l₀ i j n (2 + (2 + p)) t (omega arith))
-    ∙ ap (λ (l : List ℕ). added b l (i + 2) (j + 2) (2 + p)) (sym first)
-    ∙ added_split b hb l₁ (i + 2) (j + 2) 2 p g (two_part l₀ l₁ i j n 2 (2 + p) size t (omega arith))
-    ∙ ap₂ (λ (c : ℕ) (d : ℕ). added b (added b l₁ (i + 2) (j + 2) 2) c d p) (four i) (four j))
 
 pub two_start : (l : List ℕ) (i j n : ℕ) → TwoRows l i j n → TwoRows l (i + 0) (j + 0) (n - 0)
 two_start l i j n t = simp (add-zero, sub-zero) t
@@ -281,22 +240,6 @@ module _ (l : List ℕ) (i j n k : ℕ) (h : n ≤ k) where
   unfolding added
   added_none b = rw none (put_none l (i + k) _)
 
-  pub copied_none : copied l (i + k) (j + k) (n - k) ≡ l
-  unfolding copied
-  copied_none = rw none (put_none l (i + k) _)
-
   pub exchanged_none : exchanged l (i + k) (j + k) (n - k) ≡ l
   unfolding exchanged
   exchanged_none = rw none (put_none _ (j + k) _ ∙ put_none l (i + k) _)
-
--- ---- zeros by a counter
-pub cleared_start : (l : List ℕ) (i n : ℕ) → put_row l i n 0 ≡ put_row l (i + 0) (n - 0) 0
-cleared_start l i n = simp (add-zero, sub-zero)
-
-pub cleared_step : (l : List ℕ) (i n k : ℕ) → k < n → i + k < length l → put_row l (i + k) (n - k) 0 ≡ put_row (set l (i + k) 0) (i + (k + 1)) (n - (k + 1)) 0
-cleared_step l i n k h b =
-    let e : n - k ≡ suc (n - (k + 1)) = omega arith in
-    rw e (put_first l (i + k) (n - (k + 1)) 0 b ∙ ap (λ (p : ℕ). put_row (set l (i + k) 0) p (n - (k + 1)) 0) (add_assoc i k 1))
-
-pub cleared_none : (l : List ℕ) (i n k : ℕ) → n ≤ k → put_row l (i + k) (n - k) 0 ≡ l
-cleared_none l i n k h = let e : n - k ≡ 0 = omega arith in rw e (put_none l (i + k) 0)

@@ -1,6 +1,5 @@
 -- Laws of the calls on one list: what they pick from the description, and the standard generators written.
-use Rattle.std.proofs.Common.{◌≡◌, ℕ, zero, suc, eqb, ◌+◌, ◌-◌, ◌/◌, ◌≤◌, List, [], ◌∷◌, length, sym, refl, ap, ◌∙◌, ap₂, arith, Err, Ok, Result}
-use Rattle.std.proofs.Math.Dec.{eqb-suc-zero}
+use Rattle.std.proofs.Common.{◌≡◌, Bool, not, ℕ, ◌+◌, ◌-◌, ◌/◌, List, [], ◌∷◌, length, take, sym, refl, ap, ◌∙◌, ap₂, arith, Err, Ok, Result}
 use Rattle.pauli.specs.Pauli.{Pauli}
 use Rattle.pauli.specs.Signed.{list_in}
 use Rattle.pauli.specs.declared.refusal.Refusal.{Refusal}
@@ -10,7 +9,7 @@ use Rattle.pauli.specs.Told.{answer, map_told}
 use Rattle.pauli.proofs.roll.Told.{map_refused, map_answer}
 use Rattle.pauli.specs.Writing.{roll_over}
 use Rattle.pauli_theory.specs.Group.{Promise}
-use Rattle.pauli_theory.specs.Standard.{if_zero, standard, rank, nonabelian, stabilizer, phases_of, phase_step, log2_size}
+use Rattle.pauli_theory.specs.Standard.{if_zero, standard, rank, nonabelian, phases_of, phase_step, log2_size}
 use Rattle.pauli_theory.proofs.Phases.{phases_cases}
 use Rattle.pauli_theory.proofs.OverPlaces.{placed}
 use Rattle.pauli_theory.proofs.Written.{written_standard}
@@ -24,25 +23,12 @@ use Rattle.pauli_group.specs.Inner.Groups.{facts_of, facts_in, over_support, Gro
 use Rattle.pauli_group.specs.Calls.{paulis, one_list, standard_bytes}
 use Rattle.pauli_group.proofs.checks.OneList.{Given, given}
 use Rattle.pauli_group.proofs.group.GroupLaws.{Described, facts_told}
-use Rattle.pauli_group.proofs.group.GroupedLaws.{stabilizer_le}
+use Rattle.pauli_group.proofs.standard.StandardLaws.{yes_number_not}
 
 -- what the code makes of the description
-pub abelian_told : (promise : Promise) (gs : List Pauli) (clash : ℕ) → clash ≡ nonabelian promise gs
-    → yes_number (eqb clash 0) ≡ if_zero (nonabelian promise gs) 1 0
-unfolding if_zero
-abelian_told promise gs clash e = rw e (zero_told (nonabelian promise gs))
-  where
-    zero_told : (k : ℕ) → yes_number (eqb k 0) ≡ if_zero k 1 0
-    zero_told zero = refl
-    zero_told (suc k) = rw eqb-suc-zero refl
-
-pub stabilizer_told : (promise : Promise) (gs : List Pauli) (n : ℕ) → n ≡ stabilizer promise gs → yes_number (eqb n 1) ≡ stabilizer promise gs
-stabilizer_told promise gs n e = rw e (one_told (stabilizer promise gs) (stabilizer_le promise gs))
-  where
-    one_told : (k : ℕ) → k ≤ 1 → yes_number (eqb k 1) ≡ k
-    one_told zero h = refl
-    one_told (suc zero) h = refl
-    one_told (suc (suc k)) h = absurd (omega arith)
+pub abelian_told : (promise : Promise) (gs : List Pauli) (clash : Bool) → yes_number clash ≡ nonabelian promise gs
+    → yes_number (not clash) ≡ if_zero (nonabelian promise gs) 1 0
+abelian_told promise gs clash e = yes_number_not clash ∙ ap (λ (k : ℕ). if_zero k 1 0) e
 
 -- the phases by their step
 pub phases_told_lem : (promise : Promise) (gs : List Pauli) (p : Phases) → step_told p ≡ phase_step promise gs → phases_told p ≡ phases_of promise gs
@@ -73,7 +59,7 @@ module _ (gs : List Pauli) {known x : List ℕ} {places r total : ℕ} (g : Grou
 pub record ListDescribed (promise : Promise) (b : List ℕ) (size : ℕ) (d : Description) : Type 0 where
   pub count : ℕ
   pub given : Given b size count
-  pub facts : Described promise (paulis (list_of b)) d.rank d.step d.clash d.stabilizer
+  pub facts : Described promise (paulis (list_of b)) d.rank (step_told d.signs.phases) (yes_number d.signs.clash) (yes_number d.signs.stabilizer)
 
 module _ (promise : Promise) (b : List ℕ) (size : ℕ) {r : Result Description Refusal} (e : told_by facts_in r ≡ map_told (facts_of promise) (one_list b size)) where
   pub facts_none : (q : Refusal) → r ≡ Err q → one_list b size ≡ told_refusal q

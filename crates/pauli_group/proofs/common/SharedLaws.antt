@@ -1,5 +1,5 @@
 -- Laws of the common part in the work area: exponents noted with the elements of a basis, the shared ones, and the phases.
-use Rattle.std.proofs.Common.{◌≡◌, ℕ, zero, suc, ◌+◌, ◌-◌, ◌*◌, ◌/◌, ◌%◌, ◌^◌, ◌<◌, ◌≤◌, max, List, [], ◌∷◌, ◌++◌, map, length, get_or, set, sym, refl, ap, ◌∙◌, subst, ap₂, append_assoc, append-nil, mod-eq_of_lt, div-add-mod', add-one, arith, length-set, get_or-set_other, get_or-set_same, le-ltb, lt-ltb}
+use Rattle.std.proofs.Common.{◌≡◌, ℕ, zero, suc, ◌+◌, ◌-◌, ◌*◌, ◌/◌, ◌%◌, ◌^◌, ◌<◌, ◌≤◌, max, List, [], ◌∷◌, ◌++◌, map, length, get_or, set, sym, refl, ap, ◌∙◌, subst, ap₂, append_assoc, append-nil, mod-eq_of_lt, div-add-mod', add-one, arith, length-set, get_or-set_other, get_or-set_same}
 use mathlib.Core.List.{map-append}
 use mathlib.Core.Option.{Option, some, none}
 use lib.Seq.{sets}
@@ -35,7 +35,7 @@ use Rattle.pauli_group.proofs.area.AreaLaws.{form_room}
 use Rattle.pauli_group.proofs.list.ListLaws.{pauli_same, list_same, list_at_lem, on_places_at, list_append, list_snoc, list_kept, list_kept_after, pauli_kept_after, outside_refl, list_store, store_further}
 use Rattle.pauli_group.proofs.member.SolveLaws.{solvable_kept, form_kept}
 use Rattle.pauli_group.specs.Inner.Moved.{MovablePauli}
-use Rattle.pauli_group.specs.Inner.Shared.{Solving, exponent_over, exponent_for, noted, shared_noted, exponent_found}
+use Rattle.pauli_group.specs.Inner.Shared.{Solving, exponent_over, exponent_for, noted, shared_noted}
 
 pub mod_le : (n m : ℕ) → n % m ≤ n
 mod_le n m = omega (arith, div-add-mod' n m)
@@ -67,19 +67,18 @@ module _ (a b u v : ℕ) where
     unfolding shared_exponent_from
     next = let one : e + 1 ≡ suc e = omega arith in rw one (ap (λ (n : ℕ). shared_exponent_from a b u v n e) (sym (left_over ∙ ap (λ (k : ℕ). suc (4 - k)) one)) ∙ f)
 
-    pub shared_hit : (e + 4 - u) % 4 % a + (e + 4 - v) % 4 % b ≡ 0 → exponent_found e ≡ shared_exponent a b u v
-    unfolding exponent_found
+    pub shared_hit : (e + 4 - u) % 4 % a + (e + 4 - v) % 4 % b ≡ 0 → some e ≡ shared_exponent a b u v
     shared_hit h =
         let z : misses e ≡ 0 = omega (arith, h) in
-        rw (lt-ltb e 4 low) (sym (if_zero_zero (some e) (shared_exponent_from a b u v (4 - (e + 1)) (e + 1)) z) ∙ next)
+        sym (if_zero_zero (some e) (shared_exponent_from a b u v (4 - (e + 1)) (e + 1)) z) ∙ next
 
     pub shared_miss : ((e + 4 - u) % 4 % a + (e + 4 - v) % 4 % b ≡ 0 → ⊥) → SharedFrom (e + 1)
     shared_miss h =
         let m : 0 < misses e = some_more ((e + 4 - u) % 4 % a) ((e + 4 - v) % 4 % b) h in
         sym (if_zero_more (misses e) (some e) (shared_exponent_from a b u v (4 - (e + 1)) (e + 1)) m) ∙ next
 
-  pub shared_end : (e : ℕ) → 4 ≤ e → e ≤ 4 → SharedFrom e → exponent_found 4 ≡ shared_exponent a b u v
-  unfolding exponent_found shared_exponent_from
+  pub shared_end : (e : ℕ) → 4 ≤ e → e ≤ 4 → SharedFrom e → none ≡ shared_exponent a b u v
+  unfolding shared_exponent_from
   shared_end e h l f = let four : e ≡ 4 = omega arith in rw four at f
 
 -- ---- the elements that have one, with it
@@ -108,23 +107,23 @@ module _ (a b m : ℕ) (first : List ℕ) where
     unfolding shared_with
     more = ap (shared_with (shared_noted a b)) (list_snoc first further_at i) ∙ shared_append (shared_noted a b) (list_in first further_at i) (p ∷ [])
 
-    module _ (e : ℕ) (found : exponent_found e ≡ shared_noted a b (pauli_in w (further_at + 5 * i))) where
-      told : exponent_found e ≡ shared_noted a b p
-      told = found ∙ ap (shared_noted a b) kept_here
+    module _ (o : Option ℕ) (told_here : o ≡ shared_noted a b (pauli_in w (further_at + 5 * i))) where
+      told : o ≡ shared_noted a b p
+      told = told_here ∙ ap (shared_noted a b) kept_here
 
-      pub kept_dropped : 4 ≤ e → KeptUpTo a b m first (i + 1) kept w
-      unfolding exponent_found with_some cons_some
-      kept_dropped l = record {
+      pub kept_dropped : none ≡ o → KeptUpTo a b m first (i + 1) kept w
+      unfolding with_some cons_some
+      kept_dropped n = record {
         low = let k = K.low in omega arith;
         within = omega arith;
         list =
-            let z : none ≡ shared_noted a b p = rw (le-ltb e 4 l) at told in
+            let z : none ≡ shared_noted a b p = n ∙ told in
             K.list ∙ sym (more ∙ ap (λ o. shared_with (shared_noted a b) (list_in first further_at i) ++ cons_some (with_some o p) []) (sym z)
             ∙ append-nil (shared_with (shared_noted a b) (list_in first further_at i)));
         rest = K.rest;
       }
 
-      module _ (l : e < 4) (room : further_at + 5 * m ≤ length first) (q r : Held) (loaded : normal (held q) ≡ normal (pauli_in w (further_at + 5 * i)))
+      module _ (e : ℕ) (s : some e ≡ o) (l : e < 4) (room : further_at + 5 * m ≤ length first) (q r : Held) (loaded : normal (held q) ≡ normal (pauli_in w (further_at + 5 * i)))
           (made : held r ≡ with_exponent e (held q)) where
         same : normal (held q) ≡ normal p
         same = loaded ∙ ap normal kept_here
@@ -134,12 +133,12 @@ module _ (a b m : ℕ) (first : List ℕ) where
         element = ap normal made ∙ pauli_path (mod-eq_of_lt l) (ap (λ (t : Pauli). t.x) same) (ap (λ (t : Pauli). t.z) same)
 
         pub kept_more : (u : List ℕ) → u ≡ sets w (further_at + 5 * kept) (pauli_words r) → KeptUpTo a b m first (i + 1) (kept + 1) u
-        unfolding exponent_found with_some cons_some
+        unfolding with_some cons_some
         kept_more u g = record {
           low = let k = K.low in omega arith;
           within = omega arith;
           list =
-              let z : some e ≡ shared_noted a b p = rw (lt-ltb e 4 l) at told in
+              let z : some e ≡ shared_noted a b p = s ∙ told in
               ap (λ (x : List ℕ). list_in x further_at (kept + 1)) g
               ∙ list_store w further_at kept r (let k = K.low in omega (arith, K.rest.size))
               ∙ ap₂ (λ (ps : List Pauli) (t : Pauli). ps ++ (t ∷ [])) K.list element
@@ -147,10 +146,10 @@ module _ (a b m : ℕ) (first : List ℕ) where
           rest = store_further first w further_at kept r K.rest u g;
         }
 
-  pub found_noted : (w : List ℕ) (at e : ℕ) → exponent_found e ≡ shared_exponent a b (get_or w at 0 / 4 % 4) (get_or w at 0 % 4)
-      → exponent_found e ≡ shared_noted a b (pauli_in w at)
+  pub found_noted : (w : List ℕ) (at : ℕ) (o : Option ℕ) → o ≡ shared_exponent a b (get_or w at 0 / 4 % 4) (get_or w at 0 % 4)
+      → o ≡ shared_noted a b (pauli_in w at)
   unfolding shared_noted pauli_in
-  found_noted w at e h = h
+  found_noted w at o h = h
 
   pub kept_all : (i kept : ℕ) (w : List ℕ) → KeptUpTo a b m first i kept w → m ≤ i → list_in w further_at kept ≡ shared_with (shared_noted a b) (list_in first further_at m)
   kept_all i kept w K h = let e : i ≡ m = (let l = K.within in omega arith) in K.list ∙ ap (λ (k : ℕ). shared_with (shared_noted a b) (list_in first further_at k)) e

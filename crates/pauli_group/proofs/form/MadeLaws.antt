@@ -1,11 +1,9 @@
 -- The echelon form that is made of the rows of a list.
-use Rattle.std.proofs.Common.{◌≡◌, ℕ, zero, suc, ◌+◌, ◌-◌, ◌*◌, ◌^◌, ◌<◌, ◌≤◌, true, List, ◌++◌, map, length, get_or, drop, sym, refl, ap, ◌∙◌, subst, ap₂, lt_of_lt_of_le, arith, length-append, length-drop, get_or-drop, get_or-append-add, pow_pos, pow_mono, le-leb}
+use Rattle.std.proofs.Common.{◌≡◌, ℕ, zero, suc, ◌+◌, ◌-◌, ◌*◌, ◌^◌, ◌<◌, ◌≤◌, true, cond, Option, Some, IsSome, List, ◌++◌, map, length, get_or, drop, sym, refl, ap, ◌∙◌, subst, ap₂, lt_of_lt_of_le, arith, length-append, length-drop, get_or-drop, get_or-append-add, pow_pos, pow_mono, le-leb}
 use native.Mathlib.Decide.{dec_lt}
 use lib.ListN.{length-map, get_or-eq_default}
-use Rattle.binar.specs.declared.matrix_form.Formation.{Formation}
-use Rattle.binar.specs.declared.matrix_form.Formation.TheVariants.{Rank, Misfit}
 use Rattle.binar.specs.Echelon.{echelon, rank as echelon_rank}
-use Rattle.binar.specs.Layout.{form_stride, fits, formed, FormIs, form_in, pick}
+use Rattle.binar.specs.Layout.{form_stride, fits, formed, FormIs, form_in}
 use Rattle.binar.specs.Laid.{laid_out}
 use Rattle.binar.specs.Words.{matrix, image}
 use Rattle.binar.proofs.echelon.Bounds.{rank_rows}
@@ -91,23 +89,23 @@ module _ (l : List ℕ) (base n s : ℕ) (few : n ≤ 129) (places : s ≤ 128) 
   fit = rw (le-leb (2 * s) (64 * row_words) (omega arith)) (le-leb (n * form_stride row_words n + n) (length rows) (omega (arith, room, rows_size)))
 
   -- the form made of a slice m that has the rows, k words each
-  module _ (k : ℕ) (stride : k ≡ S) (m : List ℕ) (put : m ≡ image k M (drop (n * k) l)) (answer : Formation) (exit : List ℕ) (given : FormIs m row_words n (2 * s) answer exit) where
+  module _ (k : ℕ) (stride : k ≡ S) (m : List ℕ) (put : m ≡ image k M (drop (n * k) l)) (answer : Option ℕ) (exit : List ℕ) (given : FormIs m row_words n (2 * s) answer exit) where
     h : FormIs rows row_words n (2 * s) answer exit
     h = subst (λ (x : List ℕ). FormIs x row_words n (2 * s) answer exit) (put ∙ ap (λ (j : ℕ). image j M (drop (n * j) l)) stride) given
 
-    made : (answer ≡ Rank (echelon_rank (form_over s L))) × (form_in S n row_words (2 * s) (echelon_rank (form_over s L)) exit ≡ form_over s L)
+    made : (answer ≡ Some (echelon_rank (form_over s L))) × (form_in S n row_words (2 * s) (echelon_rank (form_over s L)) exit ≡ form_over s L)
     unfolding stride_of form_over
-    made = subst (λ (A : List ℕ). (answer ≡ Rank (echelon_rank (echelon (2 * s) A))) × (form_in S n row_words (2 * s) (echelon_rank (echelon (2 * s) A)) exit ≡ echelon (2 * s) A))
+    made = subst (λ (A : List ℕ). (answer ≡ Some (echelon_rank (echelon (2 * s) A))) × (form_in S n row_words (2 * s) (echelon_rank (echelon (2 * s) A)) exit ≡ echelon (2 * s) A))
         rows_back ((form_law rows row_words n (2 * s) answer exit h).fitting fit)
 
-    pub made_rank : (r : ℕ) → answer ≡ Rank r → r ≡ echelon_rank (form_over s L)
+    pub made_rank : (r : ℕ) → answer ≡ Some r → r ≡ echelon_rank (form_over s L)
     made_rank r e = let m = made.0 in cc
 
-    pub made_form : (r : ℕ) → answer ≡ Rank r → form_in S n row_words (2 * s) r exit ≡ form_over s L
+    pub made_form : (r : ℕ) → answer ≡ Some r → form_in S n row_words (2 * s) r exit ≡ form_over s L
     made_form r e = ap (λ (k : ℕ). form_in S n row_words (2 * s) k exit) (made_rank r e) ∙ made.1
 
-    pub made_fits : answer ≡ Misfit → ⊥
-    made_fits e = let m = made.0 in let z : ◌≡◌ {A = ℕ} 0 1 = cc in absurd (omega arith)
+    pub made_some : IsSome answer
+    made_some = rw made.0
 
     pub made_outside : Outside 0 (n * S + n) l exit
     unfolding laid_out stride_of
@@ -117,7 +115,7 @@ module _ (l : List ℕ) (base n s : ℕ) (few : n ≤ 129) (places : s ≤ 128) 
         let ps = f.pivots in
         let rest = ps ++ drop (length f.rows * S + length ps) rows in
         let low : length ps ≤ n = omega (arith, rank_back rows row_words n (2 * s) fit, rank_rows (2 * s) (matrix S n rows), length_matrix S n rows) in
-        let e : exit ≡ image S f.rows rest = h.left ∙ ap (λ b. pick b (laid_out S f rows) rows) fit in
+        let e : exit ≡ image S f.rows rest = h.left ∙ ap (λ b. cond b (laid_out S f rows) rows) fit in
         outside_join rows_outside (subst (Outside 0 (n * S + n) rows) (sym e)
         (image_outside S n f.rows rows rest (n * S + n) c (omega (arith, room, rows_size))
         (length-append ps (drop (length f.rows * S + length ps) rows) ∙ ap (length ps +◌) (length-drop (length f.rows * S + length ps) rows ∙ ap (λ (m : ℕ). length rows - (m * S + length ps)) c) ∙ omega (arith, room, rows_size, low))

@@ -26,7 +26,8 @@ use Rattle.pauli_group.specs.Inner.Area.{list_at, standard_at, Outside}
 use Rattle.pauli_group.specs.Inner.Groups.{products_named, Built, over_support, Grouped, Facts, facts_in, facts_of}
 use Rattle.pauli_group.specs.declared.group.Description.{Description}
 use Rattle.pauli_group.specs.Calls.{paulis}
-use Rattle.pauli_group.specs.Inner.Lists.{over_places, row_over, form_over, from_products, ReadableAll, clash_of, stabilizer_of}
+use Rattle.pauli_group.specs.Inner.Lists.{step_told, over_places, row_over, form_over, from_products, ReadableAll, clash_of, stabilizer_of}
+use Rattle.pauli_group.specs.Answers.{yes_number}
 use Rattle.pauli_group.proofs.list.ListLaws.{list_append, list_kept}
 
 -- ---- the support
@@ -129,7 +130,7 @@ facts_are promise gs d = λ i. record { rank = d.rank_is i; step = d.step_is i; 
 
 -- by what the code holds
 pub facts_told : (promise : Promise) (gs : List Pauli) (d : Description) → facts_in d ≡ facts_of promise gs
-    → Described promise gs d.rank d.step d.clash d.stabilizer
+    → Described promise gs d.rank (step_told d.signs.phases) (yes_number d.signs.clash) (yes_number d.signs.stabilizer)
 unfolding facts_of
 facts_told promise gs d e =
     record {

@@ -1,5 +1,5 @@
 -- Laws of a group in the area, and of the numbers that are told of it.
-use Rattle.std.proofs.Common.{◌≡◌, ℕ, ◌+◌, ◌<◌, ◌≤◌, max, List, [], ◌++◌, length, take, drop, sym, ap, ◌∙◌, append-nil, arith, drop_of_length-le, length-take-le}
+use Rattle.std.proofs.Common.{◌≡◌, ℕ, ◌+◌, ◌<◌, ◌≤◌, List, [], ◌++◌, length, take, drop, sym, ap, ◌∙◌, append-nil, arith, drop_of_length-le, length-take-le}
 use lib.ListN.{length-map}
 use Rattle.binar.specs.Words.{words, put_row}
 use Rattle.pauli.specs.Condense.{list_of}
@@ -12,8 +12,8 @@ use Rattle.pauli.specs.Told.{answer}
 use Rattle.pauli.specs.Writing.{OnPlaces}
 use Rattle.pauli.proofs.joined.JoinLaws.{accepted, accepted_few}
 use Rattle.pauli.proofs.roll.RollLaws.{answer_parts}
-use Rattle.pauli_theory.specs.Group.{Promise, none, abelian, not_abelian}
-use Rattle.pauli_theory.specs.Standard.{support_of, standard, rank, some_order_four, some_minus, nonabelian, phase_step, stabilizer}
+use Rattle.pauli_theory.specs.Group.{Promise}
+use Rattle.pauli_theory.specs.Standard.{support_of, standard, rank, phase_step}
 use Rattle.pauli_theory.proofs.Phases.{phases_cases}
 use Rattle.pauli_theory.proofs.ByProducts.{rank_le}
 use Rattle.pauli_theory.proofs.OverPlaces.{placed, places_standard_on}
@@ -23,8 +23,6 @@ use Rattle.pauli_group.specs.Inner.Area.{standard_at}
 use Rattle.pauli_group.specs.WorkArea.{work_words, cleared}
 use Rattle.pauli_group.specs.Inner.Groups.{over_support, Grouped}
 use Rattle.pauli_group.specs.Calls.{paulis}
-use Rattle.pauli_group.proofs.scan.ScanLaws.{search_lt, two_anticommute}
-use Rattle.pauli_group.proofs.standard.StandardLaws.{if_zero_le}
 
 -- ---- the work area
 
@@ -62,16 +60,6 @@ module _ (promise : Promise) (gs : List Pauli) where
   step_kinds =
       phases_cases (λ ks s. (0 < s) × (s ≤ 4) × (s ≡ 3 → ⊥))
       (omega arith, omega arith, λ e. omega arith) (omega arith, omega arith, λ e. omega arith) (omega arith, omega arith, λ e. omega arith) promise gs
-
-  pub stabilizer_le : stabilizer promise gs ≤ 1
-  unfolding stabilizer
-  stabilizer_le = if_zero_le (max (nonabelian promise gs) (max (some_order_four (standard gs)) (some_minus (standard gs))))
-
-pub nonabelian_le : (promise : Promise) (gs : List Pauli) → nonabelian promise gs ≤ 1
-unfolding nonabelian
-nonabelian_le none gs = omega (arith, search_lt two_anticommute (standard gs))
-nonabelian_le abelian gs = omega arith
-nonabelian_le not_abelian gs = omega arith
 
 -- ---- the list of an accepted roll
 

@@ -37,52 +37,12 @@ use Rattle.pauli_theory.proofs.Written.{written_over}
 use Rattle.pauli_group.specs.Inner.Area.{standard_at, further_at}
 use Rattle.pauli_group.specs.Calls.{one_list, most_listed, page_bytes, elements_call}
 use Rattle.pauli_group.specs.Inner.Groups.{over_support, Grouped}
-use Rattle.pauli_group.specs.Inner.Lists.{clash_of, stabilizer_of}
+use Rattle.pauli_group.specs.Inner.Lists.{step_told, clash_of, stabilizer_of}
+use Rattle.pauli_group.specs.Answers.{yes_number}
 use Rattle.pauli_group.specs.declared.standard.Signs.{Signs}
 use Rattle.pauli_group.specs.Inner.Listed.{element_at, elements_from}
-use Rattle.pauli_group.proofs.listing.ListingLaws.{pow_small, one_shifted}
-use Rattle.pauli_group.proofs.group.GroupedLaws.{step_kinds}
 use Rattle.pauli_group.proofs.group.GroupLaws.{described}
 use Rattle.pauli_group.proofs.list.ListLaws.{StoredUpTo, list_append, list_kept, stored_none, stored_step, stored_all}
-
--- ---- phases
-
--- as many as the step goes into 4
-pub phases_some : (step : ℕ) → 0 < step → step ≤ 4 → 0 < 4 / step
-phases_some zero a b = absurd (omega arith)
-phases_some (suc zero) a b = omega arith
-phases_some (suc (suc zero)) a b = omega arith
-phases_some (suc (suc (suc zero))) a b = omega arith
-phases_some (suc (suc (suc (suc zero)))) a b = omega arith
-phases_some (suc (suc (suc (suc (suc n))))) a b = absurd (omega arith)
-
-pub phases_few : (step : ℕ) → 0 < step → step ≤ 4 → 4 / step ≤ 4
-phases_few zero a b = absurd (omega arith)
-phases_few (suc zero) a b = omega arith
-phases_few (suc (suc zero)) a b = omega arith
-phases_few (suc (suc (suc zero))) a b = omega arith
-phases_few (suc (suc (suc (suc zero)))) a b = omega arith
-phases_few (suc (suc (suc (suc (suc n))))) a b = absurd (omega arith)
-
-pub turn_small : (step n : ℕ) → 0 < step → step ≤ 4 → step * (n % (4 / step)) < 4
-turn_small zero n a b = absurd (omega arith)
-turn_small (suc zero) n a b = omega arith
-turn_small (suc (suc zero)) n a b = omega arith
-turn_small (suc (suc (suc zero))) n a b = omega arith
-turn_small (suc (suc (suc (suc zero)))) n a b = omega arith
-turn_small (suc (suc (suc (suc (suc m))))) n a b = absurd (omega arith)
-
--- how many elements there are, for a rank up to 16
-pub total_is : (r m : ℕ) → r ≤ 16 → 1 * 2 ^ r % 2 ^ 64 * (4 / m) ≡ 2 ^ r * (4 / m)
-total_is r m h = ap (◌* (4 / m)) (one_shifted r h)
-
-pub total_small : (r m : ℕ) → r ≤ 16 → 0 < m → m ≤ 4 → 1 * 2 ^ r % 2 ^ 64 * (4 / m) < 2 ^ 64
-total_small r zero h a b = absurd (omega arith)
-total_small r (suc zero) h a b = omega (arith, one_shifted r h, pow_small r h)
-total_small r (suc (suc zero)) h a b = omega (arith, one_shifted r h, pow_small r h)
-total_small r (suc (suc (suc zero))) h a b = omega (arith, one_shifted r h, pow_small r h)
-total_small r (suc (suc (suc (suc zero)))) h a b = omega (arith, one_shifted r h, pow_small r h)
-total_small r (suc (suc (suc (suc (suc m))))) h a b = absurd (omega arith)
 
 -- a held Pauli, turned
 pub turned_held : (q : Held) (e turn : ℕ) (p : Pauli) → normal (held q) ≡ p → e ≡ (q.exponent + turn) % 2 ^ 8
@@ -250,17 +210,11 @@ module _ (promise : Promise) (gs : List Pauli) where
 -- ---- the step, by what the standard generators tell
 
 module _ (promise : Promise) {gs : List Pauli} {known x : List ℕ} {places r total : ℕ} (g : Grouped gs known x places r total) (s : Signs)
-    (clash : s.clash ≡ clash_of promise (list_in x standard_at total))
-    (step : s.step ≡ step_of (clash_of promise (list_in x standard_at total)) (list_in x standard_at total))
-    (stable : s.stabilizer ≡ stabilizer_of (clash_of promise (list_in x standard_at total)) (list_in x standard_at total)) where
-  pub signs_step : s.step ≡ phase_step promise gs
-  signs_step = (described g promise s.step s.clash s.stabilizer clash step stable).step_is
-
-  pub signs_some : 0 < s.step
-  signs_some = rw signs_step (step_kinds promise gs).0
-
-  pub signs_few : s.step ≤ 4
-  signs_few = rw signs_step (step_kinds promise gs).1
+    (clash : yes_number s.clash ≡ clash_of promise (list_in x standard_at total))
+    (step : step_told s.phases ≡ step_of (clash_of promise (list_in x standard_at total)) (list_in x standard_at total))
+    (stable : yes_number s.stabilizer ≡ stabilizer_of (clash_of promise (list_in x standard_at total)) (list_in x standard_at total)) where
+  pub signs_step : step_told s.phases ≡ phase_step promise gs
+  signs_step = (described g promise (step_told s.phases) (yes_number s.clash) (yes_number s.stabilizer) clash step stable).step_is
 
 -- ---- what is told
 

@@ -1,8 +1,7 @@
 -- Laws of a target written behind a form, and of the set that solving for it leaves in the target's row.
-use Rattle.std.proofs.Common.{◌≡◌, ℕ, ◌+◌, ◌-◌, ◌*◌, ◌/◌, ◌%◌, ◌^◌, ◌<◌, ◌≤◌, eqb, List, length, take, drop, sym, refl, ap, ◌∙◌, subst, ap₂, lt_of_lt_of_le, arith, pow_mono}
+use Rattle.std.proofs.Common.{◌≡◌, ℕ, ◌+◌, ◌-◌, ◌*◌, ◌/◌, ◌%◌, ◌^◌, ◌<◌, ◌≤◌, eqb, List, length, take, drop, true, false, sym, refl, ap, ◌∙◌, subst, ap₂, lt_of_lt_of_le, arith, pow_mono}
 use mathlib.Core.Option.{some, none}
-use Rattle.binar.specs.declared.matrix_form.Solution.TheVariants.{Set, NoSet}
-use Rattle.binar.specs.Layout.{form_stride, form_in, FormLeft, swept, solution}
+use Rattle.binar.specs.Layout.{form_stride, form_in, FormLeft, swept}
 use Rattle.binar.specs.Solve.{solved, transpose_solve}
 use Rattle.binar.specs.Words.{row_at, put_row, matrix}
 use Rattle.binar.proofs.echelon.Bounds.{sweep_lt}
@@ -120,11 +119,11 @@ module _ (l : List ℕ) (f : AreWords l) (n s rank : ℕ) (p : Held) (few : s �
           (named ∙ ap (◌/ 2 ^ (64 * 4)) (solved_row l f (stride_of n) n 4 (2 * s) rank target_at S (omega arith) four v v_lt y left_in_lem))
           ∙ target_solved l f (stride_of n) n 4 (2 * s) rank target_at S (omega arith) four v v_lt
 
-      pub pauli_set : Set ≡ solution (eqb (swept k n rank target_at b % 2 ^ (2 * s)) 0)
+      pub pauli_set : true ≡ eqb (swept k n rank target_at b % 2 ^ (2 * s)) 0
           → some set ≡ transpose_solve (2 * s) (form_in (stride_of n) n row_words (2 * s) rank l) v
       pauli_set t = solved_set (left' % 2 ^ (2 * s)) set (rw (e, target) at t) ∙ answer
 
-    pub pauli_none : NoSet ≡ solution (eqb (swept k n rank target_at b % 2 ^ (2 * s)) 0)
+    pub pauli_none : false ≡ eqb (swept k n rank target_at b % 2 ^ (2 * s)) 0
         → none ≡ transpose_solve (2 * s) (form_in (stride_of n) n row_words (2 * s) rank l) v
     pauli_none t =
         let set = row_at y target_at (stride_of n) / 2 ^ (64 * row_words) in

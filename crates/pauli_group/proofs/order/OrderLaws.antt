@@ -1,75 +1,24 @@
 -- Laws of comparison: by numbers of phases and ranks, and what the call tells.
-use Rattle.std.proofs.Common.{◌≡◌, ℕ, ◌/◌, ◌<◌, ◌≤◌, Bool, true, false, eqb, leb, List, ◌++◌, length, sym, ap, ◌∙◌, ap₂, arith, eq-eqb, ne_eqb, le-leb}
-use borrow.Author.Tests.{lt-leb}
+use Rattle.std.proofs.Common.{◌≡◌, ℕ, ◌/◌, ◌≤◌, List, ◌++◌, length, sym, ap, ◌∙◌}
 use Rattle.pauli.specs.Condense.{list_of}
 use Rattle.pauli.specs.Pauli.{Pauli}
 use Rattle.pauli.specs.Told.{Told, answer, refused, map_told}
 use Rattle.pauli.proofs.joined.JoinLaws.{Joining}
 use Rattle.pauli_theory.specs.Group.{Promise, none}
-use Rattle.pauli_theory.specs.Order.{Order, equal, less, greater, no_order, Ranks, ranks_of, and, same_ranks, no_more, first_of, partial_cmp}
+use Rattle.pauli_theory.specs.Order.{Order, Ranks, ranks_of, partial_cmp}
 use Rattle.pauli_group.specs.WorkArea.{work_words}
 use Rattle.pauli_group.specs.declared.group.Description.{Description}
 use Rattle.pauli_group.specs.Inner.Groups.{facts_in, facts_of}
 use Rattle.pauli_group.specs.Calls.{paulis, Pair, two_lists, order_call}
 use Rattle.pauli_group.specs.Inner.Compare.{order_by}
+use Rattle.pauli_group.specs.Inner.Lists.{step_told}
 use Rattle.pauli_group.proofs.checks.TwoLists.{pair_long}
 use Rattle.pauli_group.proofs.group.GroupLaws.{facts_told}
-use Rattle.pauli_group.proofs.group.GroupedLaws.{step_kinds}
-
--- ---- tests on two pairs of numbers
-
-module _ (a b : Ranks) where
-  pub phases_differ : (a.phases ≡ b.phases → ⊥) → false ≡ same_ranks a b
-  unfolding same_ranks
-  phases_differ d = rw (ne_eqb a.phases b.phases d)
-
-  pub phases_same : a.phases ≡ b.phases → eqb a.rank b.rank ≡ same_ranks a b
-  unfolding same_ranks
-  phases_same e = rw (eq-eqb a.phases b.phases e)
-
-  pub phases_more : b.phases < a.phases → false ≡ no_more a b
-  unfolding no_more
-  phases_more h = rw (lt-leb a.phases b.phases h)
-
-  pub phases_no_more : a.phases ≤ b.phases → leb a.rank b.rank ≡ no_more a b
-  unfolding no_more
-  phases_no_more h = rw (le-leb a.phases b.phases h)
-
--- ---- the order that the tests give
-
-module _ (a b both : Ranks) where
-  module _ (s t x : Bool) (es : s ≡ same_ranks a b) (et : t ≡ same_ranks a both) (ex : x ≡ and s t) where
-    equal_is : and (same_ranks a b) (same_ranks a both) ≡ x
-    equal_is = sym (ex ∙ ap₂ and es et)
-
-    pub order_equal : x ≡ true → equal ≡ order_by a b both
-    unfolding order_by first_of
-    order_equal e = rw (equal_is ∙ e)
-
-    module _ (n : x ≡ false) (u v y : Bool) (eu : u ≡ no_more a b) (ev : v ≡ same_ranks b both) (ey : y ≡ and u v) where
-      less_is : and (no_more a b) (same_ranks b both) ≡ y
-      less_is = sym (ey ∙ ap₂ and eu ev)
-
-      pub order_less : y ≡ true → less ≡ order_by a b both
-      unfolding order_by first_of
-      order_less e = rw (equal_is ∙ n, less_is ∙ e)
-
-      module _ (m : y ≡ false) (z : Bool) (ez : z ≡ same_ranks a both) where
-        pub order_greater : z ≡ true → greater ≡ order_by a b both
-        unfolding order_by first_of
-        order_greater e = rw (equal_is ∙ n, less_is ∙ m, sym ez ∙ e)
-
-        pub order_none : z ≡ false → no_order ≡ order_by a b both
-        unfolding order_by first_of
-        order_none e = rw (equal_is ∙ n, less_is ∙ m, sym ez ∙ e)
 
 -- ---- the numbers of a described group
 
 module _ (promise : Promise) (gs : List Pauli) (d : Description) (e : facts_in d ≡ facts_of promise gs) where
-  pub step_positive : 0 < d.step
-  step_positive = omega (arith, (facts_told promise gs d e).step_is, (step_kinds promise gs).0)
-
-  pub ranks_are : (phases k : ℕ) → phases ≡ 4 / d.step → k ≡ d.rank → record { phases = phases; rank = k } ≡ ranks_of promise gs
+  pub ranks_are : (phases k : ℕ) → phases ≡ 4 / step_told d.signs.phases → k ≡ d.rank → record { phases = phases; rank = k } ≡ ranks_of promise gs
   unfolding ranks_of
   ranks_are phases k ep ek =
       let f = facts_told promise gs d e in

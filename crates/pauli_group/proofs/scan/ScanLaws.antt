@@ -1,5 +1,8 @@
 -- Laws of searches among the Paulis of a list in words.
-use Rattle.std.proofs.Common.{◌≡◌, ℕ, zero, suc, ◌+◌, ◌-◌, ◌*◌, ◌/◌, ◌%◌, ◌<◌, ◌≤◌, max, List, [], ◌∷◌, sym, refl, ap, ◌∙◌, ap₂, arith}
+use Rattle.std.proofs.Common.{◌≡◌, length, subst, zero-add, not, ◌==◌, ◌&&◌, Bool, true, false, MatchBool, add-one, ℕ, zero, suc, ◌+◌, ◌-◌, ◌*◌, ◌/◌, ◌%◌, ◌<◌, ◌≤◌, max, List, [], ◌∷◌, sym, refl, ap, ◌∙◌, ap₂, arith}
+use Rattle.std.specs.List.{HoldsAt, AllWithin, range_with_len}
+use Rattle.std.proofs.lemmas.Bool.{ne_eqb}
+use Rattle.std.proofs.lemmas.List.FromFn.{length-range_with_len, get_or-range_with_len}
 use lib.Bits.{bit_or}
 use lib.Count.{ones, ones_step}
 use lib.Pow.{mod-mod-pow}
@@ -14,6 +17,8 @@ use Rattle.pauli.proofs.write.Writers.{list_from, list_start, list_next, list_en
 use Rattle.pauli_theory.specs.Standard.{if_zero, some_order_four, anticommutes_with_some, some_anticommute, bare, some_imaginary, some_minus}
 use Rattle.pauli_theory.proofs.IfZero.{if_zero_zero, if_zero_more}
 use Rattle.pauli_theory.proofs.Tests.{imaginary, minus}
+use Rattle.pauli_group.specs.Inner.Lists.{Tested, SomeTested}
+use Rattle.pauli_group.specs.Answers.{yes_number}
 
 pub more_than : (k : ℕ) → (k ≡ 0 → ⊥) → 0 < k
 more_than zero h = absurd (h refl)
@@ -32,34 +37,77 @@ pub search_lt : {T : List Pauli → ℕ} {t : Pauli → List Pauli → ℕ} → 
 search_lt s [] = omega (arith, s.none)
 search_lt s (p ∷ ps) = omega (arith, s.more p ps, s.small p ps, search_lt s ps)
 
--- the answer for the n Paulis from word base on is that for those from number i on
-pub record From (T : List Pauli → ℕ) (w : List ℕ) (base n i : ℕ) : Type 0 where
-  pub within : i ≤ n
-  pub same : T (list_in w base n) ≡ T (list_from w base n i)
+module _ {T : List Pauli → ℕ} {t : Pauli → List Pauli → ℕ} (s : Search T t) (w : List ℕ) (base n : ℕ) where
+  -- T from number i on
+  abbrev from : ℕ → ℕ
+  from i = T (list_from w base n i)
 
-pub from_start : (T : List Pauli → ℕ) (w : List ℕ) (base n : ℕ) → From T w base n 0
-from_start T w base n = record { within = omega arith; same = ap T (list_start w base n) }
+  -- t of the Pauli number i with those behind it
+  abbrev at_number : ℕ → ℕ
+  at_number i = t (pauli_in w (base + 5 * i)) (list_from w base n (i + 1))
 
-module _ {T : List Pauli → ℕ} {t : Pauli → List Pauli → ℕ} (s : Search T t) {w : List ℕ} {base n i : ℕ}
-    (f : From T w base n i) where
-  pub from_end : n ≤ i → 0 ≡ T (list_in w base n)
-  from_end h = sym (f.same ∙ ap T (list_end w base n i h) ∙ s.none)
+  next : (i : ℕ) → i < n → from i ≡ max (at_number i) (from (i + 1))
+  next i h = ap T (list_next w base n i h) ∙ s.more (pauli_in w (base + 5 * i)) (list_from w base n (i + 1))
 
-  module _ (h : i < n) (r : Held) (l : normal (held r) ≡ normal (pauli_in w (base + 5 * i))) where
-    abbrev rest : List Pauli
-    rest = list_from w base n (i + 1)
+  from_less : (i : ℕ) → i ≤ n → from i ≤ from 0
+  from_less zero h = omega arith
+  from_less (suc i) h = rw (← add-one) (omega (arith, next i (omega arith), from_less i (omega arith)))
 
-    next : T (list_in w base n) ≡ max (t (held r) rest) (T rest)
-    next =
-        f.same ∙ ap T (list_next w base n i h) ∙ s.more (pauli_in w (base + 5 * i)) rest
-        ∙ ap (λ (k : ℕ). max k (T rest))
-        (sym (s.value (pauli_in w (base + 5 * i)) rest) ∙ ap (λ (p : Pauli). t p rest) (sym l) ∙ s.value (held r) rest)
+  from_same : ((i : ℕ) → i < n → at_number i ≡ 0) → (i : ℕ) → i ≤ n → from i ≡ from 0
+  from_same none zero h = refl
+  from_same none (suc i) h = rw (← add-one) (omega (arith, next i (omega arith), none i (omega arith), from_same none i (omega arith)))
 
-    pub from_hit : 0 < t (held r) rest → 1 ≡ T (list_in w base n)
-    from_hit o = omega (arith, next, s.small (held r) rest, search_lt s rest)
+  -- what tests of the numbers tell, one by one, is told of the list
+  pub some_told : (answers : ℕ → Bool → Type 0) → ((i : ℕ) (r : Bool) → answers i r → yes_number r ≡ at_number i)
+      → (r : Bool) → MatchBool r ((i : ℕ) × (i < n) × answers i true) ((i : ℕ) → i < n → answers i false) → yes_number r ≡ T (list_in w base n)
+  some_told answers same true (i, few, h) =
+      omega (arith, ap T (list_start w base n), next i few, same i true h, from_less i (omega arith), search_lt s (list_in w base n))
+  some_told answers same false h =
+      omega (
+        arith,
+        ap T (list_start w base n),
+        from_same (λ i few. sym (same i false (h i few))) n (omega arith),
+        ap T (list_end w base n n (omega arith)),
+        s.none,
+      )
 
-    pub from_miss : t (held r) rest ≡ 0 → From T w base n (i + 1)
-    from_miss z = record { within = omega arith; same = omega (arith, next) }
+  -- t is the same of a Pauli that was read up to the value of its exponent
+  pub at_read : (i : ℕ) (p : Held) → normal (held p) ≡ normal (pauli_in w (base + 5 * i)) → t (held p) (list_from w base n (i + 1)) ≡ at_number i
+  at_read i p read =
+      let rest : List Pauli = list_from w base n (i + 1) in
+      sym (s.value (held p) rest) ∙ ap (λ (q : Pauli). t q rest) read ∙ s.value (pauli_in w (base + 5 * i)) rest
+
+  -- what a test of one Pauli tells is told of the list
+  pub some_tested : (tells : Held → Bool → Type 0) → ((p : Held) (qs : List Pauli) (r : Bool) → tells p r → yes_number r ≡ t (held p) qs)
+      → (r : Bool) → SomeTested tells w base n r → yes_number r ≡ T (list_in w base n)
+  some_tested tells same =
+      some_told (λ i r. Tested tells w (base + 5 * i) r)
+      (λ i r h. same h.pauli (list_from w base n (i + 1)) r h.told ∙ at_read i h.pauli h.read)
+
+-- ---- a test of the numbers below n
+
+-- of the numbers themselves, in place of what their range yields
+pub by_number : (r : Bool) (n : ℕ) (Yes No : ℕ → Type 0)
+    → MatchBool r ((k : ℕ) × (k < length (range_with_len 0 n)) × HoldsAt Yes (range_with_len 0 n) k) (AllWithin No (range_with_len 0 n) 0 (length (range_with_len 0 n)))
+    → MatchBool r ((i : ℕ) × (i < n) × Yes i) ((i : ℕ) → i < n → No i)
+by_number true n Yes No h =
+    let few : h.0 < n = omega (arith, h.1, length-range_with_len 0 n) in
+    (h.0, few, subst Yes (get_or-range_with_len 0 n h.0 0 few ∙ zero-add h.0) (h.2 0))
+by_number false n Yes No h =
+    λ i few.
+    subst No (get_or-range_with_len 0 n i 0 few ∙ zero-add i) (h i 0 (omega arith) (omega (arith, length-range_with_len 0 n)))
+
+-- ---- a test of a number below 2
+
+pub yes_number_more : (k : ℕ) → k < 2 → yes_number (not (k == 0)) ≡ k
+yes_number_more zero h = refl
+yes_number_more (suc zero) h = refl
+yes_number_more (suc (suc k)) h = absurd (omega arith)
+
+pub yes_number_one : (k : ℕ) → k < 2 → yes_number (k == 1) ≡ k
+yes_number_one zero h = refl
+yes_number_one (suc zero) h = refl
+yes_number_one (suc (suc k)) h = absurd (omega arith)
 
 -- ---- the searches
 
@@ -108,7 +156,7 @@ module _ (p : Pauli) (e : ℕ) where
   unfolding bare pauli_weight weight
   bare_none h = if_zero_zero e 0 (no_ones (bit_or p.x p.z) (bit_or p.x p.z) (omega arith) h)
 
-  pub bare_some : (pauli_weight p ≡ 0 → ⊥) → bare p e ≡ 0
+  bare_some : (pauli_weight p ≡ 0 → ⊥) → bare p e ≡ 0
   unfolding bare pauli_weight weight
   bare_some h = if_zero_more (bit_or p.x p.z) e 0 (more_than _ (λ z. h (ap ones z ∙ ones_zero)))
 
@@ -163,19 +211,25 @@ search_minus = record {
   value = λ p ps. ap (λ (d : ℕ). if_zero (bit_or p.x p.z) d 0) (two_value p.e);
 }
 
-module _ (r : Held) (h : pauli_weight (held r) ≡ 0) where
-  pub odd_hit : r.exponent % 2 ≡ 1 → 0 < imaginary (held r)
-  unfolding held
-  odd_hit o = omega (arith, bare_none (held r) ((held r).e % 2) h)
+pub imaginary_tested : (p : Pauli) → yes_number ((pauli_weight p == 0) && (p.e % 2 == 1)) ≡ imaginary p
+imaginary_tested p = go (pauli_weight p) refl
+  where
+    go : (k : ℕ) → pauli_weight p ≡ k → yes_number ((k == 0) && (p.e % 2 == 1)) ≡ imaginary p
+    go zero z = yes_number_one (p.e % 2) (omega arith) ∙ sym (bare_none p (p.e % 2) z)
+    go (suc k) z = rw (ne_eqb (suc k) 0 (λ e. omega arith)) (sym (bare_some p (p.e % 2) (λ y. omega arith)))
 
-  pub odd_miss : (r.exponent % 2 ≡ 1 → ⊥) → imaginary (held r) ≡ 0
-  unfolding held
-  odd_miss o = bare_none (held r) ((held r).e % 2) h ∙ zero_bit (r.exponent % 2) (omega arith) o
+two_tested : (e : ℕ) → yes_number (e % 4 == 2) ≡ two e
+two_tested e = go (e % 4) refl
+  where
+    go : (d : ℕ) → e % 4 ≡ d → yes_number (d == 2) ≡ two e
+    go zero z = sym (two_not e (λ y. omega arith))
+    go (suc zero) z = sym (two_not e (λ y. omega arith))
+    go (suc (suc zero)) z = sym (two_is e z)
+    go (suc (suc (suc d))) z = rw (ne_eqb (suc (suc (suc d))) 2 (λ e. omega arith)) (sym (two_not e (λ y. omega arith)))
 
-  pub minus_hit : r.exponent % 4 ≡ 2 → 0 < minus (held r)
-  unfolding held
-  minus_hit o = omega (arith, bare_none (held r) (two (held r).e) h, two_is r.exponent o)
-
-  pub minus_miss : (r.exponent % 4 ≡ 2 → ⊥) → minus (held r) ≡ 0
-  unfolding held
-  minus_miss o = bare_none (held r) (two (held r).e) h ∙ two_not r.exponent o
+pub minus_tested : (p : Pauli) → yes_number ((pauli_weight p == 0) && (p.e % 4 == 2)) ≡ minus p
+minus_tested p = go (pauli_weight p) refl
+  where
+    go : (k : ℕ) → pauli_weight p ≡ k → yes_number ((k == 0) && (p.e % 4 == 2)) ≡ minus p
+    go zero z = two_tested p.e ∙ sym (bare_none p (two p.e) z)
+    go (suc k) z = rw (ne_eqb (suc k) 0 (λ e. omega arith)) (sym (bare_some p (two p.e) (λ y. omega arith)))

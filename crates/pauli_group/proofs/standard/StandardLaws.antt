@@ -1,58 +1,47 @@
 -- Laws of the standard generators in the work area: how they are made of the products, and what they tell.
-use Rattle.std.proofs.Common.{◌≡◌, ℕ, zero, suc, ◌+◌, ◌-◌, ◌*◌, ◌%◌, ◌≤◌, max, List, [], ◌∷◌, ◌++◌, map, length, take, drop, sym, refl, ap, ◌∙◌, ap₂, arith, take_at, drop_at}
+use Rattle.std.proofs.Common.{◌≡◌, Bool, true, false, not, ◌&&◌, ◌<◌, ℕ, zero, suc, ◌+◌, ◌-◌, ◌*◌, ◌%◌, ◌≤◌, max, List, [], ◌∷◌, ◌++◌, map, length, take, drop, sym, refl, ap, ◌∙◌, ap₂, arith, take_at, drop_at}
 use Rattle.pauli.specs.Pauli.{Pauli}
 use Rattle.pauli.specs.Signed.{list_in}
-use Rattle.pauli.proofs.signed.SignedLaws.{zero_bit}
 use Rattle.pauli.proofs.write.Writers.{length_list}
 use Rattle.pauli_theory.specs.Standard.{if_zero, exponent_mod, appended, some_order_four, some_anticommute, some_imaginary, some_minus, step_of}
 use Rattle.pauli_theory.proofs.IfZero.{if_zero_zero, if_zero_more}
 use Rattle.pauli_group.specs.Inner.Area.{standard_at, Outside}
 use Rattle.pauli_group.specs.Inner.Lists.{from_products, stabilizer_of}
+use Rattle.pauli_group.specs.Answers.{yes_number}
 use Rattle.pauli_group.proofs.list.ListLaws.{list_append, outside_join, outside_wider}
 use Rattle.pauli_group.proofs.scan.PhaseLaws.{modulus_in}
-use Rattle.pauli_group.proofs.scan.ScanLaws.{more_than, search_lt, search_imaginary}
 
--- only whether the number is 0 matters
-pub if_zero_alike {ℓ} : {X : Type ℓ} (m n : ℕ) (x y : X) → (m ≡ 0 → n ≡ 0) → (n ≡ 0 → m ≡ 0) → if_zero m x y ≡ if_zero n x y
-unfolding if_zero
-if_zero_alike zero zero x y f g = refl
-if_zero_alike zero (suc n) x y f g = absurd (omega (arith, f refl))
-if_zero_alike (suc m) zero x y f g = absurd (omega (arith, g refl))
-if_zero_alike (suc m) (suc n) x y f g = refl
+-- ---- tests
 
-pub if_zero_le : (n : ℕ) → if_zero {X = ℕ} n 1 0 ≤ 1
+pub yes_number_not : (b : Bool) → yes_number (not b) ≡ if_zero (yes_number b) 1 0
 unfolding if_zero
-if_zero_le zero = omega arith
-if_zero_le (suc n) = omega arith
+yes_number_not true = refl
+yes_number_not false = refl
 
-if_zero_twice : (n : ℕ) → 2 + 2 * if_zero n 1 0 ≡ if_zero n 4 2
-unfolding if_zero
-if_zero_twice zero = refl
-if_zero_twice (suc n) = refl
+none_of_three : (a b c : Bool) → yes_number ((not a && not b) && not c) ≡ if_zero (max (yes_number a) (max (yes_number b) (yes_number c))) 1 0
+none_of_three true b c = sym (if_zero_more _ 1 0 (omega arith))
+none_of_three false true c = sym (if_zero_more _ 1 0 (omega arith))
+none_of_three false false true = sym (if_zero_more _ 1 0 (omega arith))
+none_of_three false false false = sym (if_zero_zero 1 0 refl)
 
 -- ---- what the standard generators tell
 
--- the code adds the numbers a, b and c, and k is 1 where the sum is 0
-module _ (clash : ℕ) (ps : List Pauli) (a b c k : ℕ) (ea : a ≡ clash) (eb : b ≡ some_order_four ps) (ec : c ≡ some_minus ps)
-    (ek : k ≡ if_zero (a + b + c) 1 0) where
-  abbrev test : ℕ
-  test = max clash (max (some_order_four ps) (some_minus ps))
-
-  pub stabilizer_found : k ≡ stabilizer_of clash ps
+-- the tests a, b and c of the code
+module _ (clash : ℕ) (ps : List Pauli) (a b c : Bool) (ea : yes_number a ≡ clash) (eb : yes_number b ≡ some_order_four ps) (ec : yes_number c ≡ some_minus ps) where
+  pub stabilizer_found : yes_number ((not a && not b) && not c) ≡ stabilizer_of clash ps
   unfolding stabilizer_of
-  stabilizer_found = ek ∙ if_zero_alike (a + b + c) test 1 0 (λ e. omega arith) (λ e. omega arith)
+  stabilizer_found = rw (← ea, ← eb, ← ec) (none_of_three a b c)
 
-  pub step_even : (i : ℕ) → i ≡ some_imaginary ps → (i ≡ 1 → ⊥) → 2 + 2 * k ≡ step_of clash ps
-  unfolding step_of
-  step_even i ei d =
-      ap (λ (j : ℕ). 2 + 2 * j) ek ∙ if_zero_twice (a + b + c)
-      ∙ if_zero_alike (a + b + c) test 4 2 (λ e. omega arith) (λ e. omega arith)
-      ∙ sym (if_zero_zero (if_zero test 4 2) 1 (sym ei ∙ zero_bit i (omega (arith, search_lt search_imaginary ps)) d))
+-- 4 where a stabilizer group is told, else 2
+step_even : (n : ℕ) → ◌≡◌ {A = ℕ} (if_zero (if_zero {X = ℕ} n 1 0) 2 4) (if_zero n 4 2)
+unfolding if_zero
+step_even zero = refl
+step_even (suc n) = refl
 
-pub step_odd : (clash : ℕ) (ps : List Pauli) (i : ℕ) → i ≡ some_imaginary ps → i ≡ 1 → 1 ≡ step_of clash ps
-unfolding step_of
-step_odd clash ps i ei e =
-    sym (if_zero_more (some_imaginary ps) (if_zero (max clash (max (some_order_four ps) (some_minus ps))) 4 2) 1 (omega arith))
+pub step_found : (clash : ℕ) (ps : List Pauli) (s : Bool) → yes_number s ≡ stabilizer_of clash ps → (i : Bool) → yes_number i ≡ some_imaginary ps
+    → if_zero (yes_number i) (if_zero (yes_number s) 2 4) 1 ≡ step_of clash ps
+unfolding step_of stabilizer_of
+step_found clash ps s es i ei = rw (ei, es) (ap (λ (k : ℕ). if_zero (some_imaginary ps) k 1) (step_even (max clash (max (some_order_four ps) (some_minus ps)))))
 
 -- ---- the standard generators, made of the products
 
@@ -124,22 +113,21 @@ module _ (w : List ℕ) (n rank : ℕ) (h : rank ≤ n) where
         (λ (rs : List Pauli) (j : ℕ). if_zero (max (some_order_four rs) (some_anticommute rs)) (rs ++ appended j rs)
         (map (exponent_mod 2) rs ++ appended (j % 2) rs)) (sym (l ∙ ap (λ (j : ℕ). map (exponent_mod j) front) e)) (sym e)
 
-    pub made_plain : (f a r : ℕ) (x : List ℕ) → f ≡ some_order_four qs → a ≡ some_anticommute qs → f + a ≡ 0
+    pub made_plain : (r : ℕ) (x : List ℕ) → bad ≡ 0
         → r ≡ length (qs ++ appended k qs) → list_in x standard_at r ≡ qs ++ appended k qs
         → Outside (standard_at + 5 * rank) 5 u x → Standardized r x
-    made_plain f a r x ef ea z =
+    made_plain r x z =
         finished u x r (qs ++ appended k qs)
-        (sym (made_here ∙ if_zero_zero (qs ++ appended k qs) (map (exponent_mod 2) qs ++ appended (k % 2) qs) (omega arith))) o
+        (sym (made_here ∙ if_zero_zero (qs ++ appended k qs) (map (exponent_mod 2) qs ++ appended (k % 2) qs) z)) o
 
-    pub made_halved : (f a r : ℕ) (v x : List ℕ) → f ≡ some_order_four qs → a ≡ some_anticommute qs → (f + a ≡ 0 → ⊥)
+    pub made_halved : (r : ℕ) (v x : List ℕ) → 0 < bad
         → list_in v standard_at rank ≡ map (exponent_mod 2) qs → Outside standard_at (5 * rank) u v
         → r ≡ length (list_in v standard_at rank ++ appended (k % 2) (list_in v standard_at rank))
         → list_in x standard_at r ≡ list_in v standard_at rank ++ appended (k % 2) (list_in v standard_at rank)
         → Outside (standard_at + 5 * rank) 5 v x → Standardized r x
-    made_halved f a r v x ef ea z half p =
+    made_halved r v x z half p =
         finished v x r (list_in v standard_at rank ++ appended (k % 2) (list_in v standard_at rank))
         (ap (λ (rs : List Pauli). rs ++ appended (k % 2) rs) half
         ∙ ap (map (exponent_mod 2) qs ++◌) (appended_map (k % 2) (exponent_mod 2) qs)
-        ∙ sym (made_here ∙ if_zero_more bad (qs ++ appended k qs) (map (exponent_mod 2) qs ++ appended (k % 2) qs)
-        (more_than bad (λ y. z (omega arith)))))
+        ∙ sym (made_here ∙ if_zero_more bad (qs ++ appended k qs) (map (exponent_mod 2) qs ++ appended (k % 2) qs) z))
         (outside_join o p)

@@ -62,71 +62,43 @@ module _ (p q g : Pauli) where
 
 -- ---- the first that anticommutes
 
-abbrev same : ℕ → ℕ
-same k = k
-
-abbrev first : Pauli → ℕ → List Pauli → ℕ → ℕ
-first x i gs n = on_position (position x i gs) n same
-
 -- of the n Paulis from word base on, the first that anticommutes with x is the first from number i on
 pub record FirstFrom (x : Pauli) (w : List ℕ) (base n i : ℕ) : Type 0 where
   pub within : i ≤ n
-  pub same : on_position (position x 0 (list_in w base n)) n (λ k. k) ≡ on_position (position x i (list_from w base n i)) n (λ k. k)
+  pub same : position x 0 (list_in w base n) ≡ position x i (list_from w base n i)
 
 pub first_start : (x : Pauli) (w : List ℕ) (base n : ℕ) → FirstFrom x w base n 0
-first_start x w base n = record { within = omega arith; same = ap (λ (ps : List Pauli). first x 0 ps n) (list_start w base n) }
+first_start x w base n = record { within = omega arith; same = ap (position x 0) (list_start w base n) }
 
 sets_value : (x p q : Pauli) → normal p ≡ normal q → anticommute x p ≡ anticommute x q
 unfolding anticommute normal
 sets_value x p q h = ap (λ (r : Pauli). anticommute x r) h
 
-at_hit : (x g : Pauli) (i n : ℕ) (gs : List Pauli) → anticommute x g ≡ 1 → first x i (g ∷ gs) n ≡ i
-unfolding position if_bit on_position
-at_hit x g i n gs h = rw h
-
-at_miss : (x g : Pauli) (i n : ℕ) (gs : List Pauli) → anticommute x g ≡ 0 → first x i (g ∷ gs) n ≡ first x (i + 1) gs n
+at_hit : (x g : Pauli) (i : ℕ) (gs : List Pauli) → anticommute x g ≡ 1 → position x i (g ∷ gs) ≡ some i
 unfolding position if_bit
-at_miss x g i n gs h = let e : suc i ≡ i + 1 = omega arith in rw (h, e)
+at_hit x g i gs h = rw h
 
-at_end : (x : Pauli) (i n : ℕ) → first x i [] n ≡ n
-unfolding position on_position
-at_end x i n = refl
+at_miss : (x g : Pauli) (i : ℕ) (gs : List Pauli) → anticommute x g ≡ 0 → position x i (g ∷ gs) ≡ position x (i + 1) gs
+unfolding position if_bit
+at_miss x g i gs h = let e : suc i ≡ i + 1 = omega arith in rw (h, e)
 
 module _ {x : Pauli} {w : List ℕ} {base n i : ℕ} (f : FirstFrom x w base n i) where
-  pub first_end : n ≤ i → (n ≤ n) × (on_position (position x 0 (list_in w base n)) n (λ k. k) ≡ n)
-  first_end h = (omega arith, f.same ∙ ap (λ (ps : List Pauli). first x i ps n) (list_end w base n i h) ∙ at_end x i n)
+  pub first_end : n ≤ i → none ≡ position x 0 (list_in w base n)
+  unfolding position
+  first_end h = sym (f.same ∙ ap (position x i) (list_end w base n i h))
 
   module _ (h : i < n) (r : Held) (l : normal (held r) ≡ normal (pauli_in w (base + 5 * i))) where
-    next : first x 0 (list_in w base n) n ≡ first x i (pauli_in w (base + 5 * i) ∷ list_from w base n (i + 1)) n
-    next = f.same ∙ ap (λ (ps : List Pauli). first x i ps n) (list_next w base n i h)
+    next : position x 0 (list_in w base n) ≡ position x i (pauli_in w (base + 5 * i) ∷ list_from w base n (i + 1))
+    next = f.same ∙ ap (position x i) (list_next w base n i h)
 
-    pub first_hit : anticommute x (held r) ≡ 1 → (i ≤ n) × (on_position (position x 0 (list_in w base n)) n (λ k. k) ≡ i)
-    first_hit e =
-        (omega arith, next ∙ at_hit x _ i n (list_from w base n (i + 1)) (sets_value x _ _ (sym l) ∙ e))
+    pub first_hit : anticommute x (held r) ≡ 1 → some i ≡ position x 0 (list_in w base n)
+    first_hit e = sym (next ∙ at_hit x _ i (list_from w base n (i + 1)) (sets_value x _ _ (sym l) ∙ e))
 
     pub first_miss : anticommute x (held r) ≡ 0 → FirstFrom x w base n (i + 1)
     first_miss e = record {
       within = omega arith;
-      same = next ∙ at_miss x _ i n (list_from w base n (i + 1)) (sets_value x _ _ (sym l) ∙ e);
+      same = next ∙ at_miss x _ i (list_from w base n (i + 1)) (sets_value x _ _ (sym l) ∙ e);
     }
-
--- what it says about the position
-found_at : (o : Option ℕ) (n k : ℕ) → on_position o n same ≡ k → k < n → o ≡ some k
-unfolding on_position
-found_at none n k e h = absurd (omega arith)
-found_at (some j) n k e h = ap some e
-
-none_next : (d i n k : ℕ) (o : Option ℕ) → i < n → (on_position o n same ≡ k → o ≡ none) → n ≤ k
-    → on_position (if_bit d (some i) o) n same ≡ k → if_bit d (some i) o ≡ none
-unfolding if_bit on_position
-none_next zero i n k o b more h e = more e
-none_next (suc d) i n k o b more h e = absurd (omega arith)
-
-found_none : (x : Pauli) (i n k : ℕ) (gs : List Pauli) → i + length gs ≤ n → first x i gs n ≡ k → n ≤ k → position x i gs ≡ none
-unfolding position
-found_none x i n k [] b e h = refl
-found_none x i n k (g ∷ gs) b e h =
-    none_next (anticommute x g) i n k (position x (suc i) gs) (omega arith) (λ u. found_none x (suc i) n k gs (omega arith) u h) h e
 
 -- ---- what is cleared, Pauli by Pauli
 
@@ -317,12 +289,11 @@ module _ (l : List ℕ) (p : Pairing) (size : length l ≡ 4096) (some_left : 0 
       ap₂ (λ (n : ℕ) (gs : List Pauli). map normal (paired_from n gs conjugates others)) e
       (ap (list_in l list_at) f ∙ list_snoc l list_at m)
 
-  module _ (x : Held) (loaded : normal (held x) ≡ normal last) (k : ℕ)
-      (found : on_position (position (held x) 0 rest) m (λ j. j) ≡ k) where
-    place : on_position (position last 0 rest) m same ≡ k
-    place = ap (λ (o : Option ℕ). on_position o m same) (positions last (held x) rest rest (sym loaded) refl) ∙ found
+  module _ (x : Held) (loaded : normal (held x) ≡ normal last) where
+    place : position last 0 rest ≡ position (held x) 0 rest
+    place = positions last (held x) rest rest (sym loaded) refl
 
-    pub stored_alone : m ≤ k → (u : List ℕ) → u ≡ sets l (further_at + 5 * p.commuting) (pauli_words x)
+    pub stored_alone : none ≡ position (held x) 0 rest → (u : List ℕ) → u ≡ sets l (further_at + 5 * p.commuting) (pauli_words x)
         → PairedTo l p u (record { left = m; conjugate = p.conjugate; commuting = p.commuting + 1 })
     unfolding paired_in Plain
     stored_alone h u g =
@@ -340,13 +311,13 @@ module _ (l : List ℕ) (p : Pairing) (size : length l ≡ 4096) (some_left : 0 
               (ap (λ (q : Pauli). q ∷ []) (normal_twice (held x) ∙ loaded)))
               ∙ sym (begun
               ∙ ap (map normal)
-              (step_none m rest last conjugates others (found_none last 0 m k rest (omega (arith, length_list l list_at m)) place h)));
+              (step_none m rest last conjugates others (place ∙ sym h)));
           less = omega arith;
           count = omega arith;
           plain = λ t. ap (map normal) b ∙ t ∙ sym b;
         }
 
-    module _ (h : k < m) (z y : Held) (loaded-z : normal (held z) ≡ normal (pauli_in l (list_at + 5 * k)))
+    module _ (k : ℕ) (found : some k ≡ position (held x) 0 rest) (h : k < m) (z y : Held) (loaded-z : normal (held z) ≡ normal (pauli_in l (list_at + 5 * k)))
         (loaded-y : normal (held y) ≡ normal (pauli_in l (list_at + 5 * (m - 1))))
         (v : List ℕ) (v-is : v ≡ sets l (list_at + 5 * k) (pauli_words y))
         (w : List ℕ) (w_list : list_in w list_at (m - 1) ≡ map normal (cleared k (held x) (held z) (list_in v list_at (m - 1))))
@@ -427,7 +398,7 @@ module _ (l : List ℕ) (p : Pairing) (size : length l ≡ 4096) (some_left : 0 
             (sym (paired_fuel (m - 1) now _ others
             (omega (arith, cleared_length k last (get_or rest k I) (swap_remove k rest), removed_length k rest (omega (arith, length_list l list_at m)), length_list l list_at m)))
             ∙ ap (λ (n : ℕ). paired_from n now (conjugates ++ last ∷ get_or rest k I ∷ []) others) (sym e)
-            ∙ sym (step_some m k rest last conjugates others (found_at (position last 0 rest) m k place h)))
+            ∙ sym (step_some m k rest last conjugates others (place ∙ sym found)))
             ∙ sym begun;
         less = omega arith;
         count = omega arith;

@@ -13,7 +13,8 @@ use Rattle.pauli_group.specs.declared.group.Description.{Description}
 use Rattle.pauli_group.specs.WorkArea.{area_after}
 use Rattle.pauli_group.specs.Calls.{one_list}
 use Rattle.pauli_group.specs.Inner.Area.{list_at, standard_at, further_at, row_words, stride_of, Outside}
-use Rattle.pauli_group.specs.Inner.Lists.{form_over, from_products}
+use Rattle.pauli_group.specs.Inner.Lists.{step_told, form_over, from_products}
+use Rattle.pauli_group.specs.Answers.{yes_number}
 use Rattle.pauli.specs.declared.refusal.Refusal.{Refusal}
 
 -- the products of the Paulis ps that the rows of T name
@@ -57,7 +58,7 @@ facts_of promise gs =
 
 -- the facts that the code holds
 abbrev pub facts_in : Description → Facts
-facts_in d = record { rank = d.rank; step = d.step; clash = d.clash; stabilizer = d.stabilizer }
+facts_in d = record { rank = d.rank; step = step_told d.signs.phases; clash = yes_number d.signs.clash; stabilizer = yes_number d.signs.stabilizer }
 
 -- what the description of a list promises: what it tells, and the work area at exit
 pub record DescriptionCall (promise : Promise) (b work : List ℕ) (r : Result Description Refusal) (work' : List ℕ) : Type 0 where

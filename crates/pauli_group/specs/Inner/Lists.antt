@@ -1,10 +1,13 @@
 -- Lists of Paulis over the places of a support, in the work area.
-use Rattle.std.specs.Prelude.{◌≡◌, ℕ, ◌+◌, ◌*◌, ◌/◌, ◌%◌, ◌^◌, ◌<◌, ◌≤◌, max, List, ◌++◌, map, length, take, drop}
+use Rattle.std.specs.Prelude.{◌≡◌, ℕ, ◌+◌, ◌*◌, ◌/◌, ◌%◌, ◌^◌, ◌<◌, ◌≤◌, max, Option as CodeOption, Some, None, Bool, true, false, MatchBool, List, ◌++◌, map, length, take, drop}
+use Rattle.std.proofs.Math.Option.{Option, some, none as nothing}
 use Rattle.binar.specs.Echelon.{EchelonForm, echelon}
 use Rattle.binar.specs.Words.{matrix}
 use Rattle.pauli.specs.Condense.{Readable, list_of, condensed}
 use Rattle.pauli.specs.Pauli.{Pauli, normal, indexed_product}
 use Rattle.pauli.specs.Roll.{Sparse, support, count_of}
+use Rattle.pauli.specs.Signed.{held, pauli_in}
+use Rattle.pauli.specs.declared.signed.Pauli.{Pauli as Held}
 use Rattle.pauli.specs.Sets.{pauli_of}
 use Rattle.pauli.specs.Support.{most_qubits}
 use Rattle.pauli.specs.Told.{answer}
@@ -49,6 +52,24 @@ from_products r qs =
     let m = modulus_of (map (λ q. q.e) (drop r qs)) in
     let ps = map (exponent_mod m) (take r qs) in
     if_zero (max (some_order_four ps) (some_anticommute ps)) (ps ++ appended m ps) (map (exponent_mod 2) ps ++ appended (m % 2) ps)
+
+-- what the code has found
+abbrev pub found : CodeOption ℕ → Option ℕ
+found (Some n) = some n
+found None = nothing
+
+-- ---- tests of the Paulis in words
+
+-- a test tells r of the Pauli at word `at`, read up to the value of its exponent
+pub record Tested (tells : Held → Bool → Type 0) (w : List ℕ) (at : ℕ) (r : Bool) : Type 0 where
+  pub pauli : Held
+  pub read : normal (held pauli) ≡ normal (pauli_in w at)
+  pub told : tells pauli r
+
+-- whether the test holds of one of the n Paulis from word base on
+abbrev pub SomeTested : (Held → Bool → Type 0) → List ℕ → ℕ → ℕ → Bool → Type 0
+SomeTested tells w base n r =
+    MatchBool r ((i : ℕ) × (i < n) × Tested tells w (base + 5 * i) true) ((i : ℕ) → i < n → Tested tells w (base + 5 * i) false)
 
 -- ---- what a call tells of a group, by its standard generators ps
 

@@ -1,6 +1,6 @@
 -- The common part of two groups, in the work area.
-use Rattle.std.specs.Prelude.{◌≡◌, ℕ, ◌+◌, ◌*◌, ◌/◌, ◌%◌, ◌≤◌, cond, List, ◌++◌, map, length, nat_lt}
-use Rattle.std.proofs.Math.Option.{Option, some, none}
+use Rattle.std.specs.Prelude.{◌≡◌, ℕ, ◌+◌, ◌*◌, ◌/◌, ◌%◌, ◌≤◌, List, ◌++◌, map, length}
+use Rattle.std.proofs.Math.Option.{Option}
 use Rattle.binar.specs.Layout.{form_in, FormLeft}
 use Rattle.pauli.specs.Pauli.{Pauli}
 use Rattle.pauli.specs.Signed.{list_in}
@@ -58,7 +58,3 @@ noted e p = with_exponent (p.e % 4 * 4 + e) p
 -- the shared exponent for the two that were noted last, where the phases of the groups have the steps a and b
 unfoldable pub shared_noted : ℕ → ℕ → Pauli → Option ℕ
 shared_noted a b p = shared_exponent a b (p.e / 4 % 4) (p.e % 4)
-
--- an exponent below 4, or none
-unfoldable pub exponent_found : ℕ → Option ℕ
-exponent_found e = cond (nat_lt e 4) (some e) none

@@ -1,55 +1,44 @@
-use Prim.Native.Nat.{◌+◌, ◌*◌}
-use Rattle.binar.proofs.echelon.Bounds.{found_in}
-use Rattle.binar.proofs.echelon.Matrix.{length_matrix, row_in, two_rows}
-use Rattle.binar.proofs.echelon.Passes.{words_set, final_start, total_start, final_stop, total_stop, stops_end, stops_none, final_turn, total_turn}
+use Prim.Native.Nat.{◌+◌, ◌*◌, ◌<◌, ◌≤◌}
+use Rattle.binar.proofs.echelon.Matrix.{row_in, two_rows}
+use Rattle.binar.proofs.echelon.Passes.{final_start, total_start, final_stop, total_stop, stops, turn_words, final_turn, total_turn}
 use Rattle.binar.proofs.row.Slice.{exchanged}
-use lib.ListN.{length-set}
+use lib.ListN.{length, length-set}
 use mathlib.Core.Path.{refl, sym, ◌∙◌}
 use native.Mathlib.Omega.{arith}
 use Rattle.binar.proofs.echelon.echelonize.Goals as goal
 
-pub loop-r-init : goal.loop-r-init
-loop-r-init c = (omega arith, omega arith, refl, (λ q. (c.slice_known-1.given q).fits), refl, refl)
+pub loop-found-init : goal.loop-found-init
+loop-found-init c = (omega arith, omega arith, refl, (λ q. (c.type_inv.w q).fits), refl, refl)
 
-pub pivot_of-found-requires : goal.pivot_of-found-requires
-pivot_of-found-requires c = (omega (arith, c.requires.room, c.loop-r.invariant.2), c.requires.wide)
+pub overflow_mul-found : goal.overflow_mul-found
+overflow_mul-found c = omega (arith, row_in c.in-Some.found.row c.args.shape.rows c.args.shape.stride c.in-Some.ensures.inside.1)
 
-pub returns-in-Nothing : goal.returns-in-Nothing
-returns-in-Nothing c = let e = stops_none _ _ _ _ _ _ c.loop-r-test.true (sym c.pivot_of-found.ensures ∙ c.in-Nothing.is) in record { rank = sym (sym (total_start _ _ _ _) ∙ c.loop-r.invariant.5 ∙ total_stop _ _ _ _ _ _ e); left = sym (sym (final_start _ _ _ _) ∙ c.loop-r.invariant.4 ∙ final_stop _ _ _ _ _ _ c.loop-r.invariant.3 (omega (arith, c.requires.room, c.loop-r.invariant.2)) e) }
-
-pub overflow_mul-i : goal.overflow_mul-i
-overflow_mul-i c = let p = found_in _ _ _ _ _ (rw (length_matrix _ _ _) c.loop-r.invariant.0) c.loop-r.invariant.1 (sym c.pivot_of-found.ensures ∙ c.in-At.is) in omega (arith, c.requires.room, row_in c.in-At.cell.row c.args.rows c.args.stride (omega (arith, p.1, length_matrix c.args.stride c.args.rows c.loop-r.w)))
-
-pub overflow_mul-r : goal.overflow_mul-r
-overflow_mul-r c = omega (arith, c.requires.room, row_in c.loop-r.r c.args.rows c.args.stride c.loop-r-test.true)
+pub overflow_mul-pivot : goal.overflow_mul-pivot
+overflow_mul-pivot c = omega (arith, c.in-Some.ensures.inside, row_in c.loop-found.next.row c.args.shape.rows c.args.shape.stride (omega (arith, c.in-Some.ensures.inside)))
 
 pub swap_rows-requires : goal.swap_rows-requires
-swap_rows-requires c = let p = found_in _ _ _ _ _ (rw (length_matrix _ _ _) c.loop-r.invariant.0) c.loop-r.invariant.1 (sym c.pivot_of-found.ensures ∙ c.in-At.is) in two_rows _ _ _ _ _ (omega (arith, c.requires.room, c.loop-r.invariant.2)) (omega (arith, p.1, length_matrix c.args.stride c.args.rows c.loop-r.w)) c.loop-r-test.true
+swap_rows-requires c = two_rows _ _ _ _ _ (omega arith) c.in-Some.ensures.inside.1 (omega (arith, c.in-Some.ensures.inside))
 
-pub reduce-requires : goal.reduce-requires
-reduce-requires c = let p = found_in _ _ _ _ _ (rw (length_matrix _ _ _) c.loop-r.invariant.0) c.loop-r.invariant.1 (sym c.pivot_of-found.ensures ∙ c.in-At.is) in (omega (arith, c.requires.room, c.loop-r.invariant.2, c.swap_rows.auto.w), c.loop-r-test.true, omega (arith, p.3, c.requires.wide))
-
-pub overflow_mul-w : goal.overflow_mul-w
-overflow_mul-w c = omega (arith, c.requires.room)
-
-pub overflow_add-w : goal.overflow_add-w
-overflow_add-w c = omega (arith, c.requires.room, c.loop-r-test.true)
-
-pub offset_bounds-w-rows : goal.offset_bounds-w-rows
-offset_bounds-w-rows c = omega (arith, c.requires.room, c.loop-r-test.true)
-
-pub bounds-w-rows : goal.bounds-w-rows
-bounds-w-rows c = omega (arith, c.requires.room, c.loop-r-test.true, c.loop-r.invariant.2, c.swap_rows.auto.w, c.reduce.auto.w)
-
-pub overflow_add-c : goal.overflow_add-c
-overflow_add-c c = let p = found_in _ _ _ _ _ (rw (length_matrix _ _ _) c.loop-r.invariant.0) c.loop-r.invariant.1 (sym c.pivot_of-found.ensures ∙ c.in-At.is) in omega (arith, p.3)
-
-pub loop-r-smaller : goal.loop-r-smaller
-loop-r-smaller c = omega (arith, c.loop-r-test.true)
-
-pub loop-r-preserved : goal.loop-r-preserved
+pub loop-found-preserved : goal.loop-found-preserved
 unfolding exchanged
-loop-r-preserved c = let p = found_in _ _ _ _ _ (rw (length_matrix _ _ _) c.loop-r.invariant.0) c.loop-r.invariant.1 (sym c.pivot_of-found.ensures ∙ c.in-At.is) in (omega arith, omega (arith, p.3), simp length-set (c.reduce.auto.w ∙ c.swap_rows.auto.w ∙ c.loop-r.invariant.2), words_set c.reduce.new.w (c.args.rows * c.args.stride + c.loop-r.r) c.in-At.cell.col (λ q. (c.slice_known-in-At-2-1.given q).fits) (omega (arith, p.3)), c.loop-r.invariant.4 ∙ final_turn _ _ _ _ _ _ c.in-At.cell c.loop-r.invariant.3 (omega (arith, c.requires.room, c.loop-r.invariant.2)) c.loop-r-test.true (omega (arith, p.1, length_matrix c.args.stride c.args.rows c.loop-r.w)) _ _ c.swap_rows.ensures c.reduce.ensures (sym c.pivot_of-found.ensures ∙ c.in-At.is), c.loop-r.invariant.5 ∙ total_turn _ _ _ _ _ _ c.in-At.cell c.loop-r.invariant.3 (omega (arith, c.requires.room, c.loop-r.invariant.2)) c.loop-r-test.true (omega (arith, p.1, length_matrix c.args.stride c.args.rows c.loop-r.w)) _ _ c.swap_rows.ensures c.reduce.ensures (sym c.pivot_of-found.ensures ∙ c.in-At.is))
+loop-found-preserved c =
+    let i = c.loop-found.invariant in
+    let inside = c.in-Some.ensures.inside in
+    let room : c.args.shape.rows * c.args.shape.stride + c.args.shape.rows ≤ length c.loop-found.w = omega arith in
+    let here : c.loop-found.next.row < c.args.shape.rows = omega arith in
+    let first = sym c.pivot_of.ensures.first ∙ c.in-Some.is in (
+      omega arith,
+      omega arith,
+      simp length-set (c.reduce.auto.w ∙ c.swap_rows.auto.w ∙ i.2),
+      turn_words _ _ _ _ _ _ c.in-Some.found i.3 room here inside.1 _ _ c.swap_rows.ensures c.reduce.ensures first (omega arith),
+      i.4 ∙ final_turn _ _ _ _ _ _ c.in-Some.found i.3 room here inside.1 _ _ c.swap_rows.ensures c.reduce.ensures first,
+      i.5 ∙ total_turn _ _ _ _ _ _ c.in-Some.found i.3 room here inside.1 _ _ c.swap_rows.ensures c.reduce.ensures first,
+    )
 
 pub returns : goal.returns
-returns c = let e = stops_end _ _ _ _ _ _ c.loop-r-test.false in record { rank = sym (sym (total_start _ _ _ _) ∙ c.loop-r.invariant.5 ∙ total_stop _ _ _ _ _ _ e); left = sym (sym (final_start _ _ _ _) ∙ c.loop-r.invariant.4 ∙ final_stop _ _ _ _ _ _ c.loop-r.invariant.3 (omega (arith, c.requires.room, c.loop-r.invariant.2)) e) }
+returns c =
+    let i = c.loop-found.invariant in
+    let e = stops _ _ _ _ _ _ (sym c.pivot_of.ensures.first ∙ c.in_default.is) in record {
+      rank = sym (sym (total_start _ _ _ _) ∙ i.5 ∙ total_stop _ _ _ _ _ _ e);
+      left = sym (sym (final_start _ _ _ _) ∙ i.4 ∙ final_stop _ _ _ _ _ _ i.3 (omega arith) e);
+    }

@@ -6,8 +6,17 @@ use lib.ListN.{length}
 use mathlib.Core.Path.{◌≡◌}
 use Rattle.binar.proofs.echelon.echelonize.Given as goal
 
-abbrev pub invariant-loop-r : goal.invariant-loop-r
-invariant-loop-r l = (l.r ≤ l.rows) × (l.c ≤ l.cols) × (length l.w ≡ length l.initial.w) × AreWords l.w × (final l.initial.w l.stride l.rows l.cols 0 0 ≡ final l.w l.stride l.rows l.cols l.r l.c) × (total l.initial.w l.stride l.rows l.cols 0 0 ≡ total l.w l.stride l.rows l.cols l.r l.c)
+abbrev pub invariant-loop-found : goal.invariant-loop-found
+invariant-loop-found l =
+    let s = l.shape.stride in
+    let n = l.shape.rows in
+    let cols = l.shape.cols in
+    (l.next.row ≤ n)
+    × (l.next.col ≤ cols)
+    × (length l.w ≡ length l.initial.w)
+    × AreWords l.w
+    × (final l.initial.w s n cols 0 0 ≡ final l.w s n cols l.next.row l.next.col)
+    × (total l.initial.w s n cols 0 0 ≡ total l.w s n cols l.next.row l.next.col)
 
-abbrev pub decreases-loop-r : goal.decreases-loop-r
-decreases-loop-r l = l.rows - l.r
+abbrev pub decreases-loop-found : goal.decreases-loop-found
+decreases-loop-found l = l.shape.rows - l.next.row

@@ -5,33 +5,27 @@ use mathlib.Core.Path.{refl, sym, ◌∙◌}
 use native.Mathlib.Omega.{arith}
 use Rattle.binar.proofs.echelon.pivot_of.Goals as goal
 
-pub search-init : goal.search-init
+pub loop-col-init : goal.loop-col-init
 unfolding pivot_of
-search-init c = refl
+loop-col-init c = refl
 
-pub loop-i-init : goal.loop-i-init
-loop-i-init c = (omega arith, c.search.invariant ∙ col_next _ _ _ _ c.if-c-cols.false)
+pub loop-row-init : goal.loop-row-init
+loop-row-init c = c.loop-col.invariant ∙ col_next _ _ _ _ c.loop-col-test.true
 
-pub overflow_mul-i : goal.overflow_mul-i
-overflow_mul-i c = omega (arith, row_in c.loop-i.i c.args.rows c.args.stride c.loop-i-test.true, c.requires)
+pub overflow_mul-row : goal.overflow_mul-row
+overflow_mul-row c = omega (arith, row_in c.loop-row.row c.args.shape.rows c.args.shape.stride c.loop-row-test.true)
 
 pub index-requires : goal.index-requires
-index-requires c = omega (arith, row_in c.loop-i.i c.args.rows c.args.stride c.loop-i-test.true, c.requires)
+index-requires c = omega (arith, row_in c.loop-row.row c.args.shape.rows c.args.shape.stride c.loop-row-test.true)
 
-pub loop-i-preserved : goal.loop-i-preserved
-loop-i-preserved c = (omega arith, c.loop-i.invariant.1 ∙ row_miss _ _ _ _ (rw (length_matrix _ _ _) c.loop-i-test.true) (λ e. c.if-index-eq1.false (c.index.ensures ∙ cell_bit _ _ _ _ _ (λ q. (c.shared_slice_known-1.given q).fits) c.requires.0 c.loop-i-test.true (omega arith) ∙ e)))
+pub loop-row-preserved : goal.loop-row-preserved
+loop-row-preserved c = c.loop-row.invariant ∙ row_miss _ _ _ _ (rw (length_matrix _ _ _) c.loop-row-test.true) (λ e. c.if-index-eq1.false (c.index.ensures ∙ cell_bit _ _ _ _ _ (λ q. (c.type_inv.w q).fits) c.requires c.loop-row-test.true (omega arith) ∙ e))
 
-pub overflow_add-c : goal.overflow_add-c
-overflow_add-c c = omega arith
+pub loop-col-preserved : goal.loop-col-preserved
+loop-col-preserved c = c.loop-row.invariant ∙ row_end _ _ _ _ (rw (length_matrix _ _ _) c.loop-row-test.false)
 
-pub search-smaller : goal.search-smaller
-search-smaller c = omega arith
+pub returns-then-index-eq1-clause-first : goal.returns-then-index-eq1-clause-first
+returns-then-index-eq1-clause-first c = sym (c.loop-row.invariant ∙ row_hit _ _ _ _ (rw (length_matrix _ _ _) c.loop-row-test.true) (sym (c.index.ensures ∙ cell_bit _ _ _ _ _ (λ q. (c.type_inv.w q).fits) c.requires c.loop-row-test.true (omega arith)) ∙ c.if-index-eq1.true))
 
-pub search-preserved : goal.search-preserved
-search-preserved c = c.loop-i.invariant.1 ∙ row_end _ _ _ _ (rw (length_matrix _ _ _) c.loop-i-test.false)
-
-pub returns-then-c-cols : goal.returns-then-c-cols
-returns-then-c-cols c = sym (c.search.invariant ∙ col_end _ _ _ _ c.if-c-cols.true)
-
-pub returns-then-index-eq1 : goal.returns-then-index-eq1
-returns-then-index-eq1 c = sym (c.loop-i.invariant.1 ∙ row_hit _ _ _ _ (rw (length_matrix _ _ _) c.loop-i-test.true) (sym (c.index.ensures ∙ cell_bit _ _ _ _ _ (λ q. (c.shared_slice_known-1.given q).fits) c.requires.0 c.loop-i-test.true (omega arith)) ∙ c.if-index-eq1.true))
+pub returns-after-loop-col-clause-first : goal.returns-after-loop-col-clause-first
+returns-after-loop-col-clause-first c = sym (c.loop-col.invariant ∙ col_end _ _ _ _ c.loop-col-test.false)

@@ -11,19 +11,32 @@ returns-then-not-fits_in c = form_not c.args.w.now c.args.width c.args.rows c.ar
 
 pub overflow_add-stride : goal.overflow_add-stride
 unfolding form_stride
-overflow_add-stride c = omega (arith, (fits_true c.args.width c.args.rows c.args.cols (length c.args.w.now) (sym c.fits_in.ensures ∙ c.if-not-fits_in.false)))
+overflow_add-stride c =
+    let f = fits_true c.args.width c.args.rows c.args.cols (length c.args.w.now) (sym c.fits_in.ensures ∙ c.if-not-fits_in.false) in
+    omega (arith, f)
 
 pub overflow_add-stride-2 : goal.overflow_add-stride-2
 unfolding form_stride
-overflow_add-stride-2 c = omega (arith, stride_counts c.args.width c.args.rows (length c.args.w.now) (fits_true c.args.width c.args.rows c.args.cols (length c.args.w.now) (sym c.fits_in.ensures ∙ c.if-not-fits_in.false)).1 (omega arith) (omega arith))
+overflow_add-stride-2 c =
+    let f = fits_true c.args.width c.args.rows c.args.cols (length c.args.w.now) (sym c.fits_in.ensures ∙ c.if-not-fits_in.false) in
+    omega (arith, stride_counts c.args.width c.args.rows (length c.args.w.now) f.1 (omega arith) (omega arith))
 
 pub write_identity-requires : goal.write_identity-requires
 unfolding form_stride
-write_identity-requires c = let f = (fits_true c.args.width c.args.rows c.args.cols (length c.args.w.now) (sym c.fits_in.ensures ∙ c.if-not-fits_in.false)) in (omega (arith, f.1), omega arith)
+write_identity-requires c =
+    let f = fits_true c.args.width c.args.rows c.args.cols (length c.args.w.now) (sym c.fits_in.ensures ∙ c.if-not-fits_in.false) in
+    omega (arith, f)
+
+pub invariant_of-echelonize : goal.invariant_of-echelonize
+invariant_of-echelonize c =
+    let f = fits_true c.args.width c.args.rows c.args.cols (length c.args.w.now) (sym c.fits_in.ensures ∙ c.if-not-fits_in.false) in
+    omega (arith, f)
 
 pub echelonize-requires : goal.echelonize-requires
 unfolding form_stride
-echelonize-requires c = let f = (fits_true c.args.width c.args.rows c.args.cols (length c.args.w.now) (sym c.fits_in.ensures ∙ c.if-not-fits_in.false)) in record { room = omega (arith, f.1, c.write_identity.auto.w); wide = omega (arith, f.0) }
+echelonize-requires c =
+    let f = fits_true c.args.width c.args.rows c.args.cols (length c.args.w.now) (sym c.fits_in.ensures ∙ c.if-not-fits_in.false) in
+    omega (arith, f, c.write_identity.auto.w)
 
 pub returns : goal.returns
 unfolding form_stride

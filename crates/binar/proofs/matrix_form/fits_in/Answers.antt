@@ -1,7 +1,6 @@
 -- Each answer is that of the definition, by the tests that led there.
 use Rattle.binar.proofs.matrix_form.Shapes.{fits_narrow, fits_none, fits_rows, fits_width, fits_quotient}
 use mathlib.Core.Path.{sym}
-use native.Mathlib.Omega.{arith}
 use Rattle.binar.proofs.matrix_form.fits_in.Goals as goal
 
 pub returns-then-width-cols : goal.returns-then-width-cols
@@ -15,12 +14,6 @@ returns-then-n-rows c = sym (fits_rows c.args.width c.args.rows c.args.cols c.ar
 
 pub returns-then-n-width : goal.returns-then-n-width
 returns-then-n-width c = sym (fits_width c.args.width c.args.rows c.args.cols c.args.n c.if-width-cols.false c.if-rows-eq0.false c.if-n-width.true)
-
-pub overflow_add-result : goal.overflow_add-result
-overflow_add-result c = omega arith
-
-pub overflow_add-result-2 : goal.overflow_add-result-2
-overflow_add-result-2 c = omega arith
 
 pub returns : goal.returns
 returns c = fits_quotient c.args.width c.args.rows c.args.cols c.args.n c.if-width-cols.false c.if-rows-eq0.false

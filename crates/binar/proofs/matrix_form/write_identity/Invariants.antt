@@ -1,6 +1,7 @@
--- Invariant: the first i rows are done.
-use Prim.Native.Nat.{◌-◌, ◌*◌, ◌≤◌}
+-- Invariant: the first i rows are done, and the slice had words at entry.
+use Prim.Native.Nat.{◌*◌}
 use Rattle.binar.proofs.echelon.RowByRow.{rewritten}
+use Rattle.binar.proofs.row.Slice.{AreWords}
 use Rattle.binar.specs.Echelon.{beside_identity}
 use Rattle.binar.specs.Words.{matrix}
 use lib.ListN.{length}
@@ -8,4 +9,7 @@ use mathlib.Core.Path.{◌≡◌}
 use Rattle.binar.proofs.matrix_form.write_identity.Given as goal
 
 abbrev pub invariant-loop-i : goal.invariant-loop-i
-invariant-loop-i l = (l.i ≤ l.rows) × (length l.w ≡ length l.initial.w) × (l.w ≡ rewritten l.initial.w l.stride l.rows (beside_identity (64 * l.width) 0 (matrix l.stride l.rows l.initial.w)) l.i)
+invariant-loop-i l =
+    AreWords l.initial.w
+    × (length l.w ≡ length l.initial.w)
+    × (l.w ≡ rewritten l.initial.w l.stride l.rows (beside_identity (64 * l.width) 0 (matrix l.stride l.rows l.initial.w)) l.i)

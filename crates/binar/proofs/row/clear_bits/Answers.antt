@@ -1,26 +1,10 @@
-use Rattle.binar.proofs.row.Slice.{cleared_start, cleared_step, cleared_none}
-use lib.ListN.{length-set}
-use mathlib.Core.Path.{refl, sym, ◌∙◌}
-use native.Mathlib.Omega.{arith}
+use Rattle.std.proofs.Common.{ℕ, ◌≡◌, ◌+◌, ◌-◌, ap, ◌∙◌, arith}
+use lib.ListN.{replicate, length-drop}
+use lib.Seq.{length-take-le}
+use Rattle.binar.proofs.row.Slice.{put_part, zero_words}
 use Rattle.binar.proofs.row.clear_bits.Goals as goal
 
-pub loop-k-init : goal.loop-k-init
-loop-k-init c = (omega arith, refl, cleared_start _ _ _)
-
-pub overflow_add-w : goal.overflow_add-w
-overflow_add-w c = omega arith
-
-pub offset_bounds-w-at : goal.offset_bounds-w-at
-offset_bounds-w-at c = omega arith
-
-pub bounds-w-at : goal.bounds-w-at
-bounds-w-at c = omega arith
-
-pub loop-k-preserved : goal.loop-k-preserved
-loop-k-preserved c = (omega arith, simp length-set c.loop-k.invariant.1, c.loop-k.invariant.2 ∙ cleared_step _ _ _ _ c.loop-k-test.true (omega arith))
-
-pub shape_of-w : goal.shape_of-w
-shape_of-w c = omega arith
-
 pub returns : goal.returns
-returns c = sym (c.loop-k.invariant.2 ∙ cleared_none _ _ _ _ (omega arith))
+returns c =
+    let size : c.args.at + c.args.n - c.args.at ≡ c.args.n = omega arith in
+    put_part _ _ _ _ _ (c.fill.ensures.after (λ y h. h) ∙ ap (λ (k : ℕ). replicate k 0) (length-take-le _ _ (rw length-drop (omega arith)) ∙ size) ∙ zero_words c.args.n)

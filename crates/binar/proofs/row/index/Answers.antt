@@ -6,4 +6,4 @@ use Rattle.binar.proofs.row.index.Goals as goal
 
 pub returns : goal.returns
 unfolding bit
-returns c = sym (bit_words c.args.w.now c.args.at c.args.k (λ q. (c.shared_slice_known-1.given q).fits))
+returns c = sym (bit_words c.args.w.now c.args.at c.args.k (λ q. (c.type_inv.w q).fits))

@@ -1,56 +1,32 @@
-use Prim.Native.Nat.{ℕ, ◌+◌, ◌%◌}
-use Rattle.binar.proofs.row.Scan.{zero_from, one_shifted, zero_start, zero_hit_step, zero_miss_step, zero_none_step, zero_last_step}
-use lib.Dec.{eqb}
-use lib.ListN.{get_or}
+-- The whole words, as the chain tells of them, and the columns of the word behind them.
+use Rattle.std.proofs.Common.{rules, ℕ, ◌≡◌, ◌+◌, ◌-◌, ◌/◌, ◌%◌, ◌↔◌, Bool, List, get_or, take, drop, IsTrue, EachIndex, sym, ◌∙◌, arith}
 use lib.Pow.{pow_pos}
-use mathlib.Core.Path.{sym, ap, ◌∙◌}
-use native.Mathlib.Omega.{arith}
+use Rattle.binar.proofs.row.Scan.{zero_from, one_shifted, zero_split, zero_none, zero_last}
 use Rattle.binar.proofs.row.is_zero.Goals as goal
 
-pub loop-k-init : goal.loop-k-init
-loop-k-init c = (omega arith, zero_start _ _ _)
+-- what the chain tells
+abbrev Tells : Bool → List ℕ → ℕ → ℕ → Type 0
+Tells b l i c = IsTrue b ↔ EachIndex (take (i + c / 64 - i) (drop i l)) (λ k. get_or (take (i + c / 64 - i) (drop i l)) k 0 ≡ 0)
 
-pub overflow_add-at : goal.overflow_add-at
-overflow_add-at c = omega arith
+pub nonzero_rem-result-else-cols-eq0 : goal.nonzero_rem-result-else-cols-eq0
+nonzero_rem-result-else-cols-eq0 c = rw (one_shifted (c.args.cols % 64) (omega arith)) (pow_pos _)
 
-pub offset_bounds-w-at : goal.offset_bounds-w-at
-offset_bounds-w-at c = omega arith
-
-pub bounds-w-at : goal.bounds-w-at
-bounds-w-at c = omega arith
-
-pub returns-then-w-at-ne0 : goal.returns-then-w-at-ne0
+pub returns-else-all : goal.returns-else-all
 unfolding zero_from
-returns-then-w-at-ne0 c = sym (c.loop-k.invariant.1 ∙ zero_hit_step _ _ _ _ c.loop-k-test.true (omega arith) (c.shared_slice_known-1.given _).fits c.if-w-at-ne0.true)
-
-pub overflow_add-k : goal.overflow_add-k
-overflow_add-k c = omega arith
-
-pub loop-k-smaller : goal.loop-k-smaller
-loop-k-smaller c = omega arith
-
-pub loop-k-preserved : goal.loop-k-preserved
-loop-k-preserved c = (omega arith, c.loop-k.invariant.1 ∙ zero_miss_step _ _ _ _ c.loop-k-test.true (omega arith) (c.shared_slice_known-1.given _).fits c.if-w-at-ne0.false)
+returns-else-all c =
+    let told : Tells c.all.result c.args.w.now c.args.at c.args.cols = search rules in
+    c.if-all.false ∙ sym (zero_split _ (λ q. (c.type_inv.w q).fits) c.args.at c.args.cols c.all.result (omega arith) told ∙ rw c.if-all.false)
 
 pub returns-then-cols-eq0 : goal.returns-then-cols-eq0
 unfolding zero_from
-returns-then-cols-eq0 c = sym (c.loop-k.invariant.1 ∙ zero_none_step c.args.w.now c.args.at c.args.cols c.loop-k.k (omega arith))
+returns-then-cols-eq0 c =
+    let told : Tells c.all.result c.args.w.now c.args.at c.args.cols = search rules in
+    let none : c.args.cols % 64 ≡ 0 = c.if-cols-eq0.true in
+    rw none (sym (zero_split _ (λ q. (c.type_inv.w q).fits) c.args.at c.args.cols c.all.result (omega arith) told ∙ rw (c.if-all.true, none) (zero_none c.args.w.now (c.args.at + c.args.cols / 64))))
 
-pub overflow_add-result : goal.overflow_add-result
-overflow_add-result c = omega arith
-
-pub offset_bounds-w-at-2 : goal.offset_bounds-w-at-2
-offset_bounds-w-at-2 c = omega arith
-
-pub bounds-w-at-2 : goal.bounds-w-at-2
-bounds-w-at-2 c = omega arith
-
-pub overflow_shl-result : goal.overflow_shl-result
-overflow_shl-result c = omega arith
-
-pub nonzero_rem-result-2 : goal.nonzero_rem-result-2
-nonzero_rem-result-2 c = rw (one_shifted (c.args.cols % 64) (omega arith)) (pow_pos _)
-
-pub returns : goal.returns
+pub returns-else-cols-eq0 : goal.returns-else-cols-eq0
 unfolding zero_from
-returns c = sym ((c.loop-k.invariant.1 ∙ zero_last_step c.args.w.now c.args.at c.args.cols c.loop-k.k (omega arith) (omega arith) (c.shared_slice_known-2-1.given _).fits) ∙ sym (ap (λ (x : ℕ). eqb (get_or c.args.w.now (c.args.at + c.loop-k.k) 0 % x) 0) (one_shifted (c.args.cols % 64) (omega arith))))
+returns-else-cols-eq0 c =
+    let told : Tells c.all.result c.args.w.now c.args.at c.args.cols = search rules in
+    rw (one_shifted (c.args.cols % 64) (omega arith))
+    (sym (zero_split _ (λ q. (c.type_inv.w q).fits) c.args.at c.args.cols c.all.result (omega arith) told ∙ rw c.if-all.true (zero_last c.args.w.now (c.args.at + c.args.cols / 64) (omega arith) (c.type_inv.w _).fits (c.args.cols % 64) (omega arith))))

@@ -1,54 +1,22 @@
+use Rattle.std.proofs.lemmas.List.Edits.{swap_is}
 use Rattle.binar.proofs.row.Slice.{exchanged, exchanged_step, exchanged_none, two_step_both, two_start, by_start}
-use lib.ListN.{length-set}
-use mathlib.Core.Path.{refl, sym, ◌∙◌}
+use mathlib.Core.Path.{sym, ◌∙◌}
 use native.Mathlib.Omega.{arith}
 use Rattle.binar.proofs.row.swap_rows.Goals as goal
 
 pub loop-k-init : goal.loop-k-init
-loop-k-init c = (omega arith, refl, two_start _ _ _ _ c.requires, by_start exchanged _ _ _ _)
-
-pub overflow_add-x : goal.overflow_add-x
-overflow_add-x c = omega arith
-
-pub offset_bounds-w-i : goal.offset_bounds-w-i
-offset_bounds-w-i c = omega arith
-
-pub bounds-w-i : goal.bounds-w-i
-bounds-w-i c = omega arith
-
-pub overflow_add-w : goal.overflow_add-w
-overflow_add-w c = omega arith
-
-pub offset_bounds-w-j : goal.offset_bounds-w-j
-offset_bounds-w-j c = omega arith
-
-pub bounds-w-j : goal.bounds-w-j
-bounds-w-j c = omega arith
-
-pub overflow_add-w-in-loop-k : goal.overflow_add-w-in-loop-k
-overflow_add-w-in-loop-k c = omega arith
-
-pub offset_bounds-w-i-in-loop-k : goal.offset_bounds-w-i-in-loop-k
-offset_bounds-w-i-in-loop-k c = omega arith
-
-pub bounds-w-i-in-loop-k : goal.bounds-w-i-in-loop-k
-bounds-w-i-in-loop-k c = omega arith
-
-pub overflow_add-w-in-loop-k-2 : goal.overflow_add-w-in-loop-k-2
-overflow_add-w-in-loop-k-2 c = omega arith
-
-pub offset_bounds-w-j-in-loop-k : goal.offset_bounds-w-j-in-loop-k
-offset_bounds-w-j-in-loop-k c = omega arith
-
-pub bounds-w-j-in-loop-k : goal.bounds-w-j-in-loop-k
-bounds-w-j-in-loop-k c = simp length-set (omega arith)
+loop-k-init c = ((λ q. (c.type_inv.w q).fits), two_start _ _ _ _ c.requires, by_start exchanged _ _ _ _)
 
 pub loop-k-preserved : goal.loop-k-preserved
-loop-k-preserved c = (omega arith, simp length-set c.loop-k.invariant.1, two_step_both _ _ _ _ _ c.loop-k-test.true c.loop-k.invariant.2 _ _, c.loop-k.invariant.3 ∙ exchanged_step _ _ _ _ _ c.loop-k-test.true c.loop-k.invariant.2 (λ q. (c.slice_known-in-loop-k-1.given q).fits))
-
-pub shape_of-w : goal.shape_of-w
-shape_of-w c = omega arith
+loop-k-preserved c =
+    let two = c.loop-k.invariant.1 in
+    let known = c.loop-k.invariant.0 in
+    let e = c.swap.ensures.after ∙ sym (swap_is _ _ _ 0 (omega arith) (omega arith)) in (
+      (λ q. (c.type_inv.w q).fits),
+      rw e (two_step_both _ _ _ _ _ c.loop-k-test.true two _ _),
+      c.loop-k.invariant.2 ∙ exchanged_step _ _ _ _ _ c.loop-k-test.true two known ∙ rw e,
+    )
 
 pub returns : goal.returns
 unfolding exchanged
-returns c = sym (c.loop-k.invariant.3 ∙ exchanged_none _ _ _ _ _ (omega arith))
+returns c = sym (c.loop-k.invariant.2 ∙ exchanged_none _ _ _ _ _ (omega arith))

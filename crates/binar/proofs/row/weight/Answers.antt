@@ -8,23 +8,14 @@ use Rattle.binar.proofs.row.weight.Goals as goal
 pub loop-k-init : goal.loop-k-init
 loop-k-init c = (omega arith, omega arith, weight_start _ _ _)
 
-pub overflow_add-total : goal.overflow_add-total
-overflow_add-total c = omega arith
-
-pub offset_bounds-w-at : goal.offset_bounds-w-at
-offset_bounds-w-at c = omega arith
-
-pub bounds-w-at : goal.bounds-w-at
-bounds-w-at c = omega arith
-
 pub overflow_cast-total : goal.overflow_cast-total
-overflow_cast-total c = omega (arith, ones-le 64 _ (c.shared_slice_known-1.given (c.args.at + c.loop-k.k)).fits)
+overflow_cast-total c = omega (arith, ones-le 64 _ (c.type_inv.w (c.args.at + c.loop-k.k)).fits)
 
 pub overflow_add-total-in-loop-k : goal.overflow_add-total-in-loop-k
-overflow_add-total-in-loop-k c = omega (arith, ones-le 64 _ (c.shared_slice_known-1.given (c.args.at + c.loop-k.k)).fits)
+overflow_add-total-in-loop-k c = omega (arith, ones-le 64 _ (c.type_inv.w (c.args.at + c.loop-k.k)).fits)
 
 pub loop-k-preserved : goal.loop-k-preserved
-loop-k-preserved c = (omega arith, omega (arith, ones-le 64 _ (c.shared_slice_known-1.given (c.args.at + c.loop-k.k)).fits), c.loop-k.invariant.2 ∙ weight_step _ _ _ _ _ c.loop-k-test.true (omega arith) (λ q. (c.shared_slice_known-1.given q).fits))
+loop-k-preserved c = (omega arith, omega (arith, ones-le 64 _ (c.type_inv.w (c.args.at + c.loop-k.k)).fits), c.loop-k.invariant.2 ∙ weight_step _ _ _ _ _ c.loop-k-test.true (omega arith) (λ q. (c.type_inv.w q).fits))
 
 pub returns : goal.returns
 returns c = sym (c.loop-k.invariant.2 ∙ weight_none _ _ _ _ _ (omega arith))

@@ -1,57 +1,24 @@
-use Rattle.binar.proofs.row.Slice.{added, added_step, added_none, two_step, two_start, by_start}
+use Rattle.binar.proofs.row.Slice.{added_step, added_none, two_step, two_start, by_start, words_set, added}
 use Rattle.binar.specs.Row.{◌⊕◌}
-use lib.ListN.{length-set}
-use mathlib.Core.Path.{refl, sym, ◌∙◌}
+use mathlib.Core.Path.{sym, ◌∙◌}
 use native.Mathlib.Omega.{arith}
 use Rattle.binar.proofs.sum.add_words.Goals as goal
 
 pub loop-k-init : goal.loop-k-init
-loop-k-init c = (omega arith, refl, two_start _ _ _ _ c.requires.0, by_start (added _) _ _ _ _)
-
-pub overflow_add-to : goal.overflow_add-to
-overflow_add-to c = omega arith
-
-pub offset_bounds-w-to : goal.offset_bounds-w-to
-offset_bounds-w-to c = omega arith
-
-pub bounds-w-to : goal.bounds-w-to
-bounds-w-to c = omega arith
-
-pub overflow_add-from : goal.overflow_add-from
-overflow_add-from c = omega arith
-
-pub offset_bounds-w-from : goal.offset_bounds-w-from
-offset_bounds-w-from c = omega arith
-
-pub bounds-w-from : goal.bounds-w-from
-bounds-w-from c = omega arith
-
-pub added_word-requires : goal.added_word-requires
-added_word-requires c = omega arith
-
-pub overflow_add-w : goal.overflow_add-w
-overflow_add-w c = omega arith
-
-pub offset_bounds-w-to-in-loop-k : goal.offset_bounds-w-to-in-loop-k
-offset_bounds-w-to-in-loop-k c = omega arith
-
-pub bounds-w-to-in-loop-k : goal.bounds-w-to-in-loop-k
-bounds-w-to-in-loop-k c = omega arith
+loop-k-init c = ((λ q. (c.type_inv.w q).fits), two_start _ _ _ _ c.requires.0, by_start (added _) _ _ _ _)
 
 pub loop-k-preserved : goal.loop-k-preserved
 unfolding ◌⊕◌
 loop-k-preserved c =
     let l = c.loop-k in
+    let known = l.invariant.0 in
+    let two = l.invariant.1 in
     let test = c.loop-k-test.true in (
-      omega arith,
-      simp length-set l.invariant.1,
-      two_step _ _ _ _ _ test l.invariant.2 _,
-      rw c.added_word.ensures (l.invariant.3 ∙ added_step _ _ _ _ _ test l.invariant.2 (λ q. (c.slice_known-in-loop-k-1.given q).fits) _ c.requires.1),
+      words_set _ _ _ (omega arith) (omega arith) known,
+      two_step _ _ _ _ _ test two _,
+      rw c.added_word.ensures (l.invariant.2 ∙ added_step _ _ _ _ _ test two known _ c.requires.1),
     )
-
-pub shape_of-w : goal.shape_of-w
-shape_of-w c = omega arith
 
 pub returns : goal.returns
 unfolding added
-returns c = sym (c.loop-k.invariant.3 ∙ added_none _ _ _ _ _ (omega arith) _)
+returns c = sym (c.loop-k.invariant.2 ∙ added_none _ _ _ _ _ (omega arith) _)

@@ -3,4 +3,4 @@ use Rattle.capi.specs.Code.{code_form}
 use Rattle.capi.proofs.matrix_calls.howhiruke_echelon_form.Goals as goal
 
 pub returns : goal.returns
-returns c = record { told = c.code_form.ensures ∙ ap code_form c.echelon_form-formation.ensures.told; left = c.echelon_form-formation.ensures.left }
+returns c = record { told = c.code_form.ensures ∙ ap code_form c.echelon_form.ensures.told; left = c.echelon_form.ensures.left }

@@ -1,13 +1,14 @@
 -- One case for each word.
 use native.Mathlib.Omega.{arith}
+use Rattle.pauli_theory.specs.Standard.{if_zero}
 use Rattle.closing_report.specs.Decimal.{ascii}
-use Rattle.closing_report.proofs.lines.LineLaws.{abelian_yes, abelian_no}
+use Rattle.closing_report.specs.Lines.{abelian_text}
 use Rattle.closing_report.proofs.lines.abelian_length.Goals as goal
 
-pub returns-then-clash-eq0 : goal.returns-then-clash-eq0
-unfolding ascii
-returns-then-clash-eq0 c = rw (abelian_yes _ c.if-clash-eq0.true) (omega arith, omega arith)
+pub returns-then-clash : goal.returns-then-clash
+unfolding ascii abelian_text if_zero
+returns-then-clash c = rw c.if-clash.true (omega arith, omega arith)
 
 pub returns : goal.returns
-unfolding ascii
-returns c = rw (abelian_no _ c.if-clash-eq0.false) (omega arith, omega arith)
+unfolding ascii abelian_text if_zero
+returns c = rw c.if-clash.false (omega arith, omega arith)

@@ -1,29 +1,28 @@
 -- One case for each of the three sets of phases.
-use native.Mathlib.Omega.{arith}
 use Rattle.closing_report.specs.Decimal.{ascii}
-use Rattle.closing_report.proofs.lines.LineLaws.{phases_all, phases_two, phases_zero}
+use Rattle.closing_report.specs.Lines.{phases_text}
 use Rattle.closing_report.proofs.lines.put_phases.Goals as goal
 
 pub put_text-requires : goal.put_text-requires
-unfolding ascii
-put_text-requires c = rw (phases_all c.args.step (omega arith)) at c.requires
+unfolding ascii phases_text
+put_text-requires c = rw c.in-Zero.is at c.requires
 
-pub put_text-requires-in-2 : goal.put_text-requires-in-2
-unfolding ascii
-put_text-requires-in-2 c = rw (phases_two c.args.step (omega arith)) at c.requires
+pub put_text-requires-in-ZeroTwo : goal.put_text-requires-in-ZeroTwo
+unfolding ascii phases_text
+put_text-requires-in-ZeroTwo c = rw c.in-ZeroTwo.is at c.requires
 
-pub put_text-requires-in_default : goal.put_text-requires-in_default
-unfolding ascii
-put_text-requires-in_default c = rw (phases_zero c.args.step (λ e. omega arith) (λ e. omega arith)) at c.requires
+pub put_text-requires-in-All : goal.put_text-requires-in-All
+unfolding ascii phases_text
+put_text-requires-in-All c = rw c.in-All.is at c.requires
 
-pub returns-in-1 : goal.returns-in-1
-unfolding ascii
-returns-in-1 c = rw (phases_all c.args.step (omega arith)) c.put_text.ensures
+pub returns-in-Zero : goal.returns-in-Zero
+unfolding ascii phases_text
+returns-in-Zero c = rw c.in-Zero.is c.put_text.ensures
 
-pub returns-in-2 : goal.returns-in-2
-unfolding ascii
-returns-in-2 c = rw (phases_two c.args.step (omega arith)) c.put_text-in-2.ensures
+pub returns-in-ZeroTwo : goal.returns-in-ZeroTwo
+unfolding ascii phases_text
+returns-in-ZeroTwo c = rw c.in-ZeroTwo.is c.put_text-in-ZeroTwo.ensures
 
-pub returns-in_default : goal.returns-in_default
-unfolding ascii
-returns-in_default c = rw (phases_zero c.args.step (λ e. omega arith) (λ e. omega arith)) c.put_text-in_default.ensures
+pub returns-in-All : goal.returns-in-All
+unfolding ascii phases_text
+returns-in-All c = rw c.in-All.is c.put_text-in-All.ensures

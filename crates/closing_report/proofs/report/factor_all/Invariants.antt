@@ -1,8 +1,9 @@
 -- Invariant: for every list and promise that the group is of, the results of the first k elements are in the area, and the group still is.
 use mathlib.Core.Path.{◌≡◌}
-use Prim.Native.Nat.{◌-◌, ◌≤◌}
+use Prim.Native.Nat.{◌≤◌}
 use lib.ListN.{length}
 use Rattle.pauli.specs.Condense.{list_of}
+use Rattle.pauli_group.specs.Inner.Lists.{step_told}
 use Rattle.pauli_group.specs.Inner.Members.{Asked}
 use Rattle.closing_report.proofs.report.ResultLaws.{Factored}
 use Rattle.closing_report.proofs.report.factor_all.Given as goal
@@ -10,4 +11,4 @@ use Rattle.closing_report.proofs.report.factor_all.Given as goal
 abbrev pub invariant-loop-k : goal.invariant-loop-k
 invariant-loop-k l =
     (l.k ≤ l.m) × (length l.w ≡ 4096)
-    × ((g : Asked l.known l.initial.w l.n l.group.places l.group.rank l.group.total l.step) → Factored g (list_of l.b) l.k l.w)
+    × ((g : Asked l.known l.initial.w l.n l.group.places l.group.rank l.group.total (step_told l.phases)) → Factored g (list_of l.b) l.k l.w)

@@ -1,6 +1,5 @@
 -- The refusals in their order, then the text.
-use mathlib.Core.Path.{sym, ap, ◌∙◌}
-use Rattle.closing_report.specs.Split.{rolls_told}
+use mathlib.Core.Path.{sym}
 use Rattle.closing_report.proofs.input.InputLaws.{parted}
 use Rattle.closing_report.proofs.report.CallLaws.{input_refused, generators_refused, elements_refused, both_accepted, text_written}
 use Rattle.closing_report.proofs.report.write_text.Goals as goal

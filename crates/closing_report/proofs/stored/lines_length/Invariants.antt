@@ -1,5 +1,4 @@
 -- Invariant: the lines of the elements below i are counted.
-use Prim.Native.Nat.{◌-◌}
 use Rattle.closing_report.proofs.stored.StoredLaws.{Measured}
 use Rattle.closing_report.proofs.stored.lines_length.Given as goal
 

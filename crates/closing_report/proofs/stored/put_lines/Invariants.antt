@@ -1,5 +1,5 @@
 -- Invariant: the lines from element i on are left to put.
-use Prim.Native.Nat.{◌-◌, ◌≤◌}
+use Prim.Native.Nat.{◌≤◌}
 use Rattle.pauli.proofs.write.Puts.{Left}
 use Rattle.closing_report.specs.Lines.{member_lines}
 use Rattle.closing_report.specs.Stored.{stored_in}

@@ -1,5 +1,5 @@
 -- Invariant: the records from result i on are left to put.
-use Rattle.std.proofs.Common.{◌-◌, ◌≤◌}
+use Rattle.std.proofs.Common.{◌≤◌}
 use Rattle.pauli.proofs.write.Puts.{Left}
 use Rattle.factorizations.specs.Records.{results_bytes}
 use Rattle.factorizations.specs.Stored.{stored_in}

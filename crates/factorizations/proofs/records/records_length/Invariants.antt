@@ -1,5 +1,4 @@
 -- Invariant: the records of the results below i are counted.
-use Rattle.std.proofs.Common.{◌-◌}
 use Rattle.factorizations.proofs.records.RecordLaws.{records}
 use Rattle.factorizations.proofs.stored.PieceLaws.{Measured}
 use Rattle.factorizations.proofs.records.records_length.Given as goal

@@ -1,6 +1,7 @@
 -- Invariant: for every list and promise that the group is of, the results of the first k elements are in the area, and the group still is.
-use Rattle.std.proofs.Common.{◌≡◌, ◌-◌, ◌≤◌, length}
+use Rattle.std.proofs.Common.{◌≡◌, ◌≤◌, length}
 use Rattle.pauli.specs.Condense.{list_of}
+use Rattle.pauli_group.specs.Inner.Lists.{step_told}
 use Rattle.pauli_group.specs.Inner.Members.{Asked}
 use Rattle.factorizations.proofs.stored.ResultLaws.{Factored}
 use Rattle.factorizations.proofs.stored.factor_all.Given as goal
@@ -8,4 +9,4 @@ use Rattle.factorizations.proofs.stored.factor_all.Given as goal
 abbrev pub invariant-loop-k : goal.invariant-loop-k
 invariant-loop-k l =
     (l.k ≤ l.m) × (length l.w ≡ 4096)
-    × ((g : Asked l.known l.initial.w l.n l.group.places l.group.rank l.group.total l.step) → Factored g (list_of l.b) l.k l.w)
+    × ((g : Asked l.known l.initial.w l.n l.group.places l.group.rank l.group.total (step_told l.phases)) → Factored g (list_of l.b) l.k l.w)

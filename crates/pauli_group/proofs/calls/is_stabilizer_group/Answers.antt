@@ -3,7 +3,7 @@ use Rattle.std.proofs.Common.{◌∙◌, ap}
 use Rattle.pauli_theory.specs.Standard.{stabilizer}
 use Rattle.pauli_group.specs.Promises.{promise_of}
 use Rattle.pauli_group.specs.Calls.{stabilizer_call}
-use Rattle.pauli_group.proofs.calls.CallLaws.{facts_none, facts_given, stabilizer_told}
+use Rattle.pauli_group.proofs.calls.CallLaws.{facts_none, facts_given}
 use Rattle.pauli_group.proofs.checks.OneList.{answers, refuses}
 use Rattle.pauli.proofs.refusal.HandedOn.{handed_on}
 use Rattle.pauli.specs.Refusals.{told_by}
@@ -24,4 +24,4 @@ returns c =
     let promise = promise_of c.args.promise in
     let e = c.describe_list.ensures in
     let found = facts_given promise _ _ e.told _ c.in_ok-d.was in
-    record { told = answers c.args.b.now c.args.work.now found.given (stabilizer promise) _ (stabilizer_told promise _ _ found.facts.stabilizer_is); area = e.area }
+    record { told = answers c.args.b.now c.args.work.now found.given (stabilizer promise) _ found.facts.stabilizer_is; area = e.area }

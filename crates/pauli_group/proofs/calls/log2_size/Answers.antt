@@ -1,22 +1,14 @@
 -- The refusal of the description is told on; else its rank and its step are told as one number.
-use Rattle.std.proofs.Common.{arith, ap, ◌∙◌}
-use Rattle.pauli.specs.Condense.{list_of}
+use Rattle.std.proofs.Common.{ℕ, ◌+◌, arith, ap, ◌∙◌}
 use Rattle.pauli_theory.specs.Standard.{log2_size}
 use Rattle.pauli_group.specs.Promises.{promise_of}
-use Rattle.pauli_group.specs.Calls.{paulis, size_call}
+use Rattle.pauli_group.specs.Calls.{size_call}
 use Rattle.pauli_group.proofs.calls.CallLaws.{facts_none, facts_given, size_told}
-use Rattle.pauli_group.proofs.group.GroupedLaws.{step_kinds, list_rank}
+use Rattle.pauli_group.proofs.group.GroupedLaws.{list_rank}
 use Rattle.pauli_group.proofs.checks.OneList.{answers, refuses}
 use Rattle.pauli.proofs.refusal.HandedOn.{handed_on}
 use Rattle.pauli.specs.Refusals.{told_of}
 use Rattle.pauli_group.proofs.calls.log2_size.Goals as goal
-
-pub overflow_sub-result : goal.overflow_sub-result
-overflow_sub-result c =
-    let promise = promise_of c.args.promise in
-    let e = c.describe_list.ensures in
-    let found = facts_given promise _ _ e.told _ c.in_ok-d.was in
-    omega (arith, found.facts.step_is, (step_kinds promise (paulis (list_of c.args.b.now))).1)
 
 pub overflow_add-result : goal.overflow_add-result
 overflow_add-result c =
@@ -39,4 +31,4 @@ returns c =
     let promise = promise_of c.args.promise in
     let e = c.describe_list.ensures in
     let found = facts_given promise _ _ e.told _ c.in_ok-d.was in
-    record { told = answers c.args.b.now c.args.work.now found.given (log2_size promise) _ (size_told promise _ _ _ found.facts.rank_is found.facts.step_is); area = e.area }
+    record { told = answers c.args.b.now c.args.work.now found.given (log2_size promise) _ (ap (λ (k : ℕ). c.in_ok-d.d.rank + k) c.log2_count.ensures.0 ∙ size_told promise _ _ _ found.facts.rank_is found.facts.step_is); area = e.area }

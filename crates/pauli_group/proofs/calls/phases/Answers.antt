@@ -1,23 +1,14 @@
 -- The refusal of the description is told on; else the phases with its step are told.
 use Rattle.std.proofs.Common.{◌∙◌, ap}
-use Rattle.pauli.specs.Condense.{list_of}
 use Rattle.pauli_theory.specs.Standard.{phases_of}
 use Rattle.pauli_group.specs.Promises.{promise_of}
-use Rattle.pauli_group.specs.Calls.{paulis, phases_call}
+use Rattle.pauli_group.specs.Calls.{phases_call}
 use Rattle.pauli_group.proofs.calls.CallLaws.{facts_none, facts_given, phases_told_lem}
-use Rattle.pauli_group.proofs.group.GroupedLaws.{step_kinds}
 use Rattle.pauli_group.proofs.checks.OneList.{answers, refuses}
 use Rattle.pauli.proofs.refusal.HandedOn.{handed_on}
 use Rattle.pauli.specs.Refusals.{told_by}
 use Rattle.pauli_group.specs.Answers.{phases_told}
 use Rattle.pauli_group.proofs.calls.phases.Goals as goal
-
-pub phases_by-requires : goal.phases_by-requires
-phases_by-requires c =
-    let promise = promise_of c.args.promise in
-    let e = c.describe_list.ensures in
-    let found = facts_given promise _ _ e.told _ c.in_ok-d.was in
-    rw found.facts.step_is (step_kinds promise (paulis (list_of c.args.b.now)))
 
 pub returns-in_err-d : goal.returns-in_err-d
 unfolding phases_call
@@ -33,4 +24,4 @@ returns c =
     let promise = promise_of c.args.promise in
     let e = c.describe_list.ensures in
     let found = facts_given promise _ _ e.told _ c.in_ok-d.was in
-    record { told = answers c.args.b.now c.args.work.now found.given (phases_of promise) _ (phases_told_lem promise _ c.phases_by.result (c.phases_by.ensures ∙ found.facts.step_is)); area = e.area }
+    record { told = answers c.args.b.now c.args.work.now found.given (phases_of promise) _ (phases_told_lem promise _ _ found.facts.step_is); area = e.area }

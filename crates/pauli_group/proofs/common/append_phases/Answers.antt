@@ -6,23 +6,14 @@ use Rattle.pauli_group.proofs.common.append_phases.Goals.{then-k-a-eq0, else-k-a
 pub loop-k-init : goal.loop-k-init
 loop-k-init c = phases_none _ _ _ _
 
-pub nonzero_rem-k : goal.nonzero_rem-k
-nonzero_rem-k c = omega arith
-
-pub nonzero_rem-k-in-loop-k : goal.nonzero_rem-k-in-loop-k
-nonzero_rem-k-in-loop-k c = omega arith
-
 pub overflow_add-k : goal.overflow_add-k
-overflow_add-k c = let l = c.loop-k in omega (arith, mod_le l.k c.args.a, mod_le l.k c.args.b)
+overflow_add-k c = let l = c.loop-k in omega (arith, mod_le l.k c.step-a.result, mod_le l.k c.step-b.result)
 
 pub overflow_mul-total : goal.overflow_mul-total
 overflow_mul-total c = omega (arith, c.loop-k.invariant.few, c.loop-k.invariant.within, c.requires.1)
 
 pub overflow_add-total : goal.overflow_add-total
 overflow_add-total c = omega (arith, c.loop-k.invariant.few, c.loop-k.invariant.within, c.requires.1)
-
-pub overflow_cast-k : goal.overflow_cast-k
-overflow_cast-k c = omega arith
 
 pub put_phase-requires : goal.put_phase-requires
 put_phase-requires c = omega (arith, c.loop-k.invariant.few, c.loop-k.invariant.within, c.requires.1, c.requires.0, c.loop-k.invariant.size)
@@ -33,8 +24,8 @@ overflow_add-total-then-k-a-eq0 c = omega (arith, c.loop-k.invariant.few, c.loop
 pub loop-k-preserved : goal.loop-k-preserved
 loop-k-preserved c = let l = c.loop-k in
     elim c.if-k-a-eq0.branch [
-      | then-k-a-eq0 w ↦ rw (w.w-is, w.total-is) (phases_put _ _ _ _ _ _ _ l.invariant c.loop-k-test.true w.if-k-a-eq0.true _ w.put_phase.ensures.list w.put_phase.ensures.rest)
-      | else-k-a-eq0 w ↦ rw (w.w-is, w.total-is) (phases_skip _ _ _ _ _ _ _ l.invariant c.loop-k-test.true w.if-k-a-eq0.false)
+      | then-k-a-eq0 w ↦ rw (w.w-is, w.total-is) (phases_put _ _ _ _ _ _ _ l.invariant c.loop-k-test.true (rw (c.step-a.ensures.0, c.step-b.ensures.0) at w.if-k-a-eq0.true) _ w.put_phase.ensures.list w.put_phase.ensures.rest)
+      | else-k-a-eq0 w ↦ rw (w.w-is, w.total-is) (phases_skip _ _ _ _ _ _ _ l.invariant c.loop-k-test.true (rw (c.step-a.ensures.0, c.step-b.ensures.0) at w.if-k-a-eq0.false))
     ]
 
 pub shape_of-w : goal.shape_of-w

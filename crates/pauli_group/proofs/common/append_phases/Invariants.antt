@@ -1,6 +1,7 @@
 -- Invariant: the phases below exponent k are appended.
+use Rattle.pauli_group.specs.Inner.Lists.{step_told}
 use Rattle.pauli_group.proofs.common.SharedLaws.{PhasesUpTo}
 use Rattle.pauli_group.proofs.common.append_phases.Given as goal
 
 abbrev pub invariant-loop-k : goal.invariant-loop-k
-invariant-loop-k l = PhasesUpTo l.a l.b l.n l.initial.w l.k l.total l.w
+invariant-loop-k l = PhasesUpTo (step_told l.fn.first) (step_told l.fn.second) l.n l.initial.w l.k l.total l.w

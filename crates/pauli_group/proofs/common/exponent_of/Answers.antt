@@ -1,5 +1,4 @@
-use Rattle.std.proofs.Common.{sym, ap, ◌∙◌, arith}
-use Rattle.pauli_group.specs.Inner.Members.{set_told}
+use Rattle.std.proofs.Common.{arith}
 use Rattle.pauli_group.proofs.moved.MoveLaws.{loaded_movable}
 use Rattle.pauli_group.proofs.common.SharedLaws.{target_low, exponent_none, exponent_set}
 use Rattle.pauli_group.proofs.common.exponent_of.Goals as goal
@@ -9,35 +8,35 @@ move_pauli-p-requires c =
     let m = loaded_movable _ _ c.load.ensures _ _ _ (c.requires.5, c.requires.6) c.requires.7 in
     (c.requires.4, omega (arith, c.requires.2.small, c.requires.3), m.0, m.1, m.2)
 
-pub solve-solved-requires : goal.solve-solved-requires
-solve-solved-requires c =
+pub solve-requires : goal.solve-requires
+solve-requires c =
     let low = target_low c.args.w.now c.args.joint.now c.args.own.now c.args.at c.args.n c.args.group.places c.args.group.rank c.requires.2 c.requires.3 _ _ c.load.ensures c.move_pauli-p.ensures in
     (c.requires.0, c.requires.2.few, c.requires.2.small, low.0, low.1, c.requires.2.solvable)
 
 pub indexed_product-product-requires : goal.indexed_product-product-requires
-indexed_product-product-requires c = (omega (arith, c.requires.0, c.requires.2.few, c.solve-solved.ensures.rest.size), c.requires.2.few)
+indexed_product-product-requires c = (omega (arith, c.requires.0, c.requires.2.few, c.solve.ensures.rest.size), c.requires.2.few)
 
 pub overflow_cast-result : goal.overflow_cast-result
 overflow_cast-result c = omega arith
 
-pub shape_of-w-in-NoSet : goal.shape_of-w-in-NoSet
-shape_of-w-in-NoSet c = c.solve-solved.ensures.rest.size
+pub shape_of-w-in-None : goal.shape_of-w-in-None
+shape_of-w-in-None c = c.solve.ensures.rest.size
 
-pub returns-in-NoSet : goal.returns-in-NoSet
-returns-in-NoSet c = record {
+pub returns-in-None : goal.returns-in-None
+returns-in-None c = record {
   told = exponent_none c.args.w.now c.args.joint.now c.args.own.now c.args.at c.args.n c.args.group.places c.args.group.rank c.requires.2 c.requires.3 _ _ c.load.ensures c.move_pauli-p.ensures
-      (ap set_told (sym c.in-NoSet.is) ∙ c.solve-solved.ensures.told);
+      c.in-None.ensures.told;
   low = omega arith;
-  rest = c.solve-solved.ensures.rest;
+  rest = c.solve.ensures.rest;
 }
 
-pub shape_of-w-in-Set : goal.shape_of-w-in-Set
-shape_of-w-in-Set c = c.solve-solved.ensures.rest.size
+pub shape_of-w-in-Some : goal.shape_of-w-in-Some
+shape_of-w-in-Some c = c.solve.ensures.rest.size
 
-pub returns-in-Set : goal.returns-in-Set
-returns-in-Set c = record {
+pub returns-in-Some : goal.returns-in-Some
+returns-in-Some c = record {
   told = exponent_set c.args.w.now c.args.joint.now c.args.own.now c.args.at c.args.n c.args.group.places c.args.group.rank c.requires.2 c.requires.3 _ _ c.load.ensures c.move_pauli-p.ensures _
-      (ap set_told (sym c.in-Set.is) ∙ c.solve-solved.ensures.told) _ c.solve-solved.ensures.rest _ c.indexed_product-product.ensures;
+      c.in-Some.ensures.told _ c.solve.ensures.rest _ c.indexed_product-product.ensures;
   low = omega arith;
-  rest = c.solve-solved.ensures.rest;
+  rest = c.solve.ensures.rest;
 }

@@ -5,32 +5,14 @@ use Rattle.pauli_group.proofs.common.shared_exponent.Goals as goal
 pub loop-e-init : goal.loop-e-init
 loop-e-init c = (omega arith, shared_start _ _ _ _)
 
-pub overflow_add-e : goal.overflow_add-e
-overflow_add-e c = omega arith
-
-pub overflow_sub-e : goal.overflow_sub-e
-overflow_sub-e c = omega arith
-
-pub nonzero_rem-e-in-loop-e : goal.nonzero_rem-e-in-loop-e
-nonzero_rem-e-in-loop-e c = omega arith
-
-pub overflow_add-e-in-loop-e : goal.overflow_add-e-in-loop-e
-overflow_add-e-in-loop-e c = omega arith
-
-pub overflow_sub-e-in-loop-e : goal.overflow_sub-e-in-loop-e
-overflow_sub-e-in-loop-e c = omega arith
-
-pub nonzero_rem-e-in-loop-e-3 : goal.nonzero_rem-e-in-loop-e-3
-nonzero_rem-e-in-loop-e-3 c = omega arith
-
 pub overflow_add-e-in-loop-e-2 : goal.overflow_add-e-in-loop-e-2
-overflow_add-e-in-loop-e-2 c = let l = c.loop-e in omega (arith, mod_le ((l.e + 4 - c.args.u) % 4) c.args.a, mod_le ((l.e + 4 - c.args.v) % 4) c.args.b)
+overflow_add-e-in-loop-e-2 c = let l = c.loop-e in omega (arith, mod_le ((l.e + 4 - c.args.u) % 4) c.step-a.result, mod_le ((l.e + 4 - c.args.v) % 4) c.step-b.result)
 
-pub returns-then-e-u-eq0 : goal.returns-then-e-u-eq0
-returns-then-e-u-eq0 c = shared_hit _ _ _ _ _ c.loop-e-test.true c.loop-e.invariant.1 c.if-e-u-eq0.true
+pub returns-then-e-u-eq0-clause-first : goal.returns-then-e-u-eq0-clause-first
+returns-then-e-u-eq0-clause-first c = shared_hit _ _ _ _ _ c.loop-e-test.true c.loop-e.invariant.1 (rw (c.step-a.ensures.0, c.step-b.ensures.0) at c.if-e-u-eq0.true)
 
 pub loop-e-preserved : goal.loop-e-preserved
-loop-e-preserved c = (omega arith, shared_miss _ _ _ _ _ c.loop-e-test.true c.loop-e.invariant.1 c.if-e-u-eq0.false)
+loop-e-preserved c = (omega arith, shared_miss _ _ _ _ _ c.loop-e-test.true c.loop-e.invariant.1 (rw (c.step-a.ensures.0, c.step-b.ensures.0) at c.if-e-u-eq0.false))
 
-pub returns : goal.returns
-returns c = shared_end _ _ _ _ _ c.loop-e-test.false c.loop-e.invariant.0 c.loop-e.invariant.1
+pub returns-clause-first : goal.returns-clause-first
+returns-clause-first c = shared_end _ _ _ _ _ c.loop-e-test.false c.loop-e.invariant.0 c.loop-e.invariant.1

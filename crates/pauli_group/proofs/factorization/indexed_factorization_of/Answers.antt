@@ -25,24 +25,24 @@ factor_once-factoring-requires c =
     let asking = counts_asking _ _ _ _ c.check_question.ensures _ c.in_ok-counts.was in
     (asking.generators, asking.elements, asking.inside, length-take-le 4096 c.args.work.now asking.room)
 
-pub returns-in-NotFound : goal.returns-in-NotFound
-returns-in-NotFound c =
+pub returns-in-None : goal.returns-in-None
+returns-in-None c =
     let asking = counts_asking _ _ _ _ c.check_question.ensures _ c.in_ok-counts.was in
     let factor = c.factor_once-factoring.ensures in
-    call_none _ _ _ _ _ _ asking _ factor.area (sym (ap factoring_told c.in-NotFound.is) ∙ factor.told)
+    call_none _ _ _ _ _ _ asking _ factor.area (sym (ap factoring_told c.in-None.is) ∙ factor.told)
 
 pub returns-then-out-count : goal.returns-then-out-count
 returns-then-out-count c =
     let asking = counts_asking _ _ _ _ c.check_question.ensures _ c.in_ok-counts.was in
     let factor = c.factor_once-factoring.ensures in
-    let found = sym (ap factoring_told c.in-Found.is) ∙ factor.told in
+    let found = sym (ap factoring_told c.in-Some.is) ∙ factor.told in
     rw c.into.ensures (call_short _ _ _ _ _ _ asking _ factor.area _ found (omega (arith, c.weight-count.ensures.0, c.if-out-count.true)))
 
 pub put_indexes-requires : goal.put_indexes-requires
 put_indexes-requires c =
     let asking = counts_asking _ _ _ _ c.check_question.ensures _ c.in_ok-counts.was in
     let factor = c.factor_once-factoring.ensures in
-    let found = sym (ap factoring_told c.in-Found.is) ∙ factor.told in (
+    let found = sym (ap factoring_told c.in-Some.is) ∙ factor.told in (
       asking_few _ _ _ _ asking,
       set_below _ _ _ _ c.args.work.now c.args.out.now asking _ factor.area _ found,
       omega (arith, c.weight-count.ensures.0, c.if-out-count.false),
@@ -52,6 +52,6 @@ pub returns : goal.returns
 returns c =
     let asking = counts_asking _ _ _ _ c.check_question.ensures _ c.in_ok-counts.was in
     let factor = c.factor_once-factoring.ensures in
-    let found = sym (ap factoring_told c.in-Found.is) ∙ factor.told in
+    let found = sym (ap factoring_told c.in-Some.is) ∙ factor.told in
     call_found _ _ _ _ _ _ asking _ factor.area _ found _ c.weight-count.ensures.0
     c.if-out-count.false _ c.put_indexes.ensures

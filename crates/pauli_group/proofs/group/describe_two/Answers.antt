@@ -1,15 +1,15 @@
 use Rattle.std.proofs.Common.{arith}
-use Rattle.pauli_group.proofs.group.GroupLaws.{standards_few, described, facts_are, two_few}
+use Rattle.pauli_group.proofs.group.GroupLaws.{standards_few, two_few}
 use Rattle.pauli_group.proofs.group.describe_two.Goals as goal
 
 pub group_of_two-g-requires : goal.group_of_two-g-requires
 group_of_two-g-requires c = (c.requires.0, c.requires.1)
 
-pub signs_of-s-requires : goal.signs_of-s-requires
-signs_of-s-requires c = omega (arith, standards_few c.group_of_two-g.ensures (two_few c.args.left.now c.args.nl c.args.right.now c.args.nr c.requires.0.left c.requires.0.right c.requires.0.few), c.group_of_two-g.auto.w, c.requires.1)
+pub describe_group-requires : goal.describe_group-requires
+describe_group-requires c = omega (arith, standards_few c.group_of_two-g.ensures (two_few c.args.left.now c.args.nl c.args.right.now c.args.nr c.requires.0.left c.requires.0.right c.requires.0.few), c.group_of_two-g.auto.w, c.requires.1)
 
 pub shape_of-w : goal.shape_of-w
 shape_of-w c = c.group_of_two-g.auto.w
 
 pub returns : goal.returns
-returns c = facts_are _ _ (described c.group_of_two-g.ensures _ _ _ _ c.signs_of-s.ensures.clash c.signs_of-s.ensures.step c.signs_of-s.ensures.stabilizer)
+returns c = c.describe_group.ensures _ _ c.group_of_two-g.ensures

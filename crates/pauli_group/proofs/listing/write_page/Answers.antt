@@ -7,7 +7,7 @@ use Rattle.pauli.specs.Told.{Told, answer}
 use Rattle.pauli.specs.Writing.{told_bytes, left_in}
 use Rattle.pauli_group.proofs.group.GroupedLaws.{cleared_whole, group_total, group_places}
 use Rattle.pauli_group.proofs.member.FactorLaws.{places_known}
-use Rattle.pauli_group.proofs.listing.PageLaws.{signs_step, signs_some, signs_few, page_places, page_written, page_refused, page_answered}
+use Rattle.pauli_group.proofs.listing.PageLaws.{signs_step, page_places, page_written, page_refused, page_answered}
 use Rattle.pauli.specs.Refusals.{told_refusal}
 use Rattle.pauli_group.proofs.listing.write_page.Goals as goal
 
@@ -27,23 +27,8 @@ signs_of-signs-requires c =
     let group = c.group_of-g in
     omega (arith, group_total _ _ c.requires.0 group.ensures.group, group.auto.w, c.requires.1)
 
-pub page_elements-length-requires : goal.page_elements-length-requires
-page_elements-length-requires c = (
-  c.if-g-gt-MOST_LISTED.false,
-  signs_some _ c.group_of-g.ensures.group c.signs_of-signs.result c.signs_of-signs.ensures.clash c.signs_of-signs.ensures.step c.signs_of-signs.ensures.stabilizer,
-  signs_few _ c.group_of-g.ensures.group c.signs_of-signs.result c.signs_of-signs.ensures.clash c.signs_of-signs.ensures.step c.signs_of-signs.ensures.stabilizer,
-)
-
 pub put_elements-requires : goal.put_elements-requires
-put_elements-requires c =
-    let group = c.group_of-g in (
-      group.auto.w ∙ c.requires.1,
-      c.if-g-gt-MOST_LISTED.false,
-      signs_some _ c.group_of-g.ensures.group c.signs_of-signs.result c.signs_of-signs.ensures.clash c.signs_of-signs.ensures.step c.signs_of-signs.ensures.stabilizer,
-      signs_few _ c.group_of-g.ensures.group c.signs_of-signs.result c.signs_of-signs.ensures.clash c.signs_of-signs.ensures.step c.signs_of-signs.ensures.stabilizer,
-      c.page_elements-length.ensures.1,
-      omega (arith, c.ranges),
-    )
+put_elements-requires c = (c.group_of-g.auto.w ∙ c.requires.1, c.if-g-gt-MOST_LISTED.false, c.page_elements-length.ensures.1, omega (arith, c.ranges))
 
 pub write_roll-wrote-requires : goal.write_roll-wrote-requires
 write_roll-wrote-requires c =

@@ -10,31 +10,31 @@ pub overflow_sub-stride : goal.overflow_sub-stride
 unfolding stride_of form_stride
 overflow_sub-stride c = omega (arith, c.stride_of-stride.ensures)
 
-pub transpose_solve-solution-requires : goal.transpose_solve-solution-requires
-transpose_solve-solution-requires c =
+pub transpose_solve-requires : goal.transpose_solve-requires
+transpose_solve-requires c =
     pauli_solvable _ (λ q. (c.slice_known-1.given q).fits) _ _ _ c.args.p c.requires.2 c.requires.3 c.requires.4
     c.requires.5 _ c.stride_of-stride.ensures _ _ c.clear_bits.ensures c.put_row.ensures
 
-pub returns-in-Set : goal.returns-in-Set
-returns-in-Set c = record {
+pub returns-then-transpose_solve : goal.returns-then-transpose_solve
+returns-then-transpose_solve c = record {
   told = pauli_set _ (λ q. (c.slice_known-1.given q).fits) _ _ _ c.args.p c.requires.2 c.requires.3 c.requires.4
       c.requires.5 _ c.stride_of-stride.ensures _ _ c.clear_bits.ensures c.put_row.ensures
-      _ c.transpose_solve-solution.ensures.left _
+      _ c.transpose_solve.ensures.left _
       (c.named_by.ensures
       ∙ names_whole _ _ _ (λ q. (c.slice_known-4-1.given q).fits)
-      (omega (arith, c.requires.5.target, c.transpose_solve-solution.auto.w, c.put_row.auto.w, c.clear_bits.auto.w)) c.requires.1)
-      (sym c.in-Set.is ∙ c.transpose_solve-solution.ensures.told);
+      (omega (arith, c.requires.5.target, c.transpose_solve.auto.w, c.put_row.auto.w, c.clear_bits.auto.w)) c.requires.1)
+      (sym c.if-transpose_solve.true ∙ c.transpose_solve.ensures.told);
   rest = pauli_rest _ (λ q. (c.slice_known-1.given q).fits) _ _ _ c.args.p c.requires.2 c.requires.3 c.requires.4
       c.requires.5 _ c.stride_of-stride.ensures _ _ c.clear_bits.ensures c.put_row.ensures
-      _ c.transpose_solve-solution.ensures.left;
+      _ c.transpose_solve.ensures.left;
 }
 
-pub returns-in-NoSet : goal.returns-in-NoSet
-returns-in-NoSet c = record {
+pub returns-else-transpose_solve : goal.returns-else-transpose_solve
+returns-else-transpose_solve c = record {
   told = pauli_none _ (λ q. (c.slice_known-1.given q).fits) _ _ _ c.args.p c.requires.2 c.requires.3 c.requires.4
       c.requires.5 _ c.stride_of-stride.ensures _ _ c.clear_bits.ensures c.put_row.ensures
-      _ c.transpose_solve-solution.ensures.left (sym c.in-NoSet.is ∙ c.transpose_solve-solution.ensures.told);
+      _ c.transpose_solve.ensures.left (sym c.if-transpose_solve.false ∙ c.transpose_solve.ensures.told);
   rest = pauli_rest _ (λ q. (c.slice_known-1.given q).fits) _ _ _ c.args.p c.requires.2 c.requires.3 c.requires.4
       c.requires.5 _ c.stride_of-stride.ensures _ _ c.clear_bits.ensures c.put_row.ensures
-      _ c.transpose_solve-solution.ensures.left;
+      _ c.transpose_solve.ensures.left;
 }

@@ -4,7 +4,7 @@ use Rattle.pauli_group.specs.Inner.Area.{further_at}
 use Rattle.pauli_group.specs.Calls.{paulis}
 use Rattle.pauli_group.specs.Promises.{promise_of}
 use Rattle.pauli_group.proofs.group.GroupLaws.{described}
-use Rattle.pauli_group.proofs.group.GroupedLaws.{step_kinds, list_length, list_few, group_total, group_places, group_on}
+use Rattle.pauli_group.proofs.group.GroupedLaws.{list_length, list_few, group_total, group_places, group_on}
 use Rattle.pauli_group.proofs.list.ListLaws.{list_kept_after}
 use Rattle.pauli_group.proofs.member.FactorLaws.{places_known}
 use Rattle.pauli_group.proofs.modulo.ModuloLaws.{left_moves, moved_low, left_list, right_other, remainder_left}
@@ -51,13 +51,10 @@ multiply_all-requires c =
     )
 
 pub take_mod-requires : goal.take_mod-requires
-take_mod-requires c =
-    let g = c.group_of-b.ensures.group in
-    let signs = c.signs_of-signs.ensures in
-    let step = (described g (promise_of c.args.promise) _ _ _ signs.clash signs.step signs.stabilizer).step_is in (
-      omega (arith, group_total _ _ c.requires.0 c.group_of-a.ensures.group, c.multiply_all.auto.w, c.group_of-b.auto.w, c.move_list.auto.w, c.group_of-a.auto.w, c.requires.4),
-      rw step (step_kinds (promise_of c.args.promise) (paulis (list_of c.args.right.now))).0,
-    )
+take_mod-requires c = (
+  omega (arith, group_total _ _ c.requires.0 c.group_of-a.ensures.group, c.multiply_all.auto.w, c.group_of-b.auto.w, c.move_list.auto.w, c.group_of-a.auto.w, c.requires.4),
+  c.step.ensures.1,
+)
 
 pub shape_of-w : goal.shape_of-w
 shape_of-w c = c.take_mod.auto.w ∙ c.multiply_all.auto.w ∙ c.group_of-b.auto.w ∙ c.move_list.auto.w ∙ c.group_of-a.auto.w
@@ -71,7 +68,7 @@ returns c =
     let few = group_total _ _ c.requires.0 left.ensures.group in
     let n = list_length _ _ c.requires.1 in
     let signs = c.signs_of-signs.ensures in
-    let step = (described g (promise_of c.args.promise) _ _ _ signs.clash signs.step signs.stabilizer).step_is in
+    let step = c.step.ensures.0 ∙ (described g (promise_of c.args.promise) _ _ _ signs.clash signs.step signs.stabilizer).step_is in
     let moved = list_kept_after group.ensures.rest further_at left.result.total (omega arith) ∙ left_list _ _ _ c.requires.3 left.ensures.group _ (rw c.qubits.ensures.list at c.move_list.ensures.list) in
     remainder_left _ _ _ c.requires.3 g (list_few _ _ c.requires.1) (group_places _ _ c.requires.1 g) size (group_total _ _ c.requires.1 g) (group_on _ _ c.requires.1 g) _ moved
     _ _ step _ _ _ (rw (n, ← c.qubits-2.ensures.list) c.multiply_all.ensures.list) c.take_mod.ensures.list few

@@ -2,18 +2,9 @@ use Rattle.pauli.specs.Condense.{list_of}
 use Rattle.pauli_theory.specs.Group.{none}
 use Rattle.pauli_theory.specs.Order.{ranks_of}
 use Rattle.pauli_group.proofs.group.GroupLaws.{paulis_append}
-use Rattle.pauli_group.proofs.order.OrderLaws.{step_positive, ranks_are, compared}
+use Rattle.pauli_group.proofs.order.OrderLaws.{ranks_are, compared}
 use Rattle.std.proofs.Common.{ap, ◌∙◌}
 use Rattle.pauli_group.proofs.order.order_of.Goals as goal
-
-pub ranks_of-requires : goal.ranks_of-requires
-ranks_of-requires c = step_positive _ _ _ c.describe-a.ensures
-
-pub ranks_of-requires-2 : goal.ranks_of-requires-2
-ranks_of-requires-2 c = step_positive _ _ _ c.describe-b.ensures
-
-pub ranks_of-requires-3 : goal.ranks_of-requires-3
-ranks_of-requires-3 c = step_positive _ _ _ c.describe_two-both.ensures
 
 pub returns : goal.returns
 returns c =

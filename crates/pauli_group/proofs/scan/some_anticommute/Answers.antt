@@ -1,46 +1,20 @@
-use Rattle.std.proofs.Common.{◌≡◌, ◌+◌, ap, ◌∙◌, arith}
-use Rattle.pauli.specs.Signed.{held}
-use Rattle.pauli.proofs.signed.SignedLaws.{zero_bit}
-use Rattle.pauli.proofs.write.Writers.{list_from}
-use Rattle.pauli_theory.specs.Standard.{anticommutes_with_some, some_anticommute}
-use Rattle.pauli_group.proofs.scan.ScanLaws.{from_start, from_hit, from_miss, from_end, search_lt, with_some_lem, two_anticommute, list_behind}
+use Rattle.std.proofs.Common.{◌≡◌, ℕ, ◌+◌, ◌*◌, ◌-◌, true, false, Bool, refl, ap, ◌∙◌, arith, rules, tests}
+use Rattle.std.proofs.lemmas.Iterator.{cases_from_any, YieldsList-from_range}
+use Rattle.pauli.specs.Signed.{held, list_in}
+use Rattle.pauli_theory.specs.Standard.{anticommutes_with_some}
+use Rattle.pauli_group.specs.Inner.Lists.{Tested}
+use Rattle.pauli_group.specs.Answers.{yes_number}
+use Rattle.pauli_group.proofs.scan.ScanLaws.{by_number, some_told, at_read, two_anticommute, list_behind}
 use Rattle.pauli_group.proofs.scan.some_anticommute.Goals as goal
 
-pub loop-i-init : goal.loop-i-init
-loop-i-init c = from_start some_anticommute _ _ _
-
-pub overflow_mul-at : goal.overflow_mul-at
-overflow_mul-at c = omega arith
-
-pub overflow_add-at : goal.overflow_add-at
-overflow_add-at c = omega arith
-
-pub overflow_add-at-in-loop-i : goal.overflow_add-at-in-loop-i
-overflow_add-at-in-loop-i c = omega arith
-
-pub overflow_sub-n : goal.overflow_sub-n
-overflow_sub-n c = omega arith
-
-pub overflow_sub-n-in-loop-i : goal.overflow_sub-n-in-loop-i
-overflow_sub-n-in-loop-i c = omega arith
-
-pub load-requires : goal.load-requires
-load-requires c = omega arith
-
-pub anticommutes_with_some-requires : goal.anticommutes_with_some-requires
-anticommutes_with_some-requires c = omega arith
-
-pub returns-then-anticommutes_with_some-eq1 : goal.returns-then-anticommutes_with_some-eq1
-returns-then-anticommutes_with_some-eq1 c = let load = c.load in
-    let behind : c.anticommutes_with_some.result ≡ anticommutes_with_some (held load.result) (list_from c.args.w.now c.args.base c.args.n (c.loop-i.i + 1)) = c.anticommutes_with_some.ensures ∙ ap (anticommutes_with_some (held c.load.result)) (list_behind c.args.w.now c.args.base c.args.n c.loop-i.i) in
-    from_hit two_anticommute c.loop-i.invariant c.loop-i-test.true load.result load.ensures
-    (omega (arith, behind, c.if-anticommutes_with_some-eq1.true))
-
-pub loop-i-preserved : goal.loop-i-preserved
-loop-i-preserved c = let load = c.load in
-    let behind : c.anticommutes_with_some.result ≡ anticommutes_with_some (held load.result) (list_from c.args.w.now c.args.base c.args.n (c.loop-i.i + 1)) = c.anticommutes_with_some.ensures ∙ ap (anticommutes_with_some (held c.load.result)) (list_behind c.args.w.now c.args.base c.args.n c.loop-i.i) in
-    from_miss two_anticommute c.loop-i.invariant c.loop-i-test.true load.result load.ensures
-    (zero_bit _ (search_lt (with_some_lem (held load.result)) _) (λ e. c.if-anticommutes_with_some-eq1.false (behind ∙ e)))
-
 pub returns : goal.returns
-returns c = from_end two_anticommute c.loop-i.invariant c.loop-i-test.false
+returns c =
+    let w = c.args.w.now in
+    let base = c.args.base in
+    let n = c.args.n in
+    let answers : ℕ → Bool → Type 0 = λ i r. Tested (λ p s. yes_number s ≡ anticommutes_with_some (held p) (list_in w (base + 5 * i + 5) (n - i - 1))) w (base + 5 * i) r in
+    some_told two_anticommute w base n answers (λ i r h. h.told ∙ ap (anticommutes_with_some (held h.pauli)) (list_behind w base n i) ∙ at_read two_anticommute w base n i h.pauli h.read) _
+    (by_number c.any.result n (λ i. answers i true) (λ i. answers i false)
+    (cases_from_any _ _ _ (λ i. answers i true) (λ i. answers i false) c.any.ensures.ran (YieldsList-from_range 0 n n refl (omega arith))
+    (λ x q k. search (rules, tests))
+    (λ x q k. (search rules, search (rules, tests)))))

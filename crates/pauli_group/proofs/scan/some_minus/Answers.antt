@@ -1,35 +1,12 @@
-use Rattle.std.proofs.Common.{sym, ◌∙◌, arith}
+use Rattle.std.proofs.Common.{◌≡◌, ◌==◌, ◌&&◌, ◌%◌, ap, ◌∙◌, rules, tests}
 use Rattle.pauli.specs.Signed.{held}
-use Rattle.pauli_theory.specs.Standard.{some_minus}
-use Rattle.pauli_group.proofs.scan.ScanLaws.{from_start, from_hit, from_miss, from_end, search_minus, bare_some, minus_hit, minus_miss}
+use Rattle.pauli.specs.Pauli.{pauli_weight}
+use Rattle.pauli_group.specs.Answers.{yes_number}
+use Rattle.pauli_group.proofs.scan.ScanLaws.{search_minus, some_tested, minus_tested}
 use Rattle.pauli_group.proofs.scan.some_minus.Goals as goal
-use Rattle.pauli_group.proofs.scan.some_minus.Goals.{then-weight-eq0+else-p-eq2, else-weight-eq0}
-
-pub loop-i-init : goal.loop-i-init
-loop-i-init c = from_start some_minus _ _ _
-
-pub overflow_mul-i : goal.overflow_mul-i
-overflow_mul-i c = omega arith
-
-pub overflow_add-base : goal.overflow_add-base
-overflow_add-base c = omega arith
-
-pub load-p-requires : goal.load-p-requires
-load-p-requires c = omega arith
-
-pub returns-then-p-eq2 : goal.returns-then-p-eq2
-returns-then-p-eq2 c =
-    let load = c.load-p in
-    from_hit search_minus c.loop-i.invariant c.loop-i-test.true load.result load.ensures
-    (minus_hit load.result (sym c.weight.ensures ∙ c.if-weight-eq0.true) c.if-p-eq2.true)
-
-pub loop-i-preserved : goal.loop-i-preserved
-loop-i-preserved c = let load = c.load-p in
-    from_miss search_minus c.loop-i.invariant c.loop-i-test.true load.result load.ensures
-    (elim c.if-weight-eq0.branch [
-      | then-weight-eq0+else-p-eq2 w ↦ minus_miss load.result (sym c.weight.ensures ∙ w.if-weight-eq0.true) w.if-p-eq2.false
-      | else-weight-eq0 w ↦ bare_some (held load.result) _ (λ z. w.if-weight-eq0.false (c.weight.ensures ∙ z))
-    ])
 
 pub returns : goal.returns
-returns c = from_end search_minus c.loop-i.invariant c.loop-i-test.false
+unfolding held
+returns c =
+    some_tested search_minus c.args.w.now c.args.base c.args.n _ (λ p qs r h.
+    let test : r ≡ ((pauli_weight (held p) == 0) && ((held p).e % 4 == 2)) = search (rules, tests) in ap yes_number test ∙ minus_tested (held p)) _ c.some.ensures

@@ -20,8 +20,8 @@ load-requires c = omega arith
 pub anticommutes-requires : goal.anticommutes-requires
 anticommutes-requires c = omega arith
 
-pub returns-then-anticommutes : goal.returns-then-anticommutes
-returns-then-anticommutes c = let load = c.load in
+pub returns-then-anticommutes-clause-position : goal.returns-then-anticommutes-clause-position
+returns-then-anticommutes-clause-position c = let load = c.load in
     first_hit c.loop-i.invariant c.loop-i-test.true load.result load.ensures (eqb-true _ 1 (sym c.anticommutes.ensures ∙ c.if-anticommutes.true))
 
 pub loop-i-preserved : goal.loop-i-preserved
@@ -29,5 +29,5 @@ loop-i-preserved c = let load = c.load in
     first_miss c.loop-i.invariant c.loop-i-test.true load.result load.ensures
     (zero_bit _ (anticommute_lt _ _) (eqb-false _ 1 (sym c.anticommutes.ensures ∙ c.if-anticommutes.false)))
 
-pub returns : goal.returns
-returns c = first_end c.loop-i.invariant c.loop-i-test.false
+pub returns-clause-position : goal.returns-clause-position
+returns-clause-position c = first_end c.loop-i.invariant c.loop-i-test.false

@@ -3,7 +3,6 @@ use Rattle.std.proofs.Common.{sym, ap, ◌∙◌, arith}
 use Rattle.pauli.specs.Roll.{most_paulis}
 use Rattle.pauli.proofs.joined.JoinLaws.{counts_joining}
 use Rattle.sizes.proofs.joined.SizesLaws.{sizes_refused, sizes_told}
-use Rattle.pauli.specs.JoinAnswers.{counts_in}
 use Rattle.pauli.specs.Refusals.{told_by}
 use Rattle.pauli.proofs.refusal.HandedOn.{handed_on}
 use Rattle.sizes.specs.Answers.{sizes_in}

@@ -9,9 +9,6 @@ use Rattle.sizes.proofs.page.page_of.Goals as goal
 pub returns-then-rank-gt-MOST_LISTED : goal.returns-then-rank-gt-MOST_LISTED
 returns-then-rank-gt-MOST_LISTED c = ap told_refusal c.into.ensures ∙ sym (test_refuses _ 10 0 _ (lt-ltb most_listed c.args.rank c.if-rank-gt-MOST_LISTED.true))
 
-pub page_elements-requires : goal.page_elements-requires
-page_elements-requires c = (c.if-rank-gt-MOST_LISTED.false, c.requires.0, c.requires.1)
-
 pub returns : goal.returns
 returns c =
     let low = le-ltb most_listed c.args.rank c.if-rank-gt-MOST_LISTED.false in

@@ -1,18 +1,11 @@
 -- The refusal of the description is told on; else the page is counted by the rank and the step.
 use Rattle.pauli_group.specs.Promises.{promise_of}
 use Rattle.pauli_group.proofs.calls.CallLaws.{facts_none, facts_given}
-use Rattle.pauli_group.proofs.group.GroupedLaws.{step_kinds}
 use Rattle.sizes.proofs.page.PageLaws.{page_refused, page_told_lem}
 use Rattle.pauli.proofs.refusal.HandedOn.{handed_on}
 use Rattle.pauli.specs.Refusals.{told_of}
 use Rattle.std.proofs.Common.{ap, ◌∙◌}
 use Rattle.sizes.proofs.page.page_size.Goals as goal
-
-pub page_of-requires : goal.page_of-requires
-page_of-requires c =
-    let e = c.describe_list.ensures in
-    let found = facts_given (promise_of c.args.promise) _ _ e.told _ c.in_ok-d.was in
-    (rw found.facts.step_is (step_kinds _ _).0, rw found.facts.step_is (step_kinds _ _).1)
 
 pub returns-in_err-d : goal.returns-in_err-d
 returns-in_err-d c =

@@ -2,7 +2,7 @@
 use mathlib.Core.Path.{◌≡◌, refl}
 use Prim.Native.Nat.{ℕ, zero, suc}
 use Rattle.pauli_theory.specs.Group.{none, abelian, not_abelian}
-use Rattle.capi.specs.Code.{promise_numbered}
+use Rattle.pauli_group.specs.Promises.{promise_numbered}
 
 pub numbered_abelian : (n : ℕ) → n ≡ 1 → promise_numbered n ≡ abelian
 unfolding promise_numbered

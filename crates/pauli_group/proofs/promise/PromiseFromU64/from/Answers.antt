@@ -1,7 +1,6 @@
-use mathlib.Core.Path.{sym}
-use native.Mathlib.Omega.{arith}
-use Rattle.capi.proofs.promise.PromiseLaws.{numbered_abelian, numbered_not_abelian, numbered_none}
-use Rattle.capi.proofs.promise.promise_numbered.Goals as goal
+use Rattle.std.proofs.Common.{sym, arith}
+use Rattle.pauli_group.proofs.promise.PromiseLaws.{numbered_abelian, numbered_not_abelian, numbered_none}
+use Rattle.pauli_group.proofs.promise.PromiseFromU64.from.Goals as goal
 
 pub returns-in-1 : goal.returns-in-1
 returns-in-1 c = sym (numbered_abelian c.args.number (omega arith))
