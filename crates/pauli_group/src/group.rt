@@ -61,10 +61,7 @@ pub fn group_of(b: &[u8], n: usize, known: &mut Support, w: &mut [u64]) -> Group
     ensures group { Grouped (paulis (list_of b.now)) known.new w.new result.places result.rank result.total }
     ensures rest { Outside 0 further_at w.old w.new }
 {
-    let roll = Roll {
-        bytes: b,
-        count: n,
-    };
+    let roll = Roll { bytes: b, count: n };
     *known = Support::new();
     roll.gather(known);
     let qubits = known.qubits();

@@ -139,10 +139,7 @@ fn write_symplectic(b: &[u8], n: usize, w: &mut [u64], out: &mut [u8]) -> Result
     ensures left { out.new ≡ left_in (answer (symplectic_bytes (paulis (list_of b.now)))) out.old }
     ensures area { w.new ≡ cleared w.old }
 {
-    let roll = Roll {
-        bytes: b,
-        count: n,
-    };
+    let roll = Roll { bytes: b, count: n };
     let mut known = Support::new();
     roll.gather(&mut known);
     let qubits = known.qubits();
