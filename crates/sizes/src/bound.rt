@@ -14,10 +14,7 @@ fn qubits_of(b: &[u8], n: usize) -> usize
     requires { count_of b.now ≡ answer n }
     ensures { result ≡ length (support (list_of b.now)) }
 {
-    let roll = Roll {
-        bytes: b,
-        count: n,
-    };
+    let roll = Roll { bytes: b, count: n };
     let mut known = Support::new();
     roll.gather(&mut known);
     known.len()
