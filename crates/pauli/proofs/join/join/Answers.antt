@@ -8,10 +8,11 @@ use Rattle.pauli.proofs.join.join.Goals as goal
 pub returns-in_err-counts : goal.returns-in_err-counts
 returns-in_err-counts c = join_refused c.args.left.now c.args.right.now c.args.out.now _ _ _ (ap told_of (handed_on _ _ c.from_residual.ensures.1)) (sym c.in_err-counts.ensures)
 
-pub joined_bytes-size-requires : goal.joined_bytes-size-requires
-joined_bytes-size-requires c =
-    let j = counts_joining c.args.left.now c.args.right.now _ (sym c.in_ok-counts.ensures) in
-    (j.left, j.right)
+pub invariant_of-left : goal.invariant_of-left
+invariant_of-left c = record { accepted = (counts_joining c.args.left.now c.args.right.now _ (sym c.in_ok-counts.ensures)).left; low = λ i. (c.type_inv.left i).fits }
+
+pub invariant_of-right : goal.invariant_of-right
+invariant_of-right c = record { accepted = (counts_joining c.args.left.now c.args.right.now _ (sym c.in_ok-counts.ensures)).right; low = λ i. (c.type_inv.right i).fits }
 
 pub returns-then-out-size : goal.returns-then-out-size
 returns-then-out-size c =
@@ -19,9 +20,7 @@ returns-then-out-size c =
     join_short c.args.left.now c.args.right.now c.args.out.now _ _ j _ (sym c.joined_bytes-size.ensures) c.if-out-size.true _ (ap told_refusal c.into.ensures)
 
 pub put_joined-requires : goal.put_joined-requires
-put_joined-requires c =
-    let j = counts_joining c.args.left.now c.args.right.now _ (sym c.in_ok-counts.ensures) in
-    (j.left, j.right, omega (arith, c.joined_bytes-size.ensures, c.if-out-size.false))
+put_joined-requires c = omega (arith, c.joined_bytes-size.ensures, c.if-out-size.false)
 
 pub returns : goal.returns
 returns c =

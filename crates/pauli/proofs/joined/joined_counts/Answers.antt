@@ -8,27 +8,24 @@ use Rattle.pauli.specs.Refusals.{told_by, told_refusal}
 use Rattle.pauli.proofs.refusal.HandedOn.{handed_on}
 use Rattle.pauli.proofs.joined.joined_counts.Goals as goal
 
-pub returns-in_err-nl : goal.returns-in_err-nl
-returns-in_err-nl c = ap (told_by counts_in) (handed_on _ _ c.from_residual.ensures.1) ∙ sym (counts_left c.args.left.now c.args.right.now _ _ (sym c.in_err-nl.ensures))
+pub returns-in_err-left : goal.returns-in_err-left
+returns-in_err-left c = ap (told_by counts_in) (handed_on _ _ c.from_residual.ensures.1) ∙ sym (counts_left c.args.left.now c.args.right.now _ _ (sym c.in_err-left.ensures.count))
 
-pub returns-in_err-nr : goal.returns-in_err-nr
-returns-in_err-nr c = ap (told_by counts_in) (handed_on _ _ c.from_residual-in_err-nr.ensures.1) ∙ sym (counts_right c.args.left.now c.args.right.now _ (sym c.in_ok-nl.ensures) _ _ (sym c.in_err-nr.ensures))
+pub returns-in_err-right : goal.returns-in_err-right
+returns-in_err-right c = ap (told_by counts_in) (handed_on _ _ c.from_residual-in_err-right.ensures.1) ∙ sym (counts_right c.args.left.now c.args.right.now _ (sym c.in_ok-left.ensures.count) _ _ (sym c.in_err-right.ensures.count))
 
-pub overflow_add-nl : goal.overflow_add-nl
+pub overflow_add-left : goal.overflow_add-left
 unfolding most_paulis
-overflow_add-nl c = omega (arith, accepted_few c.args.left.now _ (sym c.in_ok-nl.ensures), accepted_few c.args.right.now _ (sym c.in_ok-nr.ensures))
+overflow_add-left c = omega (arith, accepted_few c.args.left.now _ (sym c.in_ok-left.ensures.count), accepted_few c.args.right.now _ (sym c.in_ok-right.ensures.count))
 
-pub returns-then-nl-nr-gt-MOST_PAULIS : goal.returns-then-nl-nr-gt-MOST_PAULIS
+pub returns-then-left-right-gt-MOST_PAULIS : goal.returns-then-left-right-gt-MOST_PAULIS
 unfolding most_paulis
-returns-then-nl-nr-gt-MOST_PAULIS c = ap told_refusal c.into.ensures ∙ sym (counts_many c.args.left.now c.args.right.now _ (sym c.in_ok-nl.ensures) _ (sym c.in_ok-nr.ensures) c.if-nl-nr-gt-MOST_PAULIS.true)
-
-pub joined_qubits-requires : goal.joined_qubits-requires
-joined_qubits-requires c = ((sym c.in_ok-nl.ensures), (sym c.in_ok-nr.ensures))
+returns-then-left-right-gt-MOST_PAULIS c = ap told_refusal c.into.ensures ∙ sym (counts_many c.args.left.now c.args.right.now _ (sym c.in_ok-left.ensures.count) _ (sym c.in_ok-right.ensures.count) c.if-left-right-gt-MOST_PAULIS.true)
 
 pub returns-then-joined_qubits-gt-MOST_QUBITS : goal.returns-then-joined_qubits-gt-MOST_QUBITS
 unfolding most_paulis most_qubits
-returns-then-joined_qubits-gt-MOST_QUBITS c = ap told_refusal c.into-then-joined_qubits-gt-MOST_QUBITS.ensures ∙ sym (counts_qubits c.args.left.now c.args.right.now _ (sym c.in_ok-nl.ensures) _ (sym c.in_ok-nr.ensures) c.if-nl-nr-gt-MOST_PAULIS.false _ c.joined_qubits.ensures c.if-joined_qubits-gt-MOST_QUBITS.true)
+returns-then-joined_qubits-gt-MOST_QUBITS c = ap told_refusal c.into-then-joined_qubits-gt-MOST_QUBITS.ensures ∙ sym (counts_qubits c.args.left.now c.args.right.now _ (sym c.in_ok-left.ensures.count) _ (sym c.in_ok-right.ensures.count) c.if-left-right-gt-MOST_PAULIS.false _ (rw (c.in_ok-left.ensures.bytes, c.in_ok-right.ensures.bytes) at c.joined_qubits.ensures) c.if-joined_qubits-gt-MOST_QUBITS.true)
 
 pub returns : goal.returns
 unfolding most_paulis most_qubits
-returns c = sym (counts_pass c.args.left.now c.args.right.now _ (sym c.in_ok-nl.ensures) _ (sym c.in_ok-nr.ensures) c.if-nl-nr-gt-MOST_PAULIS.false _ c.joined_qubits.ensures c.if-joined_qubits-gt-MOST_QUBITS.false)
+returns c = sym (counts_pass c.args.left.now c.args.right.now _ (sym c.in_ok-left.ensures.count) _ (sym c.in_ok-right.ensures.count) c.if-left-right-gt-MOST_PAULIS.false _ (rw (c.in_ok-left.ensures.bytes, c.in_ok-right.ensures.bytes) at c.joined_qubits.ensures) c.if-joined_qubits-gt-MOST_QUBITS.false)

@@ -1,4 +1,5 @@
 use Rattle.std.proofs.Common.{ap, arith}
+use Rattle.pauli.proofs.joined.JoinLaws.{accepted}
 use Rattle.pauli.specs.Condense.{nothing}
 use Rattle.pauli.specs.Pauli.{normal}
 use Rattle.pauli_group.specs.Inner.Lists.{over_places}
@@ -16,9 +17,9 @@ pub loop-i-preserved : goal.loop-i-preserved
 unfolding over_places
 loop-i-preserved c =
     let next =
-    stored_step _ _ _ _ _ _ _ c.loop-i.invariant.1 c.requires.3 nothing _ c.loop-i-test.true c.requires.2
+    stored_step _ _ _ _ _ _ _ c.loop-i.invariant.1 (accepted _ _ c.args.roll.accepted).1 nothing _ c.loop-i-test.true c.requires.2
     (ap normal c.condense_from.ensures) _ c.store.ensures in
     (omega arith, next)
 
 pub returns : goal.returns
-returns c = record { list = stored_all _ _ _ _ _ _ _ c.loop-i.invariant.1 c.requires.3 c.loop-i.invariant.0 (omega arith); rest = c.loop-i.invariant.1.rest }
+returns c = record { list = stored_all _ _ _ _ _ _ _ c.loop-i.invariant.1 (accepted _ _ c.args.roll.accepted).1 c.loop-i.invariant.0 (omega arith); rest = c.loop-i.invariant.1.rest }

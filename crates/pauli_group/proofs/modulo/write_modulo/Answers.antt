@@ -5,8 +5,11 @@ use Rattle.pauli_group.proofs.group.GroupedLaws.{cleared_whole}
 use Rattle.pauli_group.proofs.modulo.ModuloLaws.{joined_places, joined_support, joined_size, remainder_on, remainder_written}
 use Rattle.pauli_group.proofs.modulo.write_modulo.Goals as goal
 
-pub join_support-support-requires : goal.join_support-support-requires
-join_support-support-requires c = (c.requires.0.left, c.requires.0.right)
+pub invariant_of-first : goal.invariant_of-first
+invariant_of-first c = record { accepted = c.requires.0.left; low = λ i. (c.type_inv.left i).fits }
+
+pub invariant_of-second : goal.invariant_of-second
+invariant_of-second c = record { accepted = c.requires.0.right; low = λ i. (c.type_inv.right i).fits }
 
 pub remainder-count-requires : goal.remainder-count-requires
 remainder-count-requires c =

@@ -13,11 +13,11 @@ returns-in_err-counts c =
     let told = sizes_refused c.args.left.now c.args.right.now _ _ (sym c.in_err-counts.ensures) in
     record { told = ap (told_by sizes_in) (handed_on _ _ c.from_residual.ensures.1) ∙ told }
 
-pub joined_bytes-bytes-requires : goal.joined_bytes-bytes-requires
-joined_bytes-bytes-requires c =
-    let told = sym c.in_ok-counts.ensures in
-    let j = counts_joining c.args.left.now c.args.right.now _ told in
-    (j.left, j.right)
+pub invariant_of-first : goal.invariant_of-first
+invariant_of-first c = record { accepted = (counts_joining c.args.left.now c.args.right.now _ (sym c.in_ok-counts.ensures)).left; low = λ i. (c.type_inv.left i).fits }
+
+pub invariant_of-second : goal.invariant_of-second
+invariant_of-second c = record { accepted = (counts_joining c.args.left.now c.args.right.now _ (sym c.in_ok-counts.ensures)).right; low = λ i. (c.type_inv.right i).fits }
 
 pub overflow_add-count : goal.overflow_add-count
 unfolding most_paulis
@@ -25,12 +25,6 @@ overflow_add-count c =
     let told = sym c.in_ok-counts.ensures in
     let j = counts_joining c.args.left.now c.args.right.now _ told in
     omega (arith, j.few)
-
-pub joined_qubits-qubits-requires : goal.joined_qubits-qubits-requires
-joined_qubits-qubits-requires c =
-    let told = sym c.in_ok-counts.ensures in
-    let j = counts_joining c.args.left.now c.args.right.now _ told in
-    (j.left, j.right)
 
 pub returns : goal.returns
 returns c =
