@@ -5,7 +5,7 @@ ghost use Rattle.pauli.specs.Condense.{list_of};
 ghost use Rattle.pauli.specs.JoinContract.{JoinCall};
 ghost use Rattle.pauli.specs.Writing.{put_bytes};
 
-use crate::joined::{joined_bytes, joined_counts};
+use crate::joined::{Pair, joined_bytes};
 use crate::refusal::{Reason, Refusal};
 use crate::roll::Roll;
 use crate::write::{put_entry, put_u16};
@@ -58,19 +58,11 @@ fn put_joined(out: &mut [u8], left: Roll, right: Roll)
 pub fn join(left: &[u8], right: &[u8], out: &mut [u8]) -> Result<usize, Refusal>
     ensures { JoinCall left.now right.now out.old result out.new }
 {
-    let counts = joined_counts(left, right)?;
-    let left = Roll {
-        bytes: left,
-        count: counts.left,
-    };
-    let right = Roll {
-        bytes: right,
-        count: counts.right,
-    };
-    let size = joined_bytes(left, right);
+    let pair = Pair::read(left, right)?;
+    let size = joined_bytes(pair.left, pair.right);
     if out.len() < size {
         return Err(Reason::Output.into());
     }
-    put_joined(out, left, right);
+    put_joined(out, pair.left, pair.right);
     Ok(size)
 }

@@ -1,5 +1,5 @@
 // Two rolls joined: left's Paulis, then right's.
-ghost use Rattle.std.specs.Prelude.{◌≡◌, suc, ◌+◌, ◌*◌, min, ◌++◌, length};
+ghost use Rattle.std.specs.Prelude.{◌≡◌, suc, ◌+◌, ◌*◌, min, ◌++◌, ◌≤◌, length, IfOk};
 ghost use Rattle.pauli.specs.Roll.{support, write};
 ghost use Rattle.pauli.specs.Support.{most_qubits};
 ghost use Rattle.pauli.specs.Known.{Gathered};
@@ -43,20 +43,40 @@ pub fn joined_qubits(left: Roll, right: Roll) -> usize
     join_support(left, right).len()
 }
 
-// Checks two rolls, then the limits of the joined list.
+// Two accepted rolls that can be joined.
+#[derive(Clone, Copy)]
+pub struct Pair<'a> {
+    pub left: Roll<'a>,
+    pub right: Roll<'a>,
+    pub ghost few: { left.count + right.count ≤ 128 },
+    pub ghost qubits: { length (support (list_of left.bytes.now ++ list_of right.bytes.now)) ≤ most_qubits },
+}
+
+impl<'a> Pair<'a> {
+    // Checks two rolls, then the limits of the joined list.
+    pub fn read(left: &'a [u8], right: &'a [u8]) -> Result<Pair<'a>, Refusal>
+        ensures counts { told_by (λ pair. record { left = pair.left.count; right = pair.right.count }) result ≡ counts_of left.now right.now }
+        ensures rolls { IfOk result (λ pair. (pair.left.bytes ≡ left.entry) × (pair.right.bytes ≡ right.entry)) }
+    {
+        let left = Roll::read(left)?;
+        let right = Roll::read(right)?;
+        if left.count + right.count > MOST_PAULIS {
+            return Err(Reason::Paulis.into());
+        }
+        if joined_qubits(left, right) > MOST_QUBITS {
+            return Err(Reason::Qubits.into());
+        }
+        Ok(Pair { left, right })
+    }
+}
+
+// How many Paulis each of two rolls that can be joined has.
 pub fn joined_counts(left: &[u8], right: &[u8]) -> Result<RollCounts, Refusal>
     ensures { told_by counts_in result ≡ counts_of left.now right.now }
 {
-    let left = Roll::read(left)?;
-    let right = Roll::read(right)?;
-    if left.count + right.count > MOST_PAULIS {
-        return Err(Reason::Paulis.into());
-    }
-    if joined_qubits(left, right) > MOST_QUBITS {
-        return Err(Reason::Qubits.into());
-    }
+    let pair = Pair::read(left, right)?;
     Ok(RollCounts {
-        left: left.count,
-        right: right.count,
+        left: pair.left.count,
+        right: pair.right.count,
     })
 }

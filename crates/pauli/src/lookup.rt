@@ -5,7 +5,7 @@ ghost use Rattle.pauli.specs.Condense.{list_of, nothing};
 ghost use Rattle.pauli.specs.JoinCalls.{looked_up as looked_up_spec, entry_of, stretch_in, stretch_of, body_in as body_in_spec, body_of, bytes_past, address_of};
 ghost use Rattle.pauli.specs.Refusals.{told_by};
 
-use crate::joined::joined_counts;
+use crate::joined::Pair;
 use crate::refusal::{Reason, Refusal};
 use crate::roll::Roll;
 
@@ -34,15 +34,9 @@ fn looked_up(roll: Roll, i: usize) -> JoinedEntry
 pub fn joined_entry(left: &[u8], right: &[u8], n: usize) -> Result<JoinedEntry, Refusal>
     ensures { told_by looked_in result ≡ entry_of left.now right.now n }
 {
-    let counts = joined_counts(left, right)?;
-    let l = Roll {
-        bytes: left,
-        count: counts.left,
-    };
-    let r = Roll {
-        bytes: right,
-        count: counts.right,
-    };
+    let pair = Pair::read(left, right)?;
+    let l = pair.left;
+    let r = pair.right;
     if n < l.count {
         return Ok(looked_up(l, n));
     }
@@ -69,21 +63,14 @@ pub fn joined_body<'a>(left: &'a [u8], right: &'a [u8], n: usize) -> &'a [u8]
     ensures bytes { result.now ≡ body_of left.now right.now n }
     ensures place { result.ref_ptr ≡ address_of left.entry.ref_ptr right.entry.ref_ptr (stretch_of left.now right.now n) }
 {
-    let found = joined_counts(left, right);
-    let counts = match found {
-        Err(r) => {
+    let pair = match Pair::read(left, right) {
+        Err(_) => {
             return &left[0..0];
         }
-        Ok(counts) => counts,
+        Ok(pair) => pair,
     };
-    let l = Roll {
-        bytes: left,
-        count: counts.left,
-    };
-    let r = Roll {
-        bytes: right,
-        count: counts.right,
-    };
+    let l = pair.left;
+    let r = pair.right;
     if n < l.count {
         return body_in(l, n);
     }

@@ -169,7 +169,7 @@ impl<'a> Roll<'a> {
     // The roll that these bytes are, or why they are refused.
     pub fn read(bytes: &'a [u8]) -> Result<Roll<'a>, Refusal>
         ensures count { told_by (λ roll. roll.count) result ≡ count_of bytes.now }
-        ensures bytes { IfOk result (λ roll. roll.bytes.now ≡ bytes.now) }
+        ensures bytes { IfOk result (λ roll. roll.bytes ≡ bytes.entry) }
     {
         let count = check_roll(bytes)?;
         Ok(Roll { bytes, count })
