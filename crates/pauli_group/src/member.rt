@@ -118,7 +118,7 @@ pub fn factor(
     let p = condense_from(roll, i, known);
     let set = solve(w, n, places, group.rank, p)?;
     let product = indexed_product(w, LIST, n, set);
-    let left = std::num::wrapping_sub_u8(p.exponent, product.exponent) % 4;
+    let left = p.exponent.wrapping_sub(product.exponent) % 4;
     if (left as u64) % phases.step() != 0 {
         return None;
     }
