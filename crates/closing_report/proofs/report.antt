@@ -1,4 +1,3 @@
 pub mod CallLaws
 pub mod BoundLaws
-pub mod ResultLaws
 pub mod Example

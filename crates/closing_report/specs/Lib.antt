@@ -1,9 +1,7 @@
 pub mod Decimal
 pub mod Lines
-pub mod Put
 pub mod InputRolls
 pub mod Split
-pub mod Stored
 pub mod Bound
 pub mod Contract
 pub mod Example

@@ -6,7 +6,7 @@
 pub(crate) mod text;
 // The lines of the listing.
 pub mod lines;
-// Results of membership in the work area, and their lines.
+// The lines of the results of membership that stand in the work area.
 pub mod stored;
 // A whole text, written where there is room.
 pub mod listing;

@@ -5,16 +5,18 @@ ghost use Rattle.pauli.specs.Refusals.{number_of};
 ghost use Rattle.pauli.specs.Sets.{members};
 ghost use Rattle.pauli.specs.PlaceSet.{set_in};
 ghost use Rattle.pauli_group.specs.Inner.Lists.{step_told};
+ghost use Rattle.pauli_group.specs.Inner.Members.{factors_told};
 ghost use Rattle.pauli_group.specs.Answers.{yes_number};
+ghost use Rattle.factorizations.specs.Put.{Put};
 ghost use Rattle.closing_report.specs.Lines.{phases_text, abelian_text, first_line, indexes_text, member_line, refused_line};
-ghost use Rattle.closing_report.specs.Put.{Put};
 
 use crate::text::{number_length, put_labelled, put_number, put_text};
 use pauli::places::Places;
 use pauli::refusal::{Refusal, number_of};
 use pauli::support::Place;
 use pauli_group::answers::Phases;
-use pauli_group::standard::Signs;
+use pauli_group::group::Description;
+use pauli_group::member::IndexSet;
 
 // ---- the first line
 
@@ -59,17 +61,24 @@ fn put_abelian(out: &mut [u8], at: usize, clash: bool) -> usize
     put_text(out, at, b"yes")
 }
 
-pub(crate) fn first_line_length(rank: usize, signs: Signs) -> usize
-    ensures { (result ≡ length (first_line rank (step_told signs.phases) (yes_number signs.clash))) × (result ≤ 53) }
+pub(crate) fn first_line_length(group: Description) -> usize
+    ensures { (result ≡ length (first_line group.rank (step_told group.signs.phases) (yes_number group.signs.clash))) × (result ≤ 53) }
 {
-    5 + number_length(rank) + 8 + phases_length(signs.phases) + 9 + abelian_length(signs.clash) + 1
+    let signs = group.signs;
+    5 + number_length(group.rank)
+        + 8
+        + phases_length(signs.phases)
+        + 9
+        + abelian_length(signs.clash)
+        + 1
 }
 
-pub(crate) fn put_first_line(out: &mut [u8], at: usize, rank: usize, signs: Signs) -> usize
-    requires { at + length (first_line rank (step_told signs.phases) (yes_number signs.clash)) ≤ length out.old }
-    ensures { Put out.old at (first_line rank (step_told signs.phases) (yes_number signs.clash)) out.new result }
+pub(crate) fn put_first_line(out: &mut [u8], at: usize, group: Description) -> usize
+    requires { at + length (first_line group.rank (step_told group.signs.phases) (yes_number group.signs.clash)) ≤ length out.old }
+    ensures { Put out.old at (first_line group.rank (step_told group.signs.phases) (yes_number group.signs.clash)) out.new result }
 {
-    let phases = put_labelled(out, at, b"rank ", rank);
+    let signs = group.signs;
+    let phases = put_labelled(out, at, b"rank ", group.rank);
     let step_at = put_text(out, phases, b" phases ");
     let abelian = put_phases(out, step_at, signs.phases);
     let clash_at = put_text(out, abelian, b" abelian ");
@@ -104,26 +113,25 @@ fn put_indexes(out: &mut [u8], at: usize, set: Places) -> usize
     next
 }
 
-pub(crate) fn member_line_length(i: usize, set: Places, exponent: usize) -> usize
-    ensures { (result ≡ length (member_line i (some (record { indexes = set_in set; exponent = exponent })))) × (result ≤ 2743) }
+pub(crate) fn member_line_length(i: usize, found: IndexSet) -> usize
+    ensures { (result ≡ length (member_line i (some (factors_told found)))) × (result ≤ 2743) }
 {
-    number_length(i) + 7 + indexes_length(set) + 7 + number_length(exponent) + 1
+    number_length(i)
+        + 7
+        + indexes_length(found.set)
+        + 7
+        + number_length(found.exponent as usize)
+        + 1
 }
 
-pub(crate) fn put_member_line(
-    out: &mut [u8],
-    at: usize,
-    i: usize,
-    set: Places,
-    exponent: usize,
-) -> usize
-    requires { at + length (member_line i (some (record { indexes = set_in set; exponent = exponent }))) ≤ length out.old }
-    ensures { Put out.old at (member_line i (some (record { indexes = set_in set; exponent = exponent }))) out.new result }
+pub(crate) fn put_member_line(out: &mut [u8], at: usize, i: usize, found: IndexSet) -> usize
+    requires { at + length (member_line i (some (factors_told found))) ≤ length out.old }
+    ensures { Put out.old at (member_line i (some (factors_told found))) out.new result }
 {
     let member = put_number(out, at, i);
     let indexes = put_text(out, member, b" member");
-    let phase = put_indexes(out, indexes, set);
-    let end = put_labelled(out, phase, b" phase ", exponent);
+    let phase = put_indexes(out, indexes, found.set);
+    let end = put_labelled(out, phase, b" phase ", found.exponent as usize);
     put_text(out, end, b"\n")
 }
 

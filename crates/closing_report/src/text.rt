@@ -1,8 +1,8 @@
 // Texts and decimal numbers, put into an output. Each function that puts something returns the byte past it.
 ghost use Rattle.std.specs.Prelude.{◌≡◌, ◌+◌, ◌≤◌, length};
+ghost use Rattle.factorizations.specs.Put.{Put};
 ghost use Rattle.closing_report.specs.Decimal.{digits};
 ghost use Rattle.closing_report.specs.Lines.{labelled};
-ghost use Rattle.closing_report.specs.Put.{Put};
 
 // How many decimal digits a number has.
 pub(crate) fn number_length(n: usize) -> usize
@@ -21,12 +21,9 @@ pub(crate) fn put_text(out: &mut [u8], at: usize, text: &[u8]) -> usize
     requires { at + length text.now ≤ length out.old }
     ensures { Put out.old at text.now out.new result }
 {
-    let mut k = 0;
-    while k < text.len() {
-        out[at + k] = text[k];
-        k += 1;
-    }
-    at + k
+    let end = at + text.len();
+    out[at..end].copy_from_slice(text);
+    end
 }
 
 // Puts the decimal digits of a number, from the last one on.

@@ -3,24 +3,16 @@ use mathlib.Core.Path.{◌≡◌, refl, sym, ap, ◌∙◌}
 use mathlib.Core.List.{List, [], ◌∷◌, ◌++◌}
 use Prim.Native.Nat.{ℕ, ◌+◌, ◌*◌, ◌^◌, ◌≤◌, ◌<◌}
 use native.Mathlib.Omega.{arith}
-use lib.Arith.{digits_lt}
 use lib.ListN.{length, length-append}
 use Rattle.binar.specs.Row.{bit}
-use Rattle.pauli.specs.declared.places.Places.{Places}
 use Rattle.pauli.specs.Sets.{members}
-use Rattle.pauli.specs.PlaceSet.{set_in}
-use Rattle.pauli.proofs.places.Halves.{Words}
 use Rattle.pauli.proofs.places.Firsts.{First}
 use Rattle.pauli.proofs.write.Puts.{chosen_from, chosen_start, chosen_end, chosen_hit, chosen_skip, Left, left_done, left_same, left_room, left_step}
 use Rattle.pauli_theory.proofs.OverPlaces.{up_to, up_to_length, up_to_at}
 use Rattle.pauli_theory.proofs.IndexSets.{members_up_to}
 use Rattle.closing_report.specs.Decimal.{ascii, digits}
 use Rattle.closing_report.specs.Lines.{labelled, indexes_text}
-use Rattle.closing_report.specs.Put.{Put}
-
-pub two_words : (s : Places) → Words s → set_in s < 2 ^ 128
-unfolding set_in
-two_words s f = digits_lt {m = 2 ^ 64} f.high f.low
+use Rattle.factorizations.specs.Put.{Put}
 
 -- the text of the indexes from i on
 unfoldable pub text_from : ℕ → ℕ → List ℕ

@@ -1,27 +1,24 @@
 -- How long the text can be.
 use mathlib.Core.Path.{◌≡◌, refl, sym, ap, ◌∙◌}
 use mathlib.Core.List.{List, [], ◌∷◌, map}
-use mathlib.Core.Option.{Option, some, none, some-injective}
+use mathlib.Core.Option.{Option, some, none}
 use Prim.Native.Nat.{ℕ, zero, suc, ◌+◌, ◌*◌, ◌/◌, ◌%◌, ◌^◌, ◌≤◌, ◌<◌}
 use native.Mathlib.Nat.{lt_of_lt_of_le}
 use native.Mathlib.Omega.{arith}
 use lib.ListN.{length, take, drop, length-append, length-map, length-take}
 use lib.Pow.{pow_mono}
 use lib.Seq.{take_at}
-use Rattle.pauli.specs.Pauli.{Pauli, cons_if, select, indexed_product}
+use Rattle.pauli.specs.Pauli.{Pauli, cons_if, select}
 use Rattle.pauli.specs.Roll.{most_paulis, Sparse, read, count_of}
 use Rattle.pauli.specs.Support.{All}
 use Rattle.pauli.specs.Sets.{members, pauli_of}
 use Rattle.pauli.specs.Told.{Told, answer, refused, map_told}
 use Rattle.pauli.specs.Writing.{put_bytes}
 use Rattle.pauli.proofs.joined.JoinLaws.{accepted_few}
-use Rattle.pauli_theory.specs.Group.{Promise, none as no_promise}
-use Rattle.pauli_theory.specs.Membership.{Factorization, outside, exponent_left, with_phase, factorization_of}
+use Rattle.pauli_theory.specs.Group.{none as no_promise}
+use Rattle.pauli_theory.specs.Membership.{Factorization, factorization_of}
 use Rattle.pauli_theory.specs.Standard.{if_zero, rank, nonabelian, phase_step}
-use Rattle.pauli_theory.proofs.Phases.{with_phase_lem}
-use Rattle.pauli_theory.proofs.Agree.{left_lt}
 use Rattle.pauli_theory.proofs.ByProducts.{rank_le}
-use Rattle.pauli_theory.proofs.IfZero.{if_zero_some}
 use Rattle.pauli_theory.proofs.OverPlaces.{count_from, up_to}
 use Rattle.pauli_group.specs.Calls.{paulis}
 use Rattle.pauli_group.proofs.factorization.QuestionLaws.{indexes_below}
@@ -30,7 +27,8 @@ use Rattle.closing_report.specs.Decimal.{ascii, digits, digits_up_to}
 use Rattle.closing_report.specs.Lines.{labelled, line_feed, phases_text, abelian_text, indexes_text, first_line, member_line, member_lines, refused_line}
 use Rattle.closing_report.specs.InputRolls.{rolls_in}
 use Rattle.closing_report.specs.Listing.{report, or_refused_in, text_of}
-use Rattle.closing_report.specs.Stored.{Storable}
+use Rattle.factorizations.specs.Stored.{Storable}
+use Rattle.factorizations.proofs.stored.ResultLaws.{storable}
 use Rattle.closing_report.proofs.text.DecimalLaws.{few_digits}
 use Rattle.pauli_theory.proofs.IndexSets.{members_up_to}
 use Rattle.closing_report.proofs.report.CallLaws.{call_told, call_put}
@@ -98,19 +96,6 @@ lines_short i (o ∷ os) h a =
     omega (arith, length-append (member_line i o) (member_lines (suc i) os), member_short i (omega arith) o a.0, lines_short (suc i) os (omega arith) a.1)
 
 -- ---- what membership answers
-
-phased : (promise : Promise) (gs : List Pauli) (p : Pauli) (o : Option ℕ) (f : Factorization) → with_phase promise gs p o ≡ some f → f.exponent < 4
-unfolding with_phase
-phased promise gs p none f e = let z : ◌≡◌ {A = ℕ} 0 1 = cc in absurd (omega arith)
-phased promise gs p (some s) f e =
-    let k = exponent_left p (indexed_product s gs) in
-    let h = if_zero_some (k % phase_step promise gs) (some (record { indexes = s; exponent = k })) f (sym (with_phase_lem promise gs p s) ∙ e) in
-    rw (← some-injective _ f h.1) (left_lt p (indexed_product s gs))
-
-pub storable : (promise : Promise) (gs : List Pauli) (p : Pauli) (o : Option Factorization) → factorization_of promise gs p ≡ o → Storable o
-unfolding factorization_of
-storable promise gs p none e = tt
-storable promise gs p (some f) e = phased promise gs p _ f (if_zero_some (outside gs p) _ f e).1
 
 module _ (gs : List Pauli) (few : length gs ≤ 128) where
   answered : (p : Pauli) (o : Option Factorization) → factorization_of no_promise gs p ≡ o → Answered o

@@ -23,7 +23,7 @@ use Rattle.closing_report.specs.Contract.{ReportCall}
 use Rattle.closing_report.specs.Lines.{first_line, member_lines, refused_line}
 use Rattle.closing_report.specs.InputRolls.{Rolls, rolls_in}
 use Rattle.closing_report.specs.Listing.{report, or_refused_in, text_of, listing}
-use Rattle.closing_report.proofs.text.PutLaws.{text_told, text_left}
+use Rattle.factorizations.proofs.records.PutLaws.{text_told, text_left}
 use Rattle.std.proofs.Common.{Err, Result}
 
 module _ (input : List ℕ) where

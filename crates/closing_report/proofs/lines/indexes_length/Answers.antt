@@ -1,6 +1,7 @@
 use native.Mathlib.Omega.{arith}
 use Rattle.pauli.proofs.places.Firsts.{first_told}
-use Rattle.closing_report.proofs.lines.IndexLaws.{two_words, counted_start, counted_end, counted_skip, counted_hit}
+use Rattle.factorizations.proofs.records.RecordLaws.{two_words}
+use Rattle.closing_report.proofs.lines.IndexLaws.{counted_start, counted_end, counted_skip, counted_hit}
 use Rattle.closing_report.proofs.lines.indexes_length.Goals as goal
 
 pub first_from-i-requires : goal.first_from-i-requires

@@ -2,7 +2,7 @@
 use Rattle.closing_report.specs.Decimal.{ascii, digits}
 use Rattle.closing_report.specs.Lines.{member_line, line_feed}
 use Rattle.closing_report.proofs.lines.LineLaws.{other_pieces}
-use Rattle.closing_report.proofs.text.PutLaws.{joined, room, begun, next_room, next_put}
+use Rattle.factorizations.proofs.records.PutLaws.{joined, room, begun, next_room, next_put}
 use Rattle.closing_report.proofs.lines.put_other_line.Goals as goal
 
 pub put_number-text-requires : goal.put_number-text-requires

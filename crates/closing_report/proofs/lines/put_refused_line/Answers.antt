@@ -3,7 +3,7 @@ use Rattle.pauli.specs.Refusals.{number_of}
 use Rattle.closing_report.specs.Decimal.{ascii}
 use Rattle.closing_report.specs.Lines.{refused_line, labelled, line_feed}
 use Rattle.closing_report.proofs.lines.LineLaws.{refused_pieces}
-use Rattle.closing_report.proofs.text.PutLaws.{joined, room, begun, next_room, next_put}
+use Rattle.factorizations.proofs.records.PutLaws.{joined, room, begun, next_room, next_put}
 use Rattle.closing_report.proofs.lines.put_refused_line.Goals as goal
 
 pub put_labelled-place-requires : goal.put_labelled-place-requires

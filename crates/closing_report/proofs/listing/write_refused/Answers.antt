@@ -1,6 +1,6 @@
 -- The length is known before the first byte is put.
 use native.Mathlib.Omega.{arith}
-use Rattle.closing_report.proofs.text.PutLaws.{text_short, text_long}
+use Rattle.factorizations.proofs.records.PutLaws.{text_short, text_long}
 use Rattle.std.proofs.Common.{ap, ◌∙◌}
 use Rattle.pauli.specs.Refusals.{told_refusal}
 use Rattle.closing_report.proofs.listing.write_refused.Goals as goal

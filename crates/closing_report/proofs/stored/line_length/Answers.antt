@@ -1,14 +1,11 @@
--- By the exponent's word.
-use native.Mathlib.Omega.{arith}
-use Rattle.pauli.specs.PlaceSet.{set_in}
-use Rattle.closing_report.proofs.stored.StoredLaws.{result_member, result_other}
+-- By what membership tells.
+use Rattle.std.proofs.Common.{arith}
 use Rattle.closing_report.proofs.stored.line_length.Goals as goal
 
-pub returns-then-exponent-ge-NO_MEMBER : goal.returns-then-exponent-ge-NO_MEMBER
-returns-then-exponent-ge-NO_MEMBER c =
-    (rw (result_other c.args.w.now c.args.at (omega arith)) c.other_line_length.ensures.0, omega (arith, c.other_line_length.ensures.1))
+pub returns-in-None : goal.returns-in-None
+returns-in-None c =
+    let line = c.other_line_length.ensures in
+    (rw c.in-None.is line.0, omega (arith, line.1))
 
-pub returns : goal.returns
-unfolding set_in
-returns c =
-    (rw (result_member c.args.w.now c.args.at (omega arith)) c.member_line_length.ensures.0, c.member_line_length.ensures.1)
+pub returns-in-Some : goal.returns-in-Some
+returns-in-Some c = rw c.in-Some.is c.member_line_length.ensures

@@ -1,24 +1,19 @@
-use native.Mathlib.Omega.{arith}
-use Rattle.closing_report.proofs.stored.StoredLaws.{measured_start, measured_next, measured_end}
+use Rattle.std.proofs.Common.{arith}
+use Rattle.factorizations.proofs.stored.PieceLaws.{measured_start, measured_next, measured_end}
+use Rattle.closing_report.proofs.stored.StoredLaws.{lines}
 use Rattle.closing_report.proofs.stored.lines_length.Goals as goal
 
 pub loop-i-init : goal.loop-i-init
-loop-i-init c = measured_start _ _ _
-
-pub overflow_mul-i : goal.overflow_mul-i
-overflow_mul-i c = omega arith
-
-pub overflow_add-base : goal.overflow_add-base
-overflow_add-base c = omega arith
-
-pub line_length-total-requires : goal.line_length-total-requires
-line_length-total-requires c = omega arith
+loop-i-init c = measured_start lines _ _ _
 
 pub overflow_add-total : goal.overflow_add-total
 overflow_add-total c = omega (arith, c.line_length-total.ensures.1)
 
 pub loop-i-preserved : goal.loop-i-preserved
-loop-i-preserved c = measured_next _ _ _ c.loop-i.invariant c.loop-i-test.true _ c.line_length-total.ensures.0 c.line_length-total.ensures.1
+loop-i-preserved c =
+    let counted = c.line_length-total.ensures in
+    let size = rw c.result_at.ensures at counted.0 in
+    measured_next lines _ _ _ c.loop-i.invariant c.loop-i-test.true _ size counted.1
 
 pub returns : goal.returns
-returns c = measured_end _ _ _ c.loop-i.invariant (omega arith)
+returns c = measured_end lines _ _ _ c.loop-i.invariant (omega arith)

@@ -1,6 +1,7 @@
 -- Invariant: the lines of the elements below i are counted.
-use Rattle.closing_report.proofs.stored.StoredLaws.{Measured}
+use Rattle.factorizations.proofs.stored.PieceLaws.{Measured}
+use Rattle.closing_report.proofs.stored.StoredLaws.{lines}
 use Rattle.closing_report.proofs.stored.lines_length.Given as goal
 
 abbrev pub invariant-loop-i : goal.invariant-loop-i
-invariant-loop-i l = Measured l.w l.base l.m l.i l.total
+invariant-loop-i l = Measured lines l.w l.base l.m l.i l.total

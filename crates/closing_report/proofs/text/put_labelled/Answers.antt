@@ -2,7 +2,7 @@
 use mathlib.Core.List.{[], ◌∷◌}
 use Rattle.closing_report.specs.Decimal.{digits}
 use Rattle.closing_report.specs.Lines.{labelled}
-use Rattle.closing_report.proofs.text.PutLaws.{joined, room, begun, next_room, next_put}
+use Rattle.factorizations.proofs.records.PutLaws.{joined, room, begun, next_room, next_put}
 use Rattle.closing_report.proofs.text.put_labelled.Goals as goal
 
 pub put_text-next-requires : goal.put_text-next-requires
