@@ -1,5 +1,5 @@
 -- The refusal of the checks is told on; else the sizes.
-use Rattle.std.proofs.Common.{sym, ap, ◌∙◌, arith}
+use Rattle.std.proofs.Common.{sym, ap, ◌∙◌}
 use Rattle.pauli.proofs.joined.JoinLaws.{counts_joining}
 use Rattle.sizes.proofs.joined.SizesLaws.{sizes_refused, sizes_told}
 use Rattle.pauli.specs.Refusals.{told_by}
