@@ -68,6 +68,8 @@ pub(crate) fn put_first_line(out: &mut [u8], at: usize, group: Description) -> u
 
 // ---- the line of an element: the numbers of its index set are places in the list of generators
 
+// The length of the indexes and the indexes put are two walks over the set: a shared one would take a closure, with a contract longer
+// than the loop.
 fn indexes_length(set: Places) -> usize
     ensures { (result ≡ length (indexes_text (members (set_in set)))) × (result ≤ 2688) }
 {

@@ -29,8 +29,5 @@ loop-i-preserved c =
     let f = first_told (omega arith) c.first_from-i-in-loop-i.ensures in
     (f.found, put_skip _ _ (put_hit _ _ inv.1 c.loop-i-test.true (inv.0 c.loop-i-test.true) _ _ put.ensures put.auto.out) f)
 
-pub shape_of-out : goal.shape_of-out
-shape_of-out c = c.loop-i.invariant.1.size
-
 pub returns : goal.returns
 returns c = put_end _ _ c.loop-i.invariant.1 (omega arith)

@@ -12,8 +12,5 @@ loop-place-init c =
 pub loop-place-preserved : goal.loop-place-preserved
 loop-place-preserved c = (spelled_next _ _ _ c.loop-place.invariant.0 c.loop-place-test.true, c.loop-place.invariant.1)
 
-pub shape_of-out : goal.shape_of-out
-shape_of-out c = c.loop-place.invariant.0.size
-
 pub returns : goal.returns
 returns c = record { bytes = spelled_end _ _ _ c.loop-place.invariant.0 (omega arith); past = c.loop-place.invariant.1 }

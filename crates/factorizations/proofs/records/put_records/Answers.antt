@@ -16,8 +16,5 @@ loop-i-preserved c =
     let written = rw c.result_at.ensures at c.put_record-next.ensures in
     (omega arith, piece_put records _ _ _ _ c.loop-i.invariant.1 c.loop-i-test.true _ _ written c.put_record-next.auto.out)
 
-pub shape_of-out : goal.shape_of-out
-shape_of-out c = c.loop-i.invariant.1.size
-
 pub returns : goal.returns
 returns c = pieces_put records _ _ _ _ c.loop-i.invariant.1 (omega arith)
