@@ -8,7 +8,7 @@ ghost use Rattle.pauli.specs.Condense.{Covered, Readable, list_of, condensed, no
 
 use crate::bytes::u32_at;
 use crate::places::Places;
-use crate::roll::entry_at;
+use crate::roll::Roll;
 use crate::signed::Pauli;
 use crate::support::{Place, Qubit, place_from};
 
@@ -47,14 +47,14 @@ fn places_of(b: &[u8], at: usize, total: usize, support: &[u32]) -> Places
 }
 
 // Pauli i of a roll over the places of a support that has its qubits.
-pub fn condense_from(b: &[u8], n: usize, i: usize, support: &[u32]) -> Pauli
-    requires { Readable b.now n i support.now × (length support.now ≤ 128) }
-    ensures { held result ≡ condensed support.now (pauli_of (slice_index_or (list_of b.now) i nothing)) }
+pub fn condense_from(roll: Roll, i: usize, support: &[u32]) -> Pauli
+    requires { Readable roll.bytes.now roll.count i support.now × (length support.now ≤ 128) }
+    ensures { held result ≡ condensed support.now (pauli_of (slice_index_or (list_of roll.entry.bytes.now) i nothing)) }
 {
-    let e = entry_at(b, i);
-    let at = 2 + 10 * n + 4 * e.start;
-    let x = places_of(b, at, e.xcount, support);
-    let z = places_of(b, at + 4 * e.xcount, e.zcount, support);
+    let e = roll.entry(i);
+    let at = 2 + 10 * roll.count + 4 * e.start;
+    let x = places_of(roll.bytes, at, e.xcount, support);
+    let z = places_of(roll.bytes, at + 4 * e.xcount, e.zcount, support);
     Pauli {
         exponent: e.exponent,
         x: x,

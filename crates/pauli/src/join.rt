@@ -1,24 +1,23 @@
 // The joined roll.
 ghost use Rattle.std.specs.Prelude.{◌≡◌, ◌+◌, ◌*◌, ◌<◌, ◌≤◌, ◌++◌, map, length};
-ghost use Rattle.pauli.specs.Roll.{numbers, by_value, table, bodies, write, count_of};
-ghost use Rattle.pauli.specs.Told.{answer};
+ghost use Rattle.pauli.specs.Roll.{numbers, by_value, table, bodies, write};
 ghost use Rattle.pauli.specs.Condense.{list_of};
 ghost use Rattle.pauli.specs.JoinContract.{JoinCall};
 ghost use Rattle.pauli.specs.Writing.{put_bytes};
 
-use crate::joined::{joined_bytes, joined_counts, numbers_of};
+use crate::joined::{Pair, joined_bytes};
 use crate::refusal::{Reason, Refusal};
-use crate::roll::entry_at;
+use crate::roll::Roll;
 use crate::write::{put_entry, put_u16};
 
-// Writes the entries of an accepted roll of n Paulis from byte at on, where `before` qubit numbers stand in earlier bodies.
-fn copy_entries(out: &mut [u8], at: usize, b: &[u8], n: usize, before: usize)
-    requires { (count_of b.now ≡ answer n) × (at + 10 * n ≤ length out.old) × (before ≤ 16777216) }
-    ensures { out.new ≡ put_bytes out.old at (table before (map by_value (list_of b.now))) }
+// Writes the entries of a roll from byte at on, where `before` qubit numbers stand in earlier bodies.
+fn copy_entries(out: &mut [u8], at: usize, roll: Roll, before: usize)
+    requires { (at + 10 * roll.count ≤ length out.old) × (before ≤ 16777216) }
+    ensures { out.new ≡ put_bytes out.old at (table before (map by_value (list_of roll.entry.bytes.now))) }
 {
     let mut start = before;
-    for i in 0..n {
-        let e = entry_at(b, i);
+    for i in 0..roll.count {
+        let e = roll.entry(i);
         put_entry(
             out,
             at + 10 * i,
@@ -31,41 +30,39 @@ fn copy_entries(out: &mut [u8], at: usize, b: &[u8], n: usize, before: usize)
     }
 }
 
-// Writes the bodies of an accepted roll of n Paulis from byte at on.
-fn copy_bodies(out: &mut [u8], at: usize, b: &[u8], n: usize)
-    requires { (count_of b.now ≡ answer n) × (at + 4 * length (numbers (list_of b.now)) ≤ length out.old) }
-    ensures { out.new ≡ put_bytes out.old at (bodies (list_of b.now)) }
+// Writes the bodies of a roll from byte at on.
+fn copy_bodies(out: &mut [u8], at: usize, roll: Roll)
+    requires { at + 4 * length (numbers (list_of roll.bytes.now)) ≤ length out.old }
+    ensures { out.new ≡ put_bytes out.old at (bodies (list_of roll.entry.bytes.now)) }
 {
-    let bodies = &b[2 + 10 * n..];
+    let bodies = roll.bodies();
     out[at..at + bodies.len()].copy_from_slice(bodies);
 }
 
-// Writes the roll of two accepted rolls of nl and nr Paulis joined.
-fn put_joined(out: &mut [u8], left: &[u8], nl: usize, right: &[u8], nr: usize)
-    requires { (count_of left.now ≡ answer nl) × (count_of right.now ≡ answer nr) × (length (write (list_of left.now ++ list_of right.now)) ≤ length out.old) }
-    ensures { out.new ≡ put_bytes out.old 0 (write (list_of left.now ++ list_of right.now)) }
+// Writes the roll of two rolls joined.
+fn put_joined(out: &mut [u8], left: Roll, right: Roll)
+    requires { length (write (list_of left.bytes.now ++ list_of right.bytes.now)) ≤ length out.old }
+    ensures { out.new ≡ put_bytes out.old 0 (write (list_of left.entry.bytes.now ++ list_of right.entry.bytes.now)) }
 {
-    let kl = numbers_of(left, nl);
-    let middle = 2 + 10 * nl;
-    let end = middle + 10 * nr;
-    put_u16(out, 0, nl + nr);
-    copy_entries(out, 2, left, nl, 0);
-    copy_entries(out, middle, right, nr, kl);
-    copy_bodies(out, end, left, nl);
-    copy_bodies(out, end + 4 * kl, right, nr);
+    let kl = left.numbers();
+    let middle = 2 + 10 * left.count;
+    let end = middle + 10 * right.count;
+    put_u16(out, 0, left.count + right.count);
+    copy_entries(out, 2, left, 0);
+    copy_entries(out, middle, right, kl);
+    copy_bodies(out, end, left);
+    copy_bodies(out, end + 4 * kl, right);
 }
 
 // Writes the joined roll, if the output has room.
 pub fn join(left: &[u8], right: &[u8], out: &mut [u8]) -> Result<usize, Refusal>
     ensures { JoinCall left.now right.now out.old result out.new }
 {
-    let counts = joined_counts(left, right)?;
-    let nl = counts.left;
-    let nr = counts.right;
-    let size = joined_bytes(left, nl, right, nr);
+    let pair = Pair::read(left, right)?;
+    let size = joined_bytes(pair.left, pair.right);
     if out.len() < size {
         return Err(Reason::Output.into());
     }
-    put_joined(out, left, nl, right, nr);
+    put_joined(out, pair.left, pair.right);
     Ok(size)
 }

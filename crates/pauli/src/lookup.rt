@@ -1,15 +1,13 @@
 // The lookups of a generator of a joined list.
 ghost use Rattle.std.specs.Prelude.{◌≡◌, ◌+◌, ◌*◌, ◌<◌, slice_index_or};
-ghost use Rattle.pauli.specs.Roll.{count_of};
-ghost use Rattle.pauli.specs.Told.{answer};
 ghost use Rattle.pauli.specs.Lookups.{looked_in};
 ghost use Rattle.pauli.specs.Condense.{list_of, nothing};
 ghost use Rattle.pauli.specs.JoinCalls.{looked_up as looked_up_spec, entry_of, stretch_in, stretch_of, body_in as body_in_spec, body_of, bytes_past, address_of};
 ghost use Rattle.pauli.specs.Refusals.{told_by};
 
-use crate::joined::joined_counts;
+use crate::joined::Pair;
 use crate::refusal::{Reason, Refusal};
-use crate::roll::entry_at;
+use crate::roll::Roll;
 
 // The exponent value of a generator of a joined list, and the counts of its sets.
 #[derive(Clone, Copy)]
@@ -19,12 +17,12 @@ pub struct JoinedEntry {
     pub zcount: usize,
 }
 
-// The exponent value and the counts of Pauli i of an accepted roll of n.
-fn looked_up(b: &[u8], n: usize, i: usize) -> JoinedEntry
-    requires { (count_of b.now ≡ answer n) × (i < n) }
-    ensures { looked_in result ≡ looked_up_spec (slice_index_or (list_of b.now) i nothing) }
+// The exponent value and the counts of Pauli i of a roll.
+fn looked_up(roll: Roll, i: usize) -> JoinedEntry
+    requires { i < roll.count }
+    ensures { looked_in result ≡ looked_up_spec (slice_index_or (list_of roll.entry.bytes.now) i nothing) }
 {
-    let e = entry_at(b, i);
+    let e = roll.entry(i);
     JoinedEntry {
         exponent: e.exponent % 4,
         xcount: e.xcount,
@@ -36,28 +34,28 @@ fn looked_up(b: &[u8], n: usize, i: usize) -> JoinedEntry
 pub fn joined_entry(left: &[u8], right: &[u8], n: usize) -> Result<JoinedEntry, Refusal>
     ensures { told_by looked_in result ≡ entry_of left.now right.now n }
 {
-    let counts = joined_counts(left, right)?;
-    let nl = counts.left;
-    let nr = counts.right;
-    if n < nl {
-        return Ok(looked_up(left, nl, n));
+    let pair = Pair::read(left, right)?;
+    let l = pair.left;
+    let r = pair.right;
+    if n < l.count {
+        return Ok(looked_up(l, n));
     }
-    if n - nl < nr {
-        return Ok(looked_up(right, nr, n - nl));
+    if n - l.count < r.count {
+        return Ok(looked_up(r, n - l.count));
     }
     Err(Reason::Number.into())
 }
 
-// The body of Pauli i of an accepted roll of n.
-fn body_in<'a>(b: &'a [u8], n: usize, i: usize) -> &'a [u8]
-    requires { (count_of b.now ≡ answer n) × (i < n) }
-    ensures bytes { result.now ≡ body_in_spec b.now i }
-    ensures place { result.ref_ptr ≡ bytes_past (stretch_in 0 b.now i).start b.entry.ref_ptr }
+// The body of Pauli i of a roll.
+fn body_in<'a>(roll: Roll<'a>, i: usize) -> &'a [u8]
+    requires { i < roll.count }
+    ensures bytes { result.now ≡ body_in_spec roll.entry.bytes.now i }
+    ensures place { result.ref_ptr ≡ bytes_past (stretch_in 0 roll.entry.bytes.now i).start roll.entry.bytes.ref_ptr }
 {
-    let e = entry_at(b, i);
-    let start = 2 + 10 * n + 4 * e.start;
+    let e = roll.entry(i);
+    let start = 2 + 10 * roll.count + 4 * e.start;
     let end = start + 4 * (e.xcount + e.zcount);
-    &b[start..end]
+    &roll.bytes[start..end]
 }
 
 // The body of generator n of the joined list, where it stands; empty at a refusal.
@@ -65,20 +63,19 @@ pub fn joined_body<'a>(left: &'a [u8], right: &'a [u8], n: usize) -> &'a [u8]
     ensures bytes { result.now ≡ body_of left.now right.now n }
     ensures place { result.ref_ptr ≡ address_of left.entry.ref_ptr right.entry.ref_ptr (stretch_of left.now right.now n) }
 {
-    let found = joined_counts(left, right);
-    let counts = match found {
-        Err(r) => {
+    let pair = match Pair::read(left, right) {
+        Err(_) => {
             return &left[0..0];
         }
-        Ok(counts) => counts,
+        Ok(pair) => pair,
     };
-    let nl = counts.left;
-    let nr = counts.right;
-    if n < nl {
-        return body_in(left, nl, n);
+    let l = pair.left;
+    let r = pair.right;
+    if n < l.count {
+        return body_in(l, n);
     }
-    if n - nl < nr {
-        return body_in(right, nr, n - nl);
+    if n - l.count < r.count {
+        return body_in(r, n - l.count);
     }
     &left[0..0]
 }

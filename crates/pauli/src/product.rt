@@ -10,27 +10,25 @@ ghost use Rattle.pauli.specs.Refusals.{told_of};
 use crate::condense::condense_from;
 use crate::joined::join_support;
 use crate::refusal::{Reason, Refusal};
-use crate::roll::check_roll;
+use crate::roll::Roll;
 use crate::signed::store;
 use crate::write::write_roll;
 
 // Writes the product of Pauli i of the one roll and Pauli j of the other, over a support that has their qubits.
 fn write_product(
-    left: &[u8],
-    nl: usize,
+    left: Roll,
     i: usize,
-    right: &[u8],
-    nr: usize,
+    right: Roll,
     j: usize,
     support: &[u32],
     out: &mut [u8],
 ) -> Result<usize, Refusal>
-    requires { Readable left.now nl i support.now × Readable right.now nr j support.now × (length support.now ≤ 128) }
-    ensures told { told_of result ≡ told_bytes (answer (product_bytes support.now (list_of left.now) i (list_of right.now) j)) out.old }
-    ensures left { out.new ≡ left_in (answer (product_bytes support.now (list_of left.now) i (list_of right.now) j)) out.old }
+    requires { Readable left.bytes.now left.count i support.now × Readable right.bytes.now right.count j support.now × (length support.now ≤ 128) }
+    ensures told { told_of result ≡ told_bytes (answer (product_bytes support.now (list_of left.entry.bytes.now) i (list_of right.entry.bytes.now) j)) out.old }
+    ensures left { out.new ≡ left_in (answer (product_bytes support.now (list_of left.entry.bytes.now) i (list_of right.entry.bytes.now) j)) out.old }
 {
-    let p = condense_from(left, nl, i, support);
-    let q = condense_from(right, nr, j, support);
+    let p = condense_from(left, i, support);
+    let q = condense_from(right, j, support);
     let product = p.times(q).pauli;
     let mut w = [0u64; 5];
     store(&mut w, 0, product);
@@ -47,17 +45,17 @@ pub fn product(
 ) -> Result<usize, Refusal>
     ensures { ProductCall left.now i right.now j out.old result out.new }
 {
-    let nl = check_roll(left)?;
-    let nr = check_roll(right)?;
-    let support = join_support(left, nl, right, nr);
+    let left = Roll::read(left)?;
+    let right = Roll::read(right)?;
+    let support = join_support(left, right);
     if support.is_past_limit() {
         return Err(Reason::Qubits.into());
     }
-    if i >= nl {
+    if i >= left.count {
         return Err(Reason::Number.into());
     }
-    if j >= nr {
+    if j >= right.count {
         return Err(Reason::Number.into());
     }
-    write_product(left, nl, i, right, nr, j, support.qubits(), out)
+    write_product(left, i, right, j, support.qubits(), out)
 }

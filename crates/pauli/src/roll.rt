@@ -1,11 +1,13 @@
 // Rolls: the reader. It uses no work area, and indexes nothing by a qubit number.
-ghost use Rattle.std.specs.Prelude.{◌≡◌, suc, ◌+◌, ◌*◌, ◌<◌, ◌≤◌, min, [], length};
+ghost use Rattle.std.specs.Prelude.{◌≡◌, ℕ, suc, ◌+◌, ◌*◌, ◌<◌, ◌≤◌, min, [], length, slice_index, IfOk};
 ghost use Rattle.pauli.specs.Bytes.{numbers_at};
-ghost use Rattle.pauli.specs.Roll.{most_paulis, entry_at, entries_at, paulis_at, check_entries as check_entries_spec, check_set as check_set_spec, check_sets as check_sets_spec, numbers, count_of};
+ghost use Rattle.pauli.specs.Roll.{most_paulis, entry_at, entries_at, paulis_at, check_entries as check_entries_spec, check_set as check_set_spec, check_sets as check_sets_spec, numbers, bodies, count_of};
 ghost use Rattle.pauli.specs.Support.{most_qubits, insert_all};
-ghost use Rattle.pauli.specs.Told.{refused};
+ghost use Rattle.pauli.specs.Told.{refused, answer};
 ghost use Rattle.pauli.specs.RollAnswers.{told_entry};
-ghost use Rattle.pauli.specs.Refusals.{number_of, told_of};
+ghost use Rattle.pauli.specs.Refusals.{number_of, told_of, told_by};
+ghost use Rattle.pauli.specs.Condense.{list_of};
+ghost use Rattle.pauli.specs.Known.{Gathered};
 
 use crate::bytes::{u16_at, u32_at};
 use crate::refusal::{Reason, Refusal};
@@ -152,4 +154,53 @@ pub fn check_roll(b: &[u8]) -> Result<usize, Refusal>
         return Err(Reason::Qubits.into());
     }
     Ok(n)
+}
+
+// An accepted roll, and how many Paulis it has.
+#[derive(Clone, Copy)]
+pub struct Roll<'a> {
+    pub bytes: &'a [u8],
+    pub count: usize,
+    pub ghost accepted: { count_of bytes.now ≡ answer count },
+    pub ghost low: { (i : ℕ) → slice_index bytes.now i < 256 },
+}
+
+impl<'a> Roll<'a> {
+    // The roll that these bytes are, or why they are refused.
+    pub fn read(bytes: &'a [u8]) -> Result<Roll<'a>, Refusal>
+        ensures count { told_by (λ roll. roll.count) result ≡ count_of bytes.now }
+        ensures bytes { IfOk result (λ roll. roll.bytes ≡ bytes.entry) }
+    {
+        let count = check_roll(bytes)?;
+        Ok(Roll { bytes, count })
+    }
+
+    // The entry of Pauli i.
+    pub fn entry(self, i: usize) -> Entry
+        requires { i < self.count }
+        ensures { (told_entry result ≡ entry_at self.entry.bytes.now (2 + 10 * i)) × (result.xcount < 65536) × (result.zcount < 65536) }
+    {
+        entry_at(self.bytes, i)
+    }
+
+    // How many qubit numbers its bodies hold.
+    pub fn numbers(self) -> usize
+        ensures { (result ≡ length (numbers (list_of self.entry.bytes.now))) × (result ≤ 16777216) }
+    {
+        (self.bytes.len() - (2 + 10 * self.count)) / 4
+    }
+
+    // Its bodies, which are what follows the table.
+    pub fn bodies(self) -> &'a [u8]
+        ensures { result.now ≡ bodies (list_of self.entry.bytes.now) }
+    {
+        &self.bytes[2 + 10 * self.count..]
+    }
+
+    // Puts its qubits in among those that are known.
+    pub fn gather(self, support: &mut Support)
+        ensures { Gathered (insert_all (numbers (list_of self.entry.bytes.now)) support.old) support.new }
+    {
+        support.gather(self.bytes, 2 + 10 * self.count, self.numbers());
+    }
 }

@@ -34,6 +34,7 @@ use crate::standard::signs_of;
 use binar::row::clear_bits;
 use pauli::joined::join_support;
 use pauli::refusal::Refusal;
+use pauli::roll::Roll;
 use pauli::signed::{Pauli, indexed_product, load, store};
 use pauli::support::Support;
 use pauli::write::write_roll;
@@ -157,7 +158,15 @@ fn write_part(
     ensures told { told_of result ≡ told_bytes (answer (list_bytes (common_part (promise_of left_promise) (promise_of right_promise) (paulis (list_of left.now)) (paulis (list_of right.now))))) out.old }
     ensures left { out.new ≡ left_in (answer (list_bytes (common_part (promise_of left_promise) (promise_of right_promise) (paulis (list_of left.now)) (paulis (list_of right.now))))) out.old }
 {
-    let support = join_support(left, nl, right, nr);
+    let first = Roll {
+        bytes: left,
+        count: nl,
+    };
+    let second = Roll {
+        bytes: right,
+        count: nr,
+    };
+    let support = join_support(first, second);
     let joint = support.qubits();
     let m = common_basis(left, nl, right, nr, joint, w);
     let first = note_by(left, nl, left_promise, joint, w, m);

@@ -20,7 +20,8 @@ use crate::list::read_list;
 use crate::promise::Promise;
 use crate::standard::{Signs, signs_of, standardize};
 use binar::row::clear_bits;
-use pauli::joined::{join_support, numbers_of};
+use pauli::joined::join_support;
+use pauli::roll::Roll;
 use pauli::support::Support;
 
 // The places of the support, the rank, and the number of standard generators.
@@ -60,10 +61,11 @@ pub fn group_of(b: &[u8], n: usize, known: &mut Support, w: &mut [u64]) -> Group
     ensures group { Grouped (paulis (list_of b.now)) known.new w.new result.places result.rank result.total }
     ensures rest { Outside 0 further_at w.old w.new }
 {
+    let roll = Roll { bytes: b, count: n };
     *known = Support::new();
-    known.gather(b, 2 + 10 * n, numbers_of(b, n));
+    roll.gather(known);
     let qubits = known.qubits();
-    read_list(b, n, qubits, w, LIST);
+    read_list(roll, qubits, w, LIST);
     build(w, n, qubits.len())
 }
 
@@ -79,10 +81,18 @@ fn group_of_two(
     requires { Joinable left.now right.now nl nr × (length w.old ≡ 4096) }
     ensures { Grouped (paulis (list_of left.now ++ list_of right.now)) known.new w.new result.places result.rank result.total }
 {
-    *known = join_support(left, nl, right, nr);
+    let first = Roll {
+        bytes: left,
+        count: nl,
+    };
+    let second = Roll {
+        bytes: right,
+        count: nr,
+    };
+    *known = join_support(first, second);
     let qubits = known.qubits();
-    read_list(left, nl, qubits, w, LIST);
-    read_list(right, nr, qubits, w, LIST + 5 * nl);
+    read_list(first, qubits, w, LIST);
+    read_list(second, qubits, w, LIST + 5 * nl);
     build(w, nl + nr, qubits.len())
 }
 

@@ -143,7 +143,7 @@ fn put_elements(w: &mut [u64], rank: usize, phases: Phases, start: u64, n: usize
         let set = subset_at(rank, number / count);
         let product = indexed_product(w, STANDARD, rank, set);
         let turn = (step * (number % count)) as u8;
-        let exponent = std::num::wrapping_add_u8(product.exponent, turn);
+        let exponent = product.exponent.wrapping_add(turn);
         store(
             w,
             FURTHER + 5 * i,

@@ -29,7 +29,7 @@ use binar::row::clear_bits;
 use pauli::bytes::u32_at;
 use pauli::condense::condense_from;
 use pauli::places::Places;
-use pauli::roll::entry_at;
+use pauli::roll::{Roll, entry_at};
 use pauli::signed::{Pauli, indexed_product};
 use pauli::support::{Place, Qubit, place_from, qubit_at, walk_start};
 use pauli::write::put_u16;
@@ -114,10 +114,11 @@ pub fn factor(
     if !is_supported(b, m, i, known) {
         return None;
     }
-    let p = condense_from(b, m, i, known);
+    let roll = Roll { bytes: b, count: m };
+    let p = condense_from(roll, i, known);
     let set = solve(w, n, places, group.rank, p)?;
     let product = indexed_product(w, LIST, n, set);
-    let left = std::num::wrapping_sub_u8(p.exponent, product.exponent) % 4;
+    let left = p.exponent.wrapping_sub(product.exponent) % 4;
     if (left as u64) % phases.step() != 0 {
         return None;
     }

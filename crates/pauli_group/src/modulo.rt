@@ -30,6 +30,7 @@ use crate::standard::signs_of;
 use binar::row::clear_bits;
 use pauli::joined::join_support;
 use pauli::refusal::Refusal;
+use pauli::roll::Roll;
 use pauli::signed::{Pauli, load, store};
 use pauli::support::{Place, Support, place_of, qubit_at};
 use pauli::write::write_roll;
@@ -119,7 +120,15 @@ pub(crate) fn write_modulo(
     ensures left { out.new ≡ left_in (answer (list_bytes (modulo (promise_of promise) (paulis (list_of left.now)) (paulis (list_of right.now))))) out.old }
     ensures area { w.new ≡ cleared w.old }
 {
-    let support = join_support(left, nl, right, nr);
+    let first = Roll {
+        bytes: left,
+        count: nl,
+    };
+    let second = Roll {
+        bytes: right,
+        count: nr,
+    };
+    let support = join_support(first, second);
     let joined = support.qubits();
     let count = remainder(left, nl, right, nr, promise, joined, w);
     let wrote = write_roll(w, FURTHER, count, joined, out);

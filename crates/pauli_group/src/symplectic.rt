@@ -19,8 +19,8 @@ use crate::area::{FURTHER, LIST, STANDARD, WORK_WORDS};
 use crate::checks::check_list;
 use crate::list::read_list;
 use binar::row::clear_bits;
-use pauli::joined::numbers_of;
 use pauli::refusal::Refusal;
+use pauli::roll::Roll;
 use pauli::signed::{Pauli, load, store};
 use pauli::support::Support;
 use pauli::write::write_roll;
@@ -105,7 +105,7 @@ fn pair_last(w: &mut [u64], p: Pairing) -> Pairing
     }
 }
 
-// Copies the n Paulis from word from on to word to.
+// Copies the n Paulis from word from on to word to, each by its value: a copy of the words would keep their exponents as they stand.
 fn copy_list(w: &mut [u64], from: usize, n: usize, to: usize)
     requires { (to + 5 * n ≤ from) × (from + 5 * n ≤ length w.old) }
     ensures list { list_in w.new to n ≡ map normal (list_in w.old from n) }
@@ -139,10 +139,11 @@ fn write_symplectic(b: &[u8], n: usize, w: &mut [u64], out: &mut [u8]) -> Result
     ensures left { out.new ≡ left_in (answer (symplectic_bytes (paulis (list_of b.now)))) out.old }
     ensures area { w.new ≡ cleared w.old }
 {
+    let roll = Roll { bytes: b, count: n };
     let mut known = Support::new();
-    known.gather(b, 2 + 10 * n, numbers_of(b, n));
+    roll.gather(&mut known);
     let qubits = known.qubits();
-    read_list(b, n, qubits, w, LIST);
+    read_list(roll, qubits, w, LIST);
     pair_up(w, n);
     let wrote = write_roll(w, STANDARD, n, qubits, out);
     clear_bits(w, 0, WORK_WORDS);

@@ -5,9 +5,8 @@ ghost use Rattle.pauli.specs.Roll.{support, count_of};
 ghost use Rattle.pauli.specs.Told.{answer};
 ghost use Rattle.sizes.specs.SizeContracts.{StandardBoundCall};
 
-use pauli::joined::numbers_of;
 use pauli::refusal::Refusal;
-use pauli::roll::check_roll;
+use pauli::roll::{Roll, check_roll};
 use pauli::support::Support;
 
 // How many distinct qubits an accepted roll of n Paulis has.
@@ -15,8 +14,9 @@ fn qubits_of(b: &[u8], n: usize) -> usize
     requires { count_of b.now ≡ answer n }
     ensures { result ≡ length (support (list_of b.now)) }
 {
+    let roll = Roll { bytes: b, count: n };
     let mut known = Support::new();
-    known.gather(b, 2 + 10 * n, numbers_of(b, n));
+    roll.gather(&mut known);
     known.len()
 }
 

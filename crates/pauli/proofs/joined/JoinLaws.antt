@@ -19,6 +19,7 @@ use Rattle.pauli.specs.Writing.{put_bytes, entry_bytes, told_bytes, left_in}
 use Rattle.pauli.proofs.roll.Told.{refused_none, test_pass, test_refuses, test_passed}
 use Rattle.pauli.proofs.support.Lists.{AllBytes}
 use Rattle.pauli.proofs.roll.BytesLaws.{length_numbers, length_le16, le32s_append, numbers_written}
+use Rattle.pauli.proofs.support.SupportLaws.{insert_all_append}
 use Rattle.pauli.proofs.roll.ListSupport.{numbers_append, numbers_by_value}
 use Rattle.pauli.proofs.roll.Paulis.{table_entries, length_entries_of, length_bodies}
 use Rattle.pauli.proofs.roll.Entries.{length_entries_bytes}
@@ -60,6 +61,10 @@ module _ (b : List ℕ) (n : ℕ) (e : count_of b ≡ answer n) where
       let bytes : AllBytes b = all_by (λ x. x < 256) b 0 (λ i h. low i) in
       let numbers-are = rw accepted.1 at (read_numbers b (list_of b) accepted.0) in
       rw (numbers-are, accepted_length, drop-length, append-nil) at (numbers_written b bytes (length (numbers (list_of b))) (2 + 10 * n) (omega (arith, accepted_length)))
+
+  -- its numbers stand one after the other behind the table
+  pub accepted_numbers : numbers_at b (2 + 10 * n) (length (numbers (list_of b))) ≡ numbers (list_of b)
+  accepted_numbers = rw accepted.1 at (read_numbers b (list_of b) accepted.0)
 
   -- its numbers, gathered behind those of other Paulis
   pub accepted_joined : (k : ℕ) → k ≡ length (numbers (list_of b)) → (qs : List Sparse) → insert_all (numbers_at b (2 + 10 * n) k) (support qs) ≡ support (qs ++ list_of b)
@@ -105,19 +110,16 @@ module _ (b : List ℕ) (n : ℕ) (e : count_of b ≡ answer n) where
 
 -- ---- the joined support
 
-module _ (l r : List ℕ) (nl nr : ℕ) (el : count_of l ≡ answer nl) (er : count_of r ≡ answer nr) (kl kr : ℕ)
-    (sl : kl ≡ length (numbers (list_of l))) (sr : kr ≡ length (numbers (list_of r))) (mid : List ℕ)
-    (g : Gathered (insert_all (numbers_at l (2 + 10 * nl) kl) []) mid) where
-  left_support : insert_all (numbers_at l (2 + 10 * nl) kl) [] ≡ support (list_of l)
-  unfolding support numbers insert_all
-  left_support = accepted_joined l nl el kl sl []
-
+module _ (l r : List ℕ) (nl : ℕ) (el : count_of l ≡ answer nl) (mid : List ℕ) (g : Gathered (insert_all (numbers (list_of l)) []) mid) where
   left_known : mid ≡ support (list_of l)
-  left_known = g.known (rw left_support (answer_parts l (list_of l) (accepted l nl el).0).qubits) ∙ left_support
+  unfolding support
+  left_known = g.known (answer_parts l (list_of l) (accepted l nl el).0).qubits
 
-  pub both_gathered : (qs : List ℕ) → Gathered (insert_all (numbers_at r (2 + 10 * nr) kr) mid) qs → Gathered (support (list_of l ++ list_of r)) qs
+  pub both_gathered : (qs : List ℕ) → Gathered (insert_all (numbers (list_of r)) mid) qs → Gathered (support (list_of l ++ list_of r)) qs
+  unfolding support
   both_gathered qs h =
-      let same : insert_all (numbers_at r (2 + 10 * nr) kr) mid ≡ support (list_of l ++ list_of r) = rw left_known (accepted_joined r nr er kr sr (list_of l)) in
+      let same : insert_all (numbers (list_of r)) mid ≡ support (list_of l ++ list_of r) =
+      rw left_known (rw numbers_append (sym (insert_all_append (numbers (list_of l)) (numbers (list_of r)) []))) in
       subst (λ (S : List ℕ). Gathered S qs) same h
 
 -- ---- the counts

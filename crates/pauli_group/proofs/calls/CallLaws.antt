@@ -1,5 +1,5 @@
 -- Laws of the calls on one list: what they pick from the description, and the standard generators written.
-use Rattle.std.proofs.Common.{◌≡◌, Bool, not, ℕ, ◌+◌, ◌-◌, ◌/◌, List, [], ◌∷◌, length, take, sym, refl, ap, ◌∙◌, ap₂, arith, Err, Ok, Result}
+use Rattle.std.proofs.Common.{◌≡◌, Bool, not, ℕ, ◌+◌, ◌-◌, ◌/◌, List, [], ◌∷◌, length, sym, refl, ap, ◌∙◌, ap₂, arith, Err, Ok, Result}
 use Rattle.pauli.specs.Pauli.{Pauli}
 use Rattle.pauli.specs.Signed.{list_in}
 use Rattle.pauli.specs.declared.refusal.Refusal.{Refusal}

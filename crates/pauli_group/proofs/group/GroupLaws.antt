@@ -33,12 +33,11 @@ use Rattle.pauli_group.proofs.list.ListLaws.{list_append, list_kept}
 -- ---- the support
 
 -- the numbers of one accepted roll, gathered
-module _ (b : List ℕ) (n : ℕ) (e : count_of b ≡ answer n) where
-  pub own_gathered : (k : ℕ) → k ≡ length (numbers (list_of b)) → (qs : List ℕ)
-      → Gathered (insert_all (numbers_at b (2 + 10 * n) k) []) qs → Gathered (support (list_of b)) qs
-  unfolding support numbers insert_all
-  own_gathered k size qs g = subst (λ (S : List ℕ). Gathered S qs) (accepted_joined b n e k size []) g
+pub own_gathered : (b qs : List ℕ) → Gathered (insert_all (numbers (list_of b)) []) qs → Gathered (support (list_of b)) qs
+unfolding support
+own_gathered b qs g = g
 
+module _ (b : List ℕ) (n : ℕ) (e : count_of b ≡ answer n) where
   pub own_few : length (support (list_of b)) ≤ most_qubits
   own_few = (answer_parts b (list_of b) (accepted b n e).0).qubits
 

@@ -1,39 +1,36 @@
 -- The body stands where the entry says, within the roll.
 use Rattle.std.proofs.Common.{ℕ, List, sym, ap, ◌∙◌, arith}
 use Rattle.pauli.proofs.signed.Algebra.{pauli_path}
-use Rattle.pauli.proofs.condense.BodyLaws.{entry_room, body_room, exponent_is, xs_is, zs_is}
+use Rattle.pauli.proofs.condense.BodyLaws.{body_room, exponent_is, xs_is, zs_is}
 use Rattle.pauli.specs.Condense.{list_of, nothing, condensed}
 use Rattle.pauli.specs.Sets.{condense, set_of, pauli_of}
 use Rattle.pauli.specs.Signed.{held}
 use Rattle.pauli.proofs.condense.condense_from.Goals as goal
 
-pub entry_at-e-requires : goal.entry_at-e-requires
-entry_at-e-requires c = entry_room c.args.b.now (list_of c.args.b.now) c.requires.0.accepted c.args.n c.requires.0.count c.args.i c.requires.0.number
-
 pub overflow_mul-at : goal.overflow_mul-at
-overflow_mul-at c = omega (arith, body_room c.args.b.now (list_of c.args.b.now) c.requires.0.accepted c.args.n c.requires.0.count c.args.i c.requires.0.number c.entry_at-e.result c.entry_at-e.ensures.0)
+overflow_mul-at c = omega (arith, body_room c.args.roll.bytes.now (list_of c.args.roll.bytes.now) c.requires.0.accepted c.args.roll.count c.requires.0.count c.args.i c.requires.0.number c.entry-e.result c.entry-e.ensures.0)
 
 pub overflow_add-at : goal.overflow_add-at
-overflow_add-at c = omega (arith, body_room c.args.b.now (list_of c.args.b.now) c.requires.0.accepted c.args.n c.requires.0.count c.args.i c.requires.0.number c.entry_at-e.result c.entry_at-e.ensures.0)
+overflow_add-at c = omega (arith, body_room c.args.roll.bytes.now (list_of c.args.roll.bytes.now) c.requires.0.accepted c.args.roll.count c.requires.0.count c.args.i c.requires.0.number c.entry-e.result c.entry-e.ensures.0)
 
 pub overflow_mul-at-2 : goal.overflow_mul-at-2
-overflow_mul-at-2 c = omega (arith, body_room c.args.b.now (list_of c.args.b.now) c.requires.0.accepted c.args.n c.requires.0.count c.args.i c.requires.0.number c.entry_at-e.result c.entry_at-e.ensures.0)
+overflow_mul-at-2 c = omega (arith, body_room c.args.roll.bytes.now (list_of c.args.roll.bytes.now) c.requires.0.accepted c.args.roll.count c.requires.0.count c.args.i c.requires.0.number c.entry-e.result c.entry-e.ensures.0)
 
 pub overflow_add-at-2 : goal.overflow_add-at-2
-overflow_add-at-2 c = omega (arith, body_room c.args.b.now (list_of c.args.b.now) c.requires.0.accepted c.args.n c.requires.0.count c.args.i c.requires.0.number c.entry_at-e.result c.entry_at-e.ensures.0)
+overflow_add-at-2 c = omega (arith, body_room c.args.roll.bytes.now (list_of c.args.roll.bytes.now) c.requires.0.accepted c.args.roll.count c.requires.0.count c.args.i c.requires.0.number c.entry-e.result c.entry-e.ensures.0)
 
 pub places_of-x-requires : goal.places_of-x-requires
-places_of-x-requires c = (omega (arith, body_room c.args.b.now (list_of c.args.b.now) c.requires.0.accepted c.args.n c.requires.0.count c.args.i c.requires.0.number c.entry_at-e.result c.entry_at-e.ensures.0), c.requires.1, rw (xs_is c.args.b.now (list_of c.args.b.now) c.requires.0.accepted c.args.n c.requires.0.count c.args.i c.requires.0.number c.entry_at-e.result c.entry_at-e.ensures.0 nothing) at c.requires.0.x)
+places_of-x-requires c = (omega (arith, body_room c.args.roll.bytes.now (list_of c.args.roll.bytes.now) c.requires.0.accepted c.args.roll.count c.requires.0.count c.args.i c.requires.0.number c.entry-e.result c.entry-e.ensures.0), c.requires.1, rw (xs_is c.args.roll.bytes.now (list_of c.args.roll.bytes.now) c.requires.0.accepted c.args.roll.count c.requires.0.count c.args.i c.requires.0.number c.entry-e.result c.entry-e.ensures.0 nothing) at c.requires.0.x)
 
 pub overflow_mul-e : goal.overflow_mul-e
-overflow_mul-e c = omega (arith, body_room c.args.b.now (list_of c.args.b.now) c.requires.0.accepted c.args.n c.requires.0.count c.args.i c.requires.0.number c.entry_at-e.result c.entry_at-e.ensures.0)
+overflow_mul-e c = omega (arith, body_room c.args.roll.bytes.now (list_of c.args.roll.bytes.now) c.requires.0.accepted c.args.roll.count c.requires.0.count c.args.i c.requires.0.number c.entry-e.result c.entry-e.ensures.0)
 
 pub overflow_add-at-3 : goal.overflow_add-at-3
-overflow_add-at-3 c = omega (arith, body_room c.args.b.now (list_of c.args.b.now) c.requires.0.accepted c.args.n c.requires.0.count c.args.i c.requires.0.number c.entry_at-e.result c.entry_at-e.ensures.0)
+overflow_add-at-3 c = omega (arith, body_room c.args.roll.bytes.now (list_of c.args.roll.bytes.now) c.requires.0.accepted c.args.roll.count c.requires.0.count c.args.i c.requires.0.number c.entry-e.result c.entry-e.ensures.0)
 
 pub places_of-z-requires : goal.places_of-z-requires
-places_of-z-requires c = (omega (arith, body_room c.args.b.now (list_of c.args.b.now) c.requires.0.accepted c.args.n c.requires.0.count c.args.i c.requires.0.number c.entry_at-e.result c.entry_at-e.ensures.0), c.requires.1, rw (zs_is c.args.b.now (list_of c.args.b.now) c.requires.0.accepted c.args.n c.requires.0.count c.args.i c.requires.0.number c.entry_at-e.result c.entry_at-e.ensures.0 nothing) at c.requires.0.z)
+places_of-z-requires c = (omega (arith, body_room c.args.roll.bytes.now (list_of c.args.roll.bytes.now) c.requires.0.accepted c.args.roll.count c.requires.0.count c.args.i c.requires.0.number c.entry-e.result c.entry-e.ensures.0), c.requires.1, rw (zs_is c.args.roll.bytes.now (list_of c.args.roll.bytes.now) c.requires.0.accepted c.args.roll.count c.requires.0.count c.args.i c.requires.0.number c.entry-e.result c.entry-e.ensures.0 nothing) at c.requires.0.z)
 
 pub returns : goal.returns
 unfolding held condensed pauli_of
-returns c = pauli_path (sym (exponent_is c.args.b.now (list_of c.args.b.now) c.requires.0.accepted c.args.n c.requires.0.count c.args.i c.requires.0.number c.entry_at-e.result c.entry_at-e.ensures.0 nothing)) (c.places_of-x.ensures ∙ ap (λ (ns : List ℕ). condense c.args.support.now (set_of ns)) (sym (xs_is c.args.b.now (list_of c.args.b.now) c.requires.0.accepted c.args.n c.requires.0.count c.args.i c.requires.0.number c.entry_at-e.result c.entry_at-e.ensures.0 nothing))) (c.places_of-z.ensures ∙ ap (λ (ns : List ℕ). condense c.args.support.now (set_of ns)) (sym (zs_is c.args.b.now (list_of c.args.b.now) c.requires.0.accepted c.args.n c.requires.0.count c.args.i c.requires.0.number c.entry_at-e.result c.entry_at-e.ensures.0 nothing)))
+returns c = pauli_path (sym (exponent_is c.args.roll.bytes.now (list_of c.args.roll.bytes.now) c.requires.0.accepted c.args.roll.count c.requires.0.count c.args.i c.requires.0.number c.entry-e.result c.entry-e.ensures.0 nothing)) (c.places_of-x.ensures ∙ ap (λ (ns : List ℕ). condense c.args.support.now (set_of ns)) (sym (xs_is c.args.roll.bytes.now (list_of c.args.roll.bytes.now) c.requires.0.accepted c.args.roll.count c.requires.0.count c.args.i c.requires.0.number c.entry-e.result c.entry-e.ensures.0 nothing))) (c.places_of-z.ensures ∙ ap (λ (ns : List ℕ). condense c.args.support.now (set_of ns)) (sym (zs_is c.args.roll.bytes.now (list_of c.args.roll.bytes.now) c.requires.0.accepted c.args.roll.count c.requires.0.count c.args.i c.requires.0.number c.entry-e.result c.entry-e.ensures.0 nothing)))

@@ -1,32 +1,29 @@
 -- The body stands where the entry says, within the roll.
-use Rattle.pauli.proofs.joined.JoinLaws.{accepted_table, accepted_room, accepted_start, accepted_body}
+use Rattle.pauli.proofs.joined.JoinLaws.{accepted_room, accepted_start, accepted_body}
 use Rattle.std.proofs.Common.{ℕ, refl, ap, arith}
 use Rattle.pauli.specs.JoinCalls.{bytes_past}
 use Rattle.pauli.proofs.lookup.body_in.Goals as goal
 
-pub entry_at-e-requires : goal.entry_at-e-requires
-entry_at-e-requires c = accepted_table c.args.b.now c.args.n c.requires.0 c.args.i c.requires.1
-
 pub overflow_mul-start : goal.overflow_mul-start
-overflow_mul-start c = omega (arith, accepted_room c.args.b.now c.args.n c.requires.0 c.args.i c.requires.1 c.entry_at-e.result c.entry_at-e.ensures.0)
+overflow_mul-start c = omega (arith, accepted_room c.args.roll.bytes.now c.args.roll.count c.args.roll.accepted c.args.i c.requires c.entry-e.result c.entry-e.ensures.0)
 
 pub overflow_add-start : goal.overflow_add-start
-overflow_add-start c = omega (arith, accepted_room c.args.b.now c.args.n c.requires.0 c.args.i c.requires.1 c.entry_at-e.result c.entry_at-e.ensures.0)
+overflow_add-start c = omega (arith, accepted_room c.args.roll.bytes.now c.args.roll.count c.args.roll.accepted c.args.i c.requires c.entry-e.result c.entry-e.ensures.0)
 
 pub overflow_mul-start-2 : goal.overflow_mul-start-2
-overflow_mul-start-2 c = omega (arith, accepted_room c.args.b.now c.args.n c.requires.0 c.args.i c.requires.1 c.entry_at-e.result c.entry_at-e.ensures.0)
+overflow_mul-start-2 c = omega (arith, accepted_room c.args.roll.bytes.now c.args.roll.count c.args.roll.accepted c.args.i c.requires c.entry-e.result c.entry-e.ensures.0)
 
 pub overflow_add-start-2 : goal.overflow_add-start-2
-overflow_add-start-2 c = omega (arith, accepted_room c.args.b.now c.args.n c.requires.0 c.args.i c.requires.1 c.entry_at-e.result c.entry_at-e.ensures.0)
+overflow_add-start-2 c = omega (arith, accepted_room c.args.roll.bytes.now c.args.roll.count c.args.roll.accepted c.args.i c.requires c.entry-e.result c.entry-e.ensures.0)
 
 pub overflow_add-end-2 : goal.overflow_add-end-2
-overflow_add-end-2 c = omega (arith, accepted_room c.args.b.now c.args.n c.requires.0 c.args.i c.requires.1 c.entry_at-e.result c.entry_at-e.ensures.0)
+overflow_add-end-2 c = omega (arith, accepted_room c.args.roll.bytes.now c.args.roll.count c.args.roll.accepted c.args.i c.requires c.entry-e.result c.entry-e.ensures.0)
 
 pub slice_bounds-result-end : goal.slice_bounds-result-end
-slice_bounds-result-end c = omega (arith, accepted_room c.args.b.now c.args.n c.requires.0 c.args.i c.requires.1 c.entry_at-e.result c.entry_at-e.ensures.0)
+slice_bounds-result-end c = omega (arith, accepted_room c.args.roll.bytes.now c.args.roll.count c.args.roll.accepted c.args.i c.requires c.entry-e.result c.entry-e.ensures.0)
 
 pub returns : goal.returns
 returns c =
-    let b = c.args.b in
-    let start = accepted_start b.now c.args.n c.requires.0 c.args.i c.requires.1 c.entry_at-e.result c.entry_at-e.ensures.0 0 _ refl in
-    let body = accepted_body b.now c.args.n c.requires.0 c.args.i c.requires.1 c.entry_at-e.result c.entry_at-e.ensures.0 _ _ refl refl in record { bytes = body; place = ap (λ (k : ℕ). bytes_past k b.ref_ptr) start }
+    let b = c.args.roll.bytes in
+    let start = accepted_start b.now c.args.roll.count c.args.roll.accepted c.args.i c.requires c.entry-e.result c.entry-e.ensures.0 0 _ refl in
+    let body = accepted_body b.now c.args.roll.count c.args.roll.accepted c.args.i c.requires c.entry-e.result c.entry-e.ensures.0 _ _ refl refl in record { bytes = body; place = ap (λ (k : ℕ). bytes_past k b.ref_ptr) start }

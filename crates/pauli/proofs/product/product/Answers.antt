@@ -7,31 +7,28 @@ use Rattle.pauli.specs.Refusals.{told_of, told_refusal}
 use Rattle.pauli.proofs.refusal.HandedOn.{handed_on}
 use Rattle.pauli.proofs.product.product.Goals as goal
 
-pub returns-in_err-nl : goal.returns-in_err-nl
-returns-in_err-nl c = left_refused c.args.left.now c.args.i c.args.right.now c.args.j c.args.out.now _ _ _ (ap told_of (handed_on _ _ c.from_residual.ensures.1)) (sym c.in_err-nl.ensures)
+pub returns-in_err-left : goal.returns-in_err-left
+returns-in_err-left c = left_refused c.args.left.now c.args.i c.args.right.now c.args.j c.args.out.now _ _ _ (ap told_of (handed_on _ _ c.from_residual.ensures.1)) (sym c.in_err-left.ensures.count)
 
-pub returns-in_err-nr : goal.returns-in_err-nr
-returns-in_err-nr c = right_refused c.args.left.now c.args.i c.args.right.now c.args.j c.args.out.now _ (sym c.in_ok-nl.ensures) _ _ _ (ap told_of (handed_on _ _ c.from_residual-in_err-nr.ensures.1)) (sym c.in_err-nr.ensures)
-
-pub join_support-support-requires : goal.join_support-support-requires
-join_support-support-requires c = (sym c.in_ok-nl.ensures, sym c.in_ok-nr.ensures)
+pub returns-in_err-right : goal.returns-in_err-right
+returns-in_err-right c = right_refused c.args.left.now c.args.i c.args.right.now c.args.j c.args.out.now _ (sym c.in_ok-left.ensures.count) _ _ _ (ap told_of (handed_on _ _ c.from_residual-in_err-right.ensures.1)) (sym c.in_err-right.ensures.count)
 
 pub returns-then-is_past_limit : goal.returns-then-is_past_limit
 unfolding most_qubits
-returns-then-is_past_limit c = many_refused c.args.left.now c.args.i c.args.right.now c.args.j c.args.out.now _ (sym c.in_ok-nl.ensures) _ (sym c.in_ok-nr.ensures) _ c.join_support-support.ensures (ltb-true _ _ (sym c.is_past_limit.ensures ∙ c.if-is_past_limit.true)) _ (ap told_refusal c.into.ensures)
+returns-then-is_past_limit c = many_refused c.args.left.now c.args.i c.args.right.now c.args.j c.args.out.now _ (sym c.in_ok-left.ensures.count) _ (sym c.in_ok-right.ensures.count) _ (rw (c.in_ok-left.ensures.bytes, c.in_ok-right.ensures.bytes) at c.join_support-support.ensures) (ltb-true _ _ (sym c.is_past_limit.ensures ∙ c.if-is_past_limit.true)) _ (ap told_refusal c.into.ensures)
 
-pub returns-then-i-nl : goal.returns-then-i-nl
+pub returns-then-i-left : goal.returns-then-i-left
 unfolding most_qubits
-returns-then-i-nl c = past_left_refused c.args.left.now c.args.i c.args.right.now c.args.j c.args.out.now _ (sym c.in_ok-nl.ensures) _ (sym c.in_ok-nr.ensures) _ c.join_support-support.ensures (ltb-false _ _ (sym c.is_past_limit.ensures ∙ c.if-is_past_limit.false)) (omega (arith, c.if-i-nl.true)) _ (ap told_refusal c.into-then-i-nl.ensures)
+returns-then-i-left c = past_left_refused c.args.left.now c.args.i c.args.right.now c.args.j c.args.out.now _ (sym c.in_ok-left.ensures.count) _ (sym c.in_ok-right.ensures.count) _ (rw (c.in_ok-left.ensures.bytes, c.in_ok-right.ensures.bytes) at c.join_support-support.ensures) (ltb-false _ _ (sym c.is_past_limit.ensures ∙ c.if-is_past_limit.false)) (omega (arith, c.if-i-left.true)) _ (ap told_refusal c.into-then-i-left.ensures)
 
-pub returns-then-j-nr : goal.returns-then-j-nr
+pub returns-then-j-right : goal.returns-then-j-right
 unfolding most_qubits
-returns-then-j-nr c = past_right_refused c.args.left.now c.args.i c.args.right.now c.args.j c.args.out.now _ (sym c.in_ok-nl.ensures) _ (sym c.in_ok-nr.ensures) _ c.join_support-support.ensures (ltb-false _ _ (sym c.is_past_limit.ensures ∙ c.if-is_past_limit.false)) (omega (arith, c.if-i-nl.false)) (omega (arith, c.if-j-nr.true)) _ (ap told_refusal c.into-then-j-nr.ensures)
+returns-then-j-right c = past_right_refused c.args.left.now c.args.i c.args.right.now c.args.j c.args.out.now _ (sym c.in_ok-left.ensures.count) _ (sym c.in_ok-right.ensures.count) _ (rw (c.in_ok-left.ensures.bytes, c.in_ok-right.ensures.bytes) at c.join_support-support.ensures) (ltb-false _ _ (sym c.is_past_limit.ensures ∙ c.if-is_past_limit.false)) (omega (arith, c.if-i-left.false)) (omega (arith, c.if-j-right.true)) _ (ap told_refusal c.into-then-j-right.ensures)
 
 pub write_product-requires : goal.write_product-requires
 unfolding most_qubits
-write_product-requires c = (left_readable c.args.left.now c.args.i c.args.right.now c.args.j c.args.out.now _ (sym c.in_ok-nl.ensures) _ (sym c.in_ok-nr.ensures) _ (rw (← c.qubits.ensures.list) at c.join_support-support.ensures) (rw c.qubits.ensures.list (ltb-false _ _ (sym c.is_past_limit.ensures ∙ c.if-is_past_limit.false))) (omega (arith, c.if-i-nl.false)), right_readable c.args.left.now c.args.i c.args.right.now c.args.j c.args.out.now _ (sym c.in_ok-nl.ensures) _ (sym c.in_ok-nr.ensures) _ (rw (← c.qubits.ensures.list) at c.join_support-support.ensures) (rw c.qubits.ensures.list (ltb-false _ _ (sym c.is_past_limit.ensures ∙ c.if-is_past_limit.false))) (omega (arith, c.if-i-nl.false)) (omega (arith, c.if-j-nr.false)), rw c.qubits.ensures.list (ltb-false _ _ (sym c.is_past_limit.ensures ∙ c.if-is_past_limit.false)))
+write_product-requires c = rw (c.in_ok-left.ensures.bytes, c.in_ok-right.ensures.bytes) (left_readable c.args.left.now c.args.i c.args.right.now c.args.j c.args.out.now _ (sym c.in_ok-left.ensures.count) _ (sym c.in_ok-right.ensures.count) _ (rw (c.in_ok-left.ensures.bytes, c.in_ok-right.ensures.bytes, ← c.qubits.ensures.list) at c.join_support-support.ensures) (rw c.qubits.ensures.list (ltb-false _ _ (sym c.is_past_limit.ensures ∙ c.if-is_past_limit.false))) (omega (arith, c.if-i-left.false)), right_readable c.args.left.now c.args.i c.args.right.now c.args.j c.args.out.now _ (sym c.in_ok-left.ensures.count) _ (sym c.in_ok-right.ensures.count) _ (rw (c.in_ok-left.ensures.bytes, c.in_ok-right.ensures.bytes, ← c.qubits.ensures.list) at c.join_support-support.ensures) (rw c.qubits.ensures.list (ltb-false _ _ (sym c.is_past_limit.ensures ∙ c.if-is_past_limit.false))) (omega (arith, c.if-i-left.false)) (omega (arith, c.if-j-right.false)), rw c.qubits.ensures.list (ltb-false _ _ (sym c.is_past_limit.ensures ∙ c.if-is_past_limit.false)))
 
 pub returns : goal.returns
 unfolding most_qubits
-returns c = written c.args.left.now c.args.i c.args.right.now c.args.j c.args.out.now _ (sym c.in_ok-nl.ensures) _ (sym c.in_ok-nr.ensures) _ (rw (← c.qubits.ensures.list) at c.join_support-support.ensures) (rw c.qubits.ensures.list (ltb-false _ _ (sym c.is_past_limit.ensures ∙ c.if-is_past_limit.false))) (omega (arith, c.if-i-nl.false)) (omega (arith, c.if-j-nr.false)) _ _ c.write_product.ensures.told c.write_product.ensures.left
+returns c = written c.args.left.now c.args.i c.args.right.now c.args.j c.args.out.now _ (sym c.in_ok-left.ensures.count) _ (sym c.in_ok-right.ensures.count) _ (rw (c.in_ok-left.ensures.bytes, c.in_ok-right.ensures.bytes, ← c.qubits.ensures.list) at c.join_support-support.ensures) (rw c.qubits.ensures.list (ltb-false _ _ (sym c.is_past_limit.ensures ∙ c.if-is_past_limit.false))) (omega (arith, c.if-i-left.false)) (omega (arith, c.if-j-right.false)) _ _ (rw (c.in_ok-left.ensures.bytes, c.in_ok-right.ensures.bytes) at c.write_product.ensures.told) (rw (c.in_ok-left.ensures.bytes, c.in_ok-right.ensures.bytes) at c.write_product.ensures.left)

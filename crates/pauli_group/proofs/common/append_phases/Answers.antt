@@ -9,18 +9,6 @@ loop-k-init c = phases_none _ _ _ _
 pub overflow_add-k : goal.overflow_add-k
 overflow_add-k c = let l = c.loop-k in omega (arith, mod_le l.k c.step-a.result, mod_le l.k c.step-b.result)
 
-pub overflow_mul-total : goal.overflow_mul-total
-overflow_mul-total c = omega (arith, c.loop-k.invariant.few, c.loop-k.invariant.within, c.requires.1)
-
-pub overflow_add-total : goal.overflow_add-total
-overflow_add-total c = omega (arith, c.loop-k.invariant.few, c.loop-k.invariant.within, c.requires.1)
-
-pub put_phase-requires : goal.put_phase-requires
-put_phase-requires c = omega (arith, c.loop-k.invariant.few, c.loop-k.invariant.within, c.requires.1, c.requires.0, c.loop-k.invariant.size)
-
-pub overflow_add-total-then-k-a-eq0 : goal.overflow_add-total-then-k-a-eq0
-overflow_add-total-then-k-a-eq0 c = omega (arith, c.loop-k.invariant.few, c.loop-k.invariant.within, c.requires.1)
-
 pub loop-k-preserved : goal.loop-k-preserved
 loop-k-preserved c = let l = c.loop-k in
     elim c.if-k-a-eq0.branch [

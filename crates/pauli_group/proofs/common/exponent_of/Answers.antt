@@ -16,9 +16,6 @@ solve-requires c =
 pub indexed_product-product-requires : goal.indexed_product-product-requires
 indexed_product-product-requires c = (omega (arith, c.requires.0, c.requires.2.few, c.solve.ensures.rest.size), c.requires.2.few)
 
-pub overflow_cast-result : goal.overflow_cast-result
-overflow_cast-result c = omega arith
-
 pub shape_of-w-in-None : goal.shape_of-w-in-None
 shape_of-w-in-None c = c.solve.ensures.rest.size
 

@@ -7,24 +7,6 @@ use Rattle.pauli_group.proofs.common.keep_shared.Goals.{in-Some, in_default}
 pub loop-i-init : goal.loop-i-init
 loop-i-init c = kept_none _ _ _ _
 
-pub bounds-w-at : goal.bounds-w-at
-bounds-w-at c = omega (arith, c.requires.0, c.requires.1, c.loop-i.invariant.rest.size, c.loop-i-test.true)
-
-pub bounds-w-at-in-loop-i : goal.bounds-w-at-in-loop-i
-bounds-w-at-in-loop-i c = omega (arith, c.requires.0, c.requires.1, c.loop-i.invariant.rest.size, c.loop-i-test.true)
-
-pub overflow_mul-kept : goal.overflow_mul-kept
-overflow_mul-kept c = omega (arith, c.requires.1, c.loop-i.invariant.low, c.loop-i.invariant.within)
-
-pub overflow_add-kept : goal.overflow_add-kept
-overflow_add-kept c = omega (arith, c.requires.1, c.loop-i.invariant.low, c.loop-i.invariant.within)
-
-pub store-requires : goal.store-requires
-store-requires c = omega (arith, c.requires.0, c.requires.1, c.loop-i.invariant.rest.size, c.loop-i.invariant.low, c.loop-i-test.true)
-
-pub overflow_add-kept-in-Some : goal.overflow_add-kept-in-Some
-overflow_add-kept-in-Some c = omega (arith, c.requires.1, c.loop-i.invariant.low, c.loop-i.invariant.within)
-
 pub loop-i-preserved : goal.loop-i-preserved
 loop-i-preserved c = let l = c.loop-i in
     let told = found_noted (step_told c.args.first) (step_told c.args.second) c.args.m c.args.w.now l.w (2368 + 5 * l.i) _ c.shared_exponent.ensures.first in

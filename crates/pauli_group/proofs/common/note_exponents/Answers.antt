@@ -5,35 +5,11 @@ use Rattle.pauli_group.proofs.common.note_exponents.Goals as goal
 pub loop-i-init : goal.loop-i-init
 loop-i-init c = (omega arith, noted_none c.args.w.now c.args.joint.now c.args.own.now c.args.n c.args.group.places c.args.group.rank c.requires.2)
 
-pub overflow_mul-at : goal.overflow_mul-at
-overflow_mul-at c = omega arith
-
-pub overflow_add-at : goal.overflow_add-at
-overflow_add-at c = omega arith
-
 pub exponent_of-e-requires : goal.exponent_of-e-requires
 exponent_of-e-requires c =
     let N = c.loop-i.invariant.1 in
     let e = noted_element c.args.w.now c.args.joint.now c.args.own.now c.args.n c.args.group.places c.args.group.rank c.requires.2 _ _ N _ c.args.m c.loop-i-test.true c.requires.5 _ _ c.requires.6 in
     (N.size ∙ c.requires.0, omega (arith, c.requires.1, c.loop-i-test.true), noted_solving c.args.w.now c.args.joint.now c.args.own.now c.args.n c.args.group.places c.args.group.rank c.requires.2 _ _ N, c.requires.3, c.requires.4, e.0, e.1, e.2)
-
-pub offset_bounds-w-at : goal.offset_bounds-w-at
-offset_bounds-w-at c = omega arith
-
-pub bounds-w-at : goal.bounds-w-at
-bounds-w-at c = omega (arith, c.requires.0, c.requires.1, c.exponent_of-e.ensures.rest.size, c.loop-i.invariant.1.size, c.loop-i-test.true)
-
-pub overflow_mul-w : goal.overflow_mul-w
-overflow_mul-w c = omega arith
-
-pub overflow_add-w : goal.overflow_add-w
-overflow_add-w c = omega (arith, c.exponent_of-e.ensures.low)
-
-pub offset_bounds-w-at-in-loop-i : goal.offset_bounds-w-at-in-loop-i
-offset_bounds-w-at-in-loop-i c = omega arith
-
-pub bounds-w-at-in-loop-i : goal.bounds-w-at-in-loop-i
-bounds-w-at-in-loop-i c = omega (arith, c.requires.0, c.requires.1, c.exponent_of-e.ensures.rest.size, c.loop-i.invariant.1.size, c.loop-i-test.true)
 
 pub loop-i-preserved : goal.loop-i-preserved
 loop-i-preserved c =

@@ -5,8 +5,11 @@ use Rattle.pauli_group.proofs.basis.BasisLaws.{joint_is}
 use Rattle.pauli_group.proofs.common.PartLaws.{part_on, part_left, once_on, once_right, part_places_lem, part_written}
 use Rattle.pauli_group.proofs.common.write_part.Goals as goal
 
-pub join_support-support-requires : goal.join_support-support-requires
-join_support-support-requires c = (c.requires.0.left, c.requires.0.right)
+pub invariant_of-first : goal.invariant_of-first
+invariant_of-first c = record { accepted = c.requires.0.left; low = λ i. (c.type_inv.left i).fits }
+
+pub invariant_of-second : goal.invariant_of-second
+invariant_of-second c = record { accepted = c.requires.0.right; low = λ i. (c.type_inv.right i).fits }
 
 pub common_basis-m-requires : goal.common_basis-m-requires
 common_basis-m-requires c =

@@ -1,6 +1,6 @@
 use Rattle.pauli_group.proofs.area.AreaLaws.{form_room_more, stride_least}
 use Rattle.pauli_group.proofs.form.MadeLaws.{made_rank, made_form, made_some, made_outside}
-use Rattle.std.proofs.Common.{◌∙◌, arith}
+use Rattle.std.proofs.Common.{arith}
 use Rattle.pauli_group.proofs.form.form_of.Goals as goal
 
 pub put_rows-requires : goal.put_rows-requires

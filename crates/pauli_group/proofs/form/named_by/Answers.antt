@@ -6,7 +6,7 @@ use Rattle.pauli_group.specs.Inner.Area.{stride_of}
 use Rattle.pauli_group.proofs.form.named_by.Goals as goal
 
 pub returns-then-n-eq0 : goal.returns-then-n-eq0
-returns-then-n-eq0 c = c.none.ensures ∙ no_names c.args.w.now c.args.at c.args.n (λ q. (c.shared_slice_known-1.given q).fits) c.requires.1 c.if-n-eq0.true
+returns-then-n-eq0 c = c.none.ensures ∙ no_names c.args.w.now c.args.at c.args.n (λ q. (c.type_inv.w q).fits) c.requires.1 c.if-n-eq0.true
 
 pub bounds-w-at : goal.bounds-w-at
 unfolding stride_of form_stride
@@ -14,7 +14,7 @@ bounds-w-at c = omega (arith, c.requires.1)
 
 pub returns-then-n-le64 : goal.returns-then-n-le64
 unfolding set_in
-returns-then-n-le64 c = names_in_one c.args.w.now c.args.at c.args.n (λ q. (c.shared_slice_known-1.given q).fits) c.requires.1 c.if-n-eq0.false c.if-n-le64.true
+returns-then-n-le64 c = names_in_one c.args.w.now c.args.at c.args.n (λ q. (c.type_inv.w q).fits) c.requires.1 c.if-n-eq0.false c.if-n-le64.true
 
 pub bounds-w-at-2 : goal.bounds-w-at-2
 unfolding stride_of form_stride
@@ -26,4 +26,4 @@ bounds-w-at-3 c = omega (arith, c.requires.1, c.if-n-le64.false)
 
 pub returns : goal.returns
 unfolding set_in
-returns c = names_in_two c.args.w.now c.args.at c.args.n (λ q. (c.shared_slice_known-1.given q).fits) c.requires.1 c.if-n-le64.false c.requires.0
+returns c = names_in_two c.args.w.now c.args.at c.args.n (λ q. (c.type_inv.w q).fits) c.requires.1 c.if-n-le64.false c.requires.0

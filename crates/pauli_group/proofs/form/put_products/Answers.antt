@@ -4,14 +4,8 @@ use Rattle.pauli_group.proofs.list.ListLaws.{stored_none, stored_step, stored_al
 use Rattle.pauli_group.specs.Inner.Lists.{products_by}
 use Rattle.pauli_group.proofs.form.put_products.Goals as goal
 
-pub stride_of-stride-requires : goal.stride_of-stride-requires
-stride_of-stride-requires c = omega arith
-
 pub loop-i-init : goal.loop-i-init
 loop-i-init c = (omega arith, stored_none _ _ _ _ _)
-
-pub overflow_add-first : goal.overflow_add-first
-overflow_add-first c = omega arith
 
 pub overflow_mul-first : goal.overflow_mul-first
 overflow_mul-first c =
@@ -21,17 +15,8 @@ pub named_by-set-requires : goal.named_by-set-requires
 named_by-set-requires c =
     (c.requires.1, rw c.stride_of-stride.ensures (omega (arith, c.requires.0, c.loop-i.invariant.1.rest.size, row_room _ _ _ _ _ _ _ c.requires.1 c.requires.2 c.requires.3 c.requires.0 c.requires.4 c.requires.7 _ _ c.loop-i-test.true c.loop-i.invariant.1.rest)))
 
-pub overflow_mul-i : goal.overflow_mul-i
-overflow_mul-i c = omega arith
-
-pub overflow_add-to : goal.overflow_add-to
-overflow_add-to c = omega arith
-
 pub indexed_product-requires : goal.indexed_product-requires
 indexed_product-requires c = (omega (arith, c.requires.5, c.loop-i.invariant.1.rest.size), c.requires.3)
-
-pub store-requires : goal.store-requires
-store-requires c = omega (arith, c.requires.6, c.loop-i.invariant.1.rest.size)
 
 pub loop-i-preserved : goal.loop-i-preserved
 loop-i-preserved c =

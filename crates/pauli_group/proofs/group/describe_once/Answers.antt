@@ -1,12 +1,9 @@
-use Rattle.std.proofs.Common.{◌∙◌, arith}
+use Rattle.std.proofs.Common.{◌∙◌}
 use Rattle.pauli_group.proofs.group.GroupedLaws.{cleared_whole}
 use Rattle.pauli_group.proofs.group.describe_once.Goals as goal
 
 pub describe-d-requires : goal.describe-d-requires
 describe-d-requires c = (c.requires.0, c.requires.1)
-
-pub clear_bits-requires : goal.clear_bits-requires
-clear_bits-requires c = omega (arith, c.describe-d.auto.w, c.requires.1)
 
 pub shape_of-w : goal.shape_of-w
 shape_of-w c = c.clear_bits.auto.w ∙ c.describe-d.auto.w

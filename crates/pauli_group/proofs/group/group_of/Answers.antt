@@ -2,38 +2,25 @@
 use Rattle.pauli_group.proofs.list.ListLaws.{outside_join, outside_wider}
 use Rattle.pauli_group.specs.Inner.Area.{further_at}
 use Rattle.std.proofs.Common.{◌∙◌, arith}
-use Rattle.pauli.proofs.joined.JoinLaws.{accepted, accepted_length, accepted_few}
+use Rattle.pauli.proofs.joined.JoinLaws.{accepted, accepted_few}
 use Rattle.pauli.specs.Roll.{most_paulis}
 use Rattle.pauli_group.proofs.group.GroupLaws.{own_gathered, own_few, places_few, part_readable, on_places, grouped}
 use Rattle.pauli_group.proofs.group.group_of.Goals as goal
 
-pub overflow_mul-n : goal.overflow_mul-n
-overflow_mul-n c = omega (arith, accepted_length c.args.b.now c.args.n c.requires.0)
-
-pub overflow_add-n : goal.overflow_add-n
-overflow_add-n c = omega (arith, accepted_length c.args.b.now c.args.n c.requires.0)
-
-pub numbers_of-requires : goal.numbers_of-requires
-numbers_of-requires c = c.requires.0
-
-pub gather-requires : goal.gather-requires
-gather-requires c = omega (arith, accepted_length c.args.b.now c.args.n c.requires.0, c.numbers_of.ensures)
-
 pub read_list-requires : goal.read_list-requires
 unfolding most_paulis
 read_list-requires c =
-    let g = own_gathered c.args.b.now c.args.n c.requires.0 _ c.numbers_of.ensures _ (rw (c.new.ensures, ← c.qubits-qubits.ensures.list) at c.gather.ensures) in
+    let g = own_gathered c.args.b.now _ (rw (c.new.ensures, ← c.qubits-qubits.ensures.list) at c.gather.ensures) in
     let few = own_few c.args.b.now c.args.n c.requires.0 in (
       part_readable _ _ g few c.args.b.now c.args.n c.requires.0 (λ p m. m),
       places_few _ _ g few,
       omega (arith, c.requires.1, accepted_few c.args.b.now c.args.n c.requires.0),
-      (accepted c.args.b.now c.args.n c.requires.0).1,
     )
 
 pub build-requires : goal.build-requires
 unfolding most_paulis
 build-requires c =
-    let g = own_gathered c.args.b.now c.args.n c.requires.0 _ c.numbers_of.ensures _ (rw (c.new.ensures, ← c.qubits-qubits.ensures.list) at c.gather.ensures) in
+    let g = own_gathered c.args.b.now _ (rw (c.new.ensures, ← c.qubits-qubits.ensures.list) at c.gather.ensures) in
     let few = own_few c.args.b.now c.args.n c.requires.0 in (
       c.read_list.ensures.rest.size ∙ c.requires.1,
       accepted_few c.args.b.now c.args.n c.requires.0,
@@ -47,7 +34,7 @@ shape_of-w c = c.build.auto.w ∙ c.read_list.ensures.rest.size
 pub returns : goal.returns
 unfolding most_paulis
 returns c =
-    let g = own_gathered c.args.b.now c.args.n c.requires.0 _ c.numbers_of.ensures _ (rw (c.new.ensures, ← c.qubits-qubits.ensures.list) at c.gather.ensures) in
+    let g = own_gathered c.args.b.now _ (rw (c.new.ensures, ← c.qubits-qubits.ensures.list) at c.gather.ensures) in
     let few = own_few c.args.b.now c.args.n c.requires.0 in record {
       group = rw (← c.qubits-qubits.ensures.list, c.build.ensures.places) (grouped _ _ g few _ c.args.n c.read_list.ensures.list _ _ _ (accepted c.args.b.now c.args.n c.requires.0).1 c.build.ensures.built);
       rest = outside_join (outside_wider 0 further_at c.read_list.ensures.rest (omega arith) (omega (arith, accepted_few c.args.b.now c.args.n c.requires.0))) c.build.ensures.built.rest;

@@ -5,8 +5,11 @@ use Rattle.pauli_group.proofs.group.GroupLaws.{places_few, part_readable, on_pla
 use mathlib.Core.List.Memᴰ
 use Rattle.pauli_group.proofs.group.group_of_two.Goals as goal
 
-pub join_support-requires : goal.join_support-requires
-join_support-requires c = (c.requires.0.left, c.requires.0.right)
+pub invariant_of-first : goal.invariant_of-first
+invariant_of-first c = record { accepted = c.requires.0.left; low = λ i. (c.type_inv.left i).fits }
+
+pub invariant_of-second : goal.invariant_of-second
+invariant_of-second c = record { accepted = c.requires.0.right; low = λ i. (c.type_inv.right i).fits }
 
 pub read_list-requires : goal.read_list-requires
 read_list-requires c =
@@ -14,14 +17,7 @@ read_list-requires c =
       part_readable _ _ g c.requires.0.qubits c.args.left.now c.args.nl c.requires.0.left (λ p m. Memᴰ.append_left (list_of c.args.right.now) m),
       places_few _ _ g c.requires.0.qubits,
       omega (arith, c.requires.0.few, c.requires.1),
-      (accepted c.args.left.now c.args.nl c.requires.0.left).1,
     )
-
-pub overflow_mul-nl : goal.overflow_mul-nl
-overflow_mul-nl c = omega (arith, c.requires.0.few)
-
-pub overflow_add-nl : goal.overflow_add-nl
-overflow_add-nl c = omega (arith, c.requires.0.few)
 
 pub read_list-requires-2 : goal.read_list-requires-2
 read_list-requires-2 c =
@@ -29,11 +25,7 @@ read_list-requires-2 c =
       part_readable _ _ g c.requires.0.qubits c.args.right.now c.args.nr c.requires.0.right (λ p m. Memᴰ.append_right (list_of c.args.left.now) m),
       places_few _ _ g c.requires.0.qubits,
       omega (arith, c.requires.0.few, c.requires.1, c.read_list.ensures.rest.size),
-      (accepted c.args.right.now c.args.nr c.requires.0.right).1,
     )
-
-pub overflow_add-nl-2 : goal.overflow_add-nl-2
-overflow_add-nl-2 c = omega arith
 
 pub build-requires : goal.build-requires
 build-requires c =

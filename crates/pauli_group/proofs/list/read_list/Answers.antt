@@ -1,4 +1,5 @@
 use Rattle.std.proofs.Common.{ap, arith}
+use Rattle.pauli.proofs.joined.JoinLaws.{accepted}
 use Rattle.pauli.specs.Condense.{nothing}
 use Rattle.pauli.specs.Pauli.{normal}
 use Rattle.pauli_group.specs.Inner.Lists.{over_places}
@@ -8,29 +9,17 @@ use Rattle.pauli_group.proofs.list.read_list.Goals as goal
 pub loop-i-init : goal.loop-i-init
 loop-i-init c = (omega arith, stored_none _ _ _ _ _)
 
-pub overflow_mul-i : goal.overflow_mul-i
-overflow_mul-i c = omega arith
-
-pub overflow_add-base : goal.overflow_add-base
-overflow_add-base c = omega arith
-
 pub condense_from-requires : goal.condense_from-requires
 condense_from-requires c =
     (c.requires.0 _ c.loop-i-test.true, c.requires.1)
-
-pub store-requires : goal.store-requires
-store-requires c = omega (arith, c.loop-i.invariant.1.rest.size)
 
 pub loop-i-preserved : goal.loop-i-preserved
 unfolding over_places
 loop-i-preserved c =
     let next =
-    stored_step _ _ _ _ _ _ _ c.loop-i.invariant.1 c.requires.3 nothing _ c.loop-i-test.true c.requires.2
+    stored_step _ _ _ _ _ _ _ c.loop-i.invariant.1 (accepted _ _ c.args.roll.accepted).1 nothing _ c.loop-i-test.true c.requires.2
     (ap normal c.condense_from.ensures) _ c.store.ensures in
     (omega arith, next)
 
-pub shape_of-w : goal.shape_of-w
-shape_of-w c = omega (arith, c.loop-i.invariant.1.rest.size)
-
 pub returns : goal.returns
-returns c = record { list = stored_all _ _ _ _ _ _ _ c.loop-i.invariant.1 c.requires.3 c.loop-i.invariant.0 (omega arith); rest = c.loop-i.invariant.1.rest }
+returns c = record { list = stored_all _ _ _ _ _ _ _ c.loop-i.invariant.1 (accepted _ _ c.args.roll.accepted).1 c.loop-i.invariant.0 (omega arith); rest = c.loop-i.invariant.1.rest }

@@ -6,4 +6,4 @@ use Rattle.pauli_group.proofs.list.ListLaws.{StoredUpTo}
 use Rattle.pauli_group.proofs.list.read_list.Given as goal
 
 abbrev pub invariant-loop-i : goal.invariant-loop-i
-invariant-loop-i l = (l.i ≤ l.n) × StoredUpTo (over_places l.support) (list_of l.b) l.base l.n l.initial.w l.i l.w
+invariant-loop-i l = (l.i ≤ l.roll.count) × StoredUpTo (over_places l.support) (list_of l.roll.bytes.now) l.base l.roll.count l.initial.w l.i l.w

@@ -3,9 +3,6 @@ use Rattle.pauli_theory.specs.Listing.{binomial}
 use Rattle.pauli_group.proofs.listing.ListingLaws.{row_first}
 use Rattle.pauli_group.proofs.listing.binomial.Goals as goal
 
-pub bounds-row-0 : goal.bounds-row-0
-bounds-row-0 c = omega arith
-
 pub loop-i-init : goal.loop-i-init
 loop-i-init c = (omega arith, row_first)
 
@@ -17,12 +14,6 @@ next_row-requires c = (c.loop-i.invariant.1, omega arith)
 
 pub loop-i-preserved : goal.loop-i-preserved
 loop-i-preserved c = (omega arith, c.next_row.ensures)
-
-pub offset_bounds-row-k : goal.offset_bounds-row-k
-offset_bounds-row-k c = omega arith
-
-pub bounds-row-k : goal.bounds-row-k
-bounds-row-k c = omega arith
 
 pub returns : goal.returns
 returns c = let e : c.loop-i.i ≡ c.args.n = omega arith in c.loop-i.invariant.1.entries _ c.requires.1 ∙ ap (λ (m : ℕ). binomial m c.args.k) e

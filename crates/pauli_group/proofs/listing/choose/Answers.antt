@@ -1,13 +1,10 @@
 -- By the three cases of chosen_at.
 use Rattle.std.proofs.Common.{arith}
-use Rattle.pauli_group.proofs.listing.ListingLaws.{choose_none, choose_with, choose_without, pow_next, pow_small, one_shifted}
+use Rattle.pauli_group.proofs.listing.ListingLaws.{choose_none, choose_with, choose_without, pow_next, one_shifted}
 use Rattle.pauli_group.proofs.listing.choose.Goals as goal
 
 pub returns-then-size-eq0 : goal.returns-then-size-eq0
 returns-then-size-eq0 c = record { small = (c.requires.1, omega (arith, pow_next c.args.p, c.requires.2)); same = choose_none _ _ _ _ _ c.if-size-eq0.true }
-
-pub overflow_add-result : goal.overflow_add-result
-overflow_add-result c = omega (arith, pow_small c.args.p (omega arith))
 
 pub returns-then-number-with : goal.returns-then-number-with
 returns-then-number-with c = let p = c.args.p in

@@ -6,12 +6,6 @@ use Rattle.pauli_group.proofs.listing.chosen_at.Goals as goal
 pub loop-p-init : goal.loop-p-init
 loop-p-init c = (omega arith, omega arith, omega arith, choice_start _ _ _)
 
-pub overflow_sub-n : goal.overflow_sub-n
-overflow_sub-n c = omega arith
-
-pub overflow_sub-n-in-loop-p : goal.overflow_sub-n-in-loop-p
-overflow_sub-n-in-loop-p c = omega arith
-
 pub choose-c-requires : goal.choose-c-requires
 choose-c-requires c = (omega arith, c.loop-p.invariant.1, c.loop-p.invariant.2)
 

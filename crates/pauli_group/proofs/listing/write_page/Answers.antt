@@ -43,9 +43,6 @@ write_roll-wrote-requires c =
       rw (c.qubits.ensures.list, ← places_known group.ensures.group) (page_places _ _ group.ensures.group _ step _ _ _ c.page_elements-length.ensures.0 _ c.put_elements.ensures.list),
     )
 
-pub clear_bits-requires-2 : goal.clear_bits-requires-2
-clear_bits-requires-2 c = omega (arith, c.put_elements.auto.w, c.group_of-g.auto.w, c.requires.1)
-
 pub returns : goal.returns
 returns c =
     let group = c.group_of-g in

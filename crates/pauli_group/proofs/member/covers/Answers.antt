@@ -6,15 +6,6 @@ use Rattle.pauli_group.proofs.member.covers.Goals as goal
 pub loop-k-init : goal.loop-k-init
 loop-k-init c = covered_start _ _ _ _
 
-pub overflow_mul-k : goal.overflow_mul-k
-overflow_mul-k c = omega arith
-
-pub overflow_add-at : goal.overflow_add-at
-overflow_add-at c = omega arith
-
-pub u32_at-requires : goal.u32_at-requires
-u32_at-requires c = omega arith
-
 pub place_from-place-requires : goal.place_from-place-requires
 place_from-place-requires c =
     (rw c.walk_start.ensures (walk_from _ _ _ c.loop-k.invariant.walk _), c.requires.1)
@@ -31,9 +22,6 @@ pub returns-then-met-q : goal.returns-then-met-q
 returns-then-met-q c =
     covered_none _ _ _ _ _ _ _ c.loop-k.invariant c.loop-k-test.true _ c.u32_at.ensures _ c.place_from-place.ensures
     c.requires.1 (λ l e. c.if-met-q.true (c.qubit_at-met.ensures ∙ e))
-
-pub overflow_add-from : goal.overflow_add-from
-overflow_add-from c = omega arith
 
 pub loop-k-preserved : goal.loop-k-preserved
 loop-k-preserved c =

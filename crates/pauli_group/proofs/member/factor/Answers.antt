@@ -42,7 +42,7 @@ returns-then-left-step-ne0 c =
     record {
       told = λ g. factored_phase g _ inside _ c.condense_from-p.ensures _ solved.told
           _ (c.indexed_product-product.ensures ∙ ap (indexed_product _) list)
-          _ c.wrapping_sub_u8-left.ensures.value over;
+          _ (omega arith) over;
       rest = solved.rest;
     }
 
@@ -55,6 +55,6 @@ returns c =
     record {
       told = λ g. factored_found g _ inside _ c.condense_from-p.ensures _ solved.told
           _ (c.indexed_product-product.ensures ∙ ap (indexed_product _) list)
-          _ c.wrapping_sub_u8-left.ensures.value whole;
+          _ (omega arith) whole;
       rest = solved.rest;
     }

@@ -3,9 +3,6 @@ use Rattle.pauli.proofs.places.Firsts.{first_told}
 use Rattle.pauli_group.proofs.member.MemberLaws.{indexes_start, indexes_done, indexes_skip, indexes_room, indexes_hit}
 use Rattle.pauli_group.proofs.member.put_indexes.Goals as goal
 
-pub first_from-i-requires : goal.first_from-i-requires
-first_from-i-requires c = omega arith
-
 pub loop-i-init : goal.loop-i-init
 loop-i-init c =
     let f = first_told (omega arith) c.first_from-i.ensures in
@@ -20,12 +17,6 @@ pub overflow_add-next : goal.overflow_add-next
 overflow_add-next c =
     let small = c.requires.1 in
     omega (arith, indexes_room _ _ small _ c.loop-i.invariant.1 c.loop-i-test.true (c.loop-i.invariant.0 (omega arith)))
-
-pub overflow_add-i : goal.overflow_add-i
-overflow_add-i c = omega arith
-
-pub first_from-i-requires-in-loop-i : goal.first_from-i-requires-in-loop-i
-first_from-i-requires-in-loop-i c = omega arith
 
 pub loop-i-smaller : goal.loop-i-smaller
 loop-i-smaller c = omega (arith, (first_told (omega arith) c.first_from-i-in-loop-i.ensures).from)

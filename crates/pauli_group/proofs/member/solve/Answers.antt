@@ -3,7 +3,7 @@ use Rattle.binar.specs.Layout.{form_stride}
 use Rattle.pauli_group.proofs.form.FormLaws.{names_whole}
 use Rattle.pauli_group.proofs.member.SolveLaws.{pauli_solvable, pauli_rest, pauli_set, pauli_none}
 use Rattle.pauli_group.specs.Inner.Area.{stride_of}
-use Rattle.std.proofs.Common.{sym, ◌∙◌, arith}
+use Rattle.std.proofs.Common.{sym, ◌∙◌, arith, rules}
 use Rattle.pauli_group.proofs.member.solve.Goals as goal
 
 pub overflow_sub-stride : goal.overflow_sub-stride
@@ -12,29 +12,29 @@ overflow_sub-stride c = omega (arith, c.stride_of-stride.ensures)
 
 pub transpose_solve-requires : goal.transpose_solve-requires
 transpose_solve-requires c =
-    pauli_solvable _ (λ q. (c.slice_known-1.given q).fits) _ _ _ c.args.p c.requires.2 c.requires.3 c.requires.4
+    pauli_solvable _ (λ q. search rules) _ _ _ c.args.p c.requires.2 c.requires.3 c.requires.4
     c.requires.5 _ c.stride_of-stride.ensures _ _ c.clear_bits.ensures c.put_row.ensures
 
 pub returns-then-transpose_solve : goal.returns-then-transpose_solve
 returns-then-transpose_solve c = record {
-  told = pauli_set _ (λ q. (c.slice_known-1.given q).fits) _ _ _ c.args.p c.requires.2 c.requires.3 c.requires.4
+  told = pauli_set _ (λ q. search rules) _ _ _ c.args.p c.requires.2 c.requires.3 c.requires.4
       c.requires.5 _ c.stride_of-stride.ensures _ _ c.clear_bits.ensures c.put_row.ensures
       _ c.transpose_solve.ensures.left _
       (c.named_by.ensures
-      ∙ names_whole _ _ _ (λ q. (c.slice_known-4-1.given q).fits)
+      ∙ names_whole _ _ _ (λ q. search rules)
       (omega (arith, c.requires.5.target, c.transpose_solve.auto.w, c.put_row.auto.w, c.clear_bits.auto.w)) c.requires.1)
       (sym c.if-transpose_solve.true ∙ c.transpose_solve.ensures.told);
-  rest = pauli_rest _ (λ q. (c.slice_known-1.given q).fits) _ _ _ c.args.p c.requires.2 c.requires.3 c.requires.4
+  rest = pauli_rest _ (λ q. search rules) _ _ _ c.args.p c.requires.2 c.requires.3 c.requires.4
       c.requires.5 _ c.stride_of-stride.ensures _ _ c.clear_bits.ensures c.put_row.ensures
       _ c.transpose_solve.ensures.left;
 }
 
 pub returns-else-transpose_solve : goal.returns-else-transpose_solve
 returns-else-transpose_solve c = record {
-  told = pauli_none _ (λ q. (c.slice_known-1.given q).fits) _ _ _ c.args.p c.requires.2 c.requires.3 c.requires.4
+  told = pauli_none _ (λ q. search rules) _ _ _ c.args.p c.requires.2 c.requires.3 c.requires.4
       c.requires.5 _ c.stride_of-stride.ensures _ _ c.clear_bits.ensures c.put_row.ensures
       _ c.transpose_solve.ensures.left (sym c.if-transpose_solve.false ∙ c.transpose_solve.ensures.told);
-  rest = pauli_rest _ (λ q. (c.slice_known-1.given q).fits) _ _ _ c.args.p c.requires.2 c.requires.3 c.requires.4
+  rest = pauli_rest _ (λ q. search rules) _ _ _ c.args.p c.requires.2 c.requires.3 c.requires.4
       c.requires.5 _ c.stride_of-stride.ensures _ _ c.clear_bits.ensures c.put_row.ensures
       _ c.transpose_solve.ensures.left;
 }

@@ -30,12 +30,6 @@ bounds-w-at c =
     let at : c.args.n * c.stride_of.result ≡ c.args.n * stride_of c.args.n = ap (c.args.n *◌) c.stride_of.ensures in
     omega (arith, at, pivot_room _ _ _ _ _ _ _ c.requires.5 c.requires.0 _ _ c.loop-k.invariant c.loop-k-test.true)
 
-pub overflow_mul-k : goal.overflow_mul-k
-overflow_mul-k c = omega arith
-
-pub overflow_add-k : goal.overflow_add-k
-overflow_add-k c = omega arith
-
 pub move_pauli-moved-requires : goal.move_pauli-moved-requires
 move_pauli-moved-requires c =
     let at = ap (c.args.n *◌) c.stride_of.ensures in

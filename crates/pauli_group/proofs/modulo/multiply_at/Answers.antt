@@ -8,24 +8,6 @@ use Rattle.pauli_group.proofs.modulo.multiply_at.Goals as goal
 pub loop-i-init : goal.loop-i-init
 loop-i-init c = (omega arith, stored_none _ _ _ _ _, outside_refl _ _ _)
 
-pub overflow_mul-i : goal.overflow_mul-i
-overflow_mul-i c = omega arith
-
-pub overflow_add-base : goal.overflow_add-base
-overflow_add-base c = omega arith
-
-pub load-p-requires : goal.load-p-requires
-load-p-requires c = omega (arith, c.loop-i.invariant.2.size, c.requires.0)
-
-pub overflow_mul-i-in-loop-i : goal.overflow_mul-i-in-loop-i
-overflow_mul-i-in-loop-i c = omega arith
-
-pub overflow_add-base-in-loop-i : goal.overflow_add-base-in-loop-i
-overflow_add-base-in-loop-i c = omega arith
-
-pub store-requires : goal.store-requires
-store-requires c = omega (arith, c.loop-i.invariant.2.size, c.requires.0)
-
 pub loop-i-preserved : goal.loop-i-preserved
 loop-i-preserved c =
     let l = c.loop-i in

@@ -5,8 +5,11 @@ use Rattle.pauli_group.proofs.group.GroupedLaws.{cleared_whole}
 use Rattle.pauli_group.proofs.modulo.ModuloLaws.{joined_places, joined_support, joined_size, remainder_on, remainder_written}
 use Rattle.pauli_group.proofs.modulo.write_modulo.Goals as goal
 
-pub join_support-support-requires : goal.join_support-support-requires
-join_support-support-requires c = (c.requires.0.left, c.requires.0.right)
+pub invariant_of-first : goal.invariant_of-first
+invariant_of-first c = record { accepted = c.requires.0.left; low = λ i. (c.type_inv.left i).fits }
+
+pub invariant_of-second : goal.invariant_of-second
+invariant_of-second c = record { accepted = c.requires.0.right; low = λ i. (c.type_inv.right i).fits }
 
 pub remainder-count-requires : goal.remainder-count-requires
 remainder-count-requires c =
@@ -22,9 +25,6 @@ write_roll-wrote-requires c =
       joined_places c.args.left.now c.args.right.now _ c.requires.0.qubits g,
       remainder_on left _ (joined_size c.args.left.now c.args.right.now _ c.requires.0.qubits g),
     )
-
-pub clear_bits-requires : goal.clear_bits-requires
-clear_bits-requires c = omega (arith, c.remainder-count.auto.w, c.requires.1)
 
 pub shape_of-w : goal.shape_of-w
 shape_of-w c = c.clear_bits.auto.w ∙ c.remainder-count.auto.w

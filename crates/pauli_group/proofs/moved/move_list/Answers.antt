@@ -8,29 +8,14 @@ use Rattle.pauli_group.proofs.moved.move_list.Goals as goal
 pub loop-i-init : goal.loop-i-init
 loop-i-init c = (omega arith, stored_none _ _ _ _ _)
 
-pub overflow_mul-i : goal.overflow_mul-i
-overflow_mul-i c = omega arith
-
-pub overflow_add-base : goal.overflow_add-base
-overflow_add-base c = omega arith
-
 pub load-p-requires : goal.load-p-requires
 load-p-requires c = let i = c.loop-i.invariant in omega (arith, i.1.rest.size, c.requires.0, c.requires.1)
-
-pub overflow_mul-i-in-loop-i : goal.overflow_mul-i-in-loop-i
-overflow_mul-i-in-loop-i c = omega arith
-
-pub overflow_add-to : goal.overflow_add-to
-overflow_add-to c = omega arith
 
 pub move_pauli-requires : goal.move_pauli-requires
 move_pauli-requires c =
     let l = c.loop-i in
     let m = kept_movable _ _ _ _ _ _ _ l.invariant.1.rest c.requires.0 c.loop-i-test.true _ _ _ c.requires.4 c.requires.5 _ c.load-p.ensures in
     (c.requires.2, c.requires.3, m.0, m.1, m.2)
-
-pub store-requires : goal.store-requires
-store-requires c = omega (arith, c.loop-i.invariant.1.rest.size, c.requires.1)
 
 pub loop-i-preserved : goal.loop-i-preserved
 loop-i-preserved c =

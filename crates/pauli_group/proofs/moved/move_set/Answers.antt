@@ -3,9 +3,6 @@ use Rattle.pauli.proofs.places.Firsts.{first_told}
 use Rattle.pauli_group.proofs.moved.MoveLaws.{move_place, move_further, move_with, move_start, move_skip, move_end}
 use Rattle.pauli_group.proofs.moved.move_set.Goals as goal
 
-pub first_from-i-requires : goal.first_from-i-requires
-first_from-i-requires c = omega arith
-
 pub loop-i-init : goal.loop-i-init
 loop-i-init c =
     let p = c.requires in
@@ -26,12 +23,6 @@ with_place-moved-requires c =
     let l = c.loop-i in
     let p = c.requires in
     rw c.place_from-place.ensures (move_place _ _ _ p.1 p.3 _ _ c.loop-i-test.true (l.invariant.0 (omega (arith, p.0))) c.qubit_at.ensures)
-
-pub overflow_add-i : goal.overflow_add-i
-overflow_add-i c = omega arith
-
-pub first_from-i-requires-in-loop-i : goal.first_from-i-requires-in-loop-i
-first_from-i-requires-in-loop-i c = omega (arith, c.requires.0)
 
 pub loop-i-smaller : goal.loop-i-smaller
 loop-i-smaller c = omega (arith, (first_told (omega (arith, c.requires.0)) c.first_from-i-in-loop-i.ensures).from)

@@ -1,4 +1,4 @@
-use Rattle.std.proofs.Common.{sym, ap, ◌∙◌, arith}
+use Rattle.std.proofs.Common.{sym, ap, ◌∙◌}
 use Rattle.pauli.specs.Writing.{told_bytes, left_in}
 use Rattle.pauli_group.specs.WorkArea.{cleared}
 use Rattle.pauli_group.proofs.group.GroupedLaws.{cleared_whole}
@@ -9,9 +9,6 @@ use Rattle.pauli_group.proofs.quotient.write_quotient.Goals as goal
 
 pub order_of-order-requires : goal.order_of-order-requires
 order_of-order-requires c = (swapped c.requires.0, c.requires.1)
-
-pub clear_bits-requires : goal.clear_bits-requires
-clear_bits-requires c = omega (arith, c.order_of-order.auto.w, c.requires.1)
 
 pub shape_of-w-then-not-is_below : goal.shape_of-w-then-not-is_below
 shape_of-w-then-not-is_below c = c.clear_bits.auto.w ∙ c.order_of-order.auto.w

@@ -1,22 +1,9 @@
-use Rattle.std.proofs.Common.{arith}
 use Rattle.pauli_group.proofs.scan.PhaseLaws.{lowered_start, lowered_odd, lowered_two, lowered_not, lowered_end}
 use Rattle.pauli_group.proofs.scan.modulus_of.Goals as goal
 use Rattle.pauli_group.proofs.scan.modulus_of.Goals.{then-e-eq1-2, else-e-eq1-2}
 
 pub loop-i-init : goal.loop-i-init
 loop-i-init c = lowered_start _ _ _
-
-pub overflow_mul-e : goal.overflow_mul-e
-overflow_mul-e c = omega arith
-
-pub overflow_add-e : goal.overflow_add-e
-overflow_add-e c = omega arith
-
-pub offset_bounds-w-base : goal.offset_bounds-w-base
-offset_bounds-w-base c = omega arith
-
-pub bounds-w-base : goal.bounds-w-base
-bounds-w-base c = omega arith
 
 pub returns-then-e-eq1 : goal.returns-then-e-eq1
 returns-then-e-eq1 c = lowered_odd c.loop-i.invariant c.loop-i-test.true c.if-e-eq1.true

@@ -1,36 +1,8 @@
-use Rattle.std.proofs.Common.{arith}
 use Rattle.pauli_group.proofs.scan.PhaseLaws.{taken_start, taken_step, taken_end}
 use Rattle.pauli_group.proofs.scan.take_mod.Goals as goal
 
 pub loop-i-init : goal.loop-i-init
 loop-i-init c = taken_start _ _ _ _
-
-pub overflow_mul-w : goal.overflow_mul-w
-overflow_mul-w c = omega arith
-
-pub overflow_add-w : goal.overflow_add-w
-overflow_add-w c = omega arith
-
-pub offset_bounds-w-base : goal.offset_bounds-w-base
-offset_bounds-w-base c = omega arith
-
-pub bounds-w-base : goal.bounds-w-base
-bounds-w-base c = omega (arith, c.loop-i.invariant.rest.size)
-
-pub nonzero_rem-w : goal.nonzero_rem-w
-nonzero_rem-w c = omega arith
-
-pub overflow_mul-w-in-loop-i : goal.overflow_mul-w-in-loop-i
-overflow_mul-w-in-loop-i c = omega arith
-
-pub overflow_add-w-in-loop-i : goal.overflow_add-w-in-loop-i
-overflow_add-w-in-loop-i c = omega arith
-
-pub offset_bounds-w-base-in-loop-i : goal.offset_bounds-w-base-in-loop-i
-offset_bounds-w-base-in-loop-i c = omega arith
-
-pub bounds-w-base-in-loop-i : goal.bounds-w-base-in-loop-i
-bounds-w-base-in-loop-i c = omega (arith, c.loop-i.invariant.rest.size)
 
 pub loop-i-preserved : goal.loop-i-preserved
 loop-i-preserved c = taken_step c.loop-i.invariant c.loop-i-test.true c.requires.0

@@ -12,30 +12,6 @@ use Rattle.pauli_group.proofs.symplectic.clear_pair.Goals.{then-i-k, else-i-k}
 pub loop-i-init : goal.loop-i-init
 loop-i-init c = (omega arith, stored_none normal _ _ _ _, outside_refl _ _ _)
 
-pub overflow_mul-i : goal.overflow_mul-i
-overflow_mul-i c = omega arith
-
-pub overflow_add-base : goal.overflow_add-base
-overflow_add-base c = omega arith
-
-pub load-g-requires : goal.load-g-requires
-load-g-requires c = omega (arith, c.loop-i.invariant.2.size)
-
-pub times_if-g-requires : goal.times_if-g-requires
-times_if-g-requires c = omega arith
-
-pub overflow_mul-i-in-loop-i : goal.overflow_mul-i-in-loop-i
-overflow_mul-i-in-loop-i c = omega arith
-
-pub overflow_add-base-in-loop-i : goal.overflow_add-base-in-loop-i
-overflow_add-base-in-loop-i c = omega arith
-
-pub times_if-requires : goal.times_if-requires
-times_if-requires c = omega arith
-
-pub store-requires : goal.store-requires
-store-requires c = omega (arith, c.loop-i.invariant.2.size)
-
 pub loop-i-preserved : goal.loop-i-preserved
 loop-i-preserved c = let loop = c.loop-i in
     let load = c.load-g in

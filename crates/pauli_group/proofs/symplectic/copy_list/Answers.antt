@@ -8,24 +8,6 @@ use Rattle.pauli_group.proofs.symplectic.copy_list.Goals as goal
 pub loop-i-init : goal.loop-i-init
 loop-i-init c = (omega arith, stored_none normal _ _ _ _)
 
-pub overflow_mul-i : goal.overflow_mul-i
-overflow_mul-i c = omega arith
-
-pub overflow_add-to : goal.overflow_add-to
-overflow_add-to c = omega arith
-
-pub overflow_mul-i-in-loop-i : goal.overflow_mul-i-in-loop-i
-overflow_mul-i-in-loop-i c = omega arith
-
-pub overflow_add-from : goal.overflow_add-from
-overflow_add-from c = omega arith
-
-pub load-requires : goal.load-requires
-load-requires c = omega (arith, c.loop-i.invariant.1.rest.size)
-
-pub store-requires : goal.store-requires
-store-requires c = omega (arith, c.loop-i.invariant.1.rest.size)
-
 pub loop-i-preserved : goal.loop-i-preserved
 loop-i-preserved c = let loop = c.loop-i in
     let w = c.args.w.now in let from = c.args.from in let n = c.args.n in (

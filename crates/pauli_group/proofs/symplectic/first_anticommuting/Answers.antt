@@ -1,4 +1,4 @@
-use Rattle.std.proofs.Common.{sym, ◌∙◌, arith, eqb-true}
+use Rattle.std.proofs.Common.{sym, ◌∙◌, eqb-true}
 use borrow.Author.Tests.{eqb-false}
 use Rattle.pauli.proofs.signed.SignedLaws.{zero_bit}
 use Rattle.pauli.proofs.signed.Algebra.{anticommute_lt}
@@ -7,18 +7,6 @@ use Rattle.pauli_group.proofs.symplectic.first_anticommuting.Goals as goal
 
 pub loop-i-init : goal.loop-i-init
 loop-i-init c = first_start _ _ _ _
-
-pub overflow_mul-i : goal.overflow_mul-i
-overflow_mul-i c = omega arith
-
-pub overflow_add-base : goal.overflow_add-base
-overflow_add-base c = omega arith
-
-pub load-requires : goal.load-requires
-load-requires c = omega arith
-
-pub anticommutes-requires : goal.anticommutes-requires
-anticommutes-requires c = omega arith
 
 pub returns-then-anticommutes-clause-position : goal.returns-then-anticommutes-clause-position
 returns-then-anticommutes-clause-position c = let load = c.load in

@@ -14,12 +14,6 @@ loop-p-smaller c = c.pair_last-p.ensures.less
 pub loop-p-preserved : goal.loop-p-preserved
 loop-p-preserved c = paired_next c.loop-p.invariant c.pair_last-p.ensures c.pair_last-p.auto.w
 
-pub overflow_mul-p : goal.overflow_mul-p
-overflow_mul-p c = omega (arith, c.loop-p.invariant.count, c.requires.1)
-
-pub overflow_add-p : goal.overflow_add-p
-overflow_add-p c = omega (arith, c.loop-p.invariant.count, c.requires.1)
-
 pub copy_list-requires : goal.copy_list-requires
 copy_list-requires c = (omega (arith, c.loop-p.invariant.count, c.requires.1), omega (arith, c.loop-p.invariant.count, c.loop-p.invariant.size, c.requires.0, c.requires.1))
 

@@ -1,6 +1,6 @@
 -- The list is read over the places of its support, paired and written, and the area is cleared.
 use Rattle.std.proofs.Common.{ℕ, List, ap, ◌∙◌, arith}
-use Rattle.pauli.proofs.joined.JoinLaws.{accepted, accepted_length, accepted_few}
+use Rattle.pauli.proofs.joined.JoinLaws.{accepted_few}
 use Rattle.pauli.specs.Roll.{most_paulis}
 use Rattle.pauli.specs.Told.{answer}
 use Rattle.pauli.specs.Writing.{told_bytes, left_in}
@@ -9,26 +9,13 @@ use Rattle.pauli_group.proofs.group.GroupLaws.{own_gathered, own_few, places_few
 use Rattle.pauli_group.proofs.symplectic.PairLaws.{pairs_on, pairs_written}
 use Rattle.pauli_group.proofs.symplectic.write_symplectic.Goals as goal
 
-pub overflow_mul-n : goal.overflow_mul-n
-overflow_mul-n c = omega (arith, accepted_length c.args.b.now c.args.n c.requires.0)
-
-pub overflow_add-n : goal.overflow_add-n
-overflow_add-n c = omega (arith, accepted_length c.args.b.now c.args.n c.requires.0)
-
-pub numbers_of-requires : goal.numbers_of-requires
-numbers_of-requires c = c.requires.0
-
-pub gather-requires : goal.gather-requires
-gather-requires c = omega (arith, accepted_length c.args.b.now c.args.n c.requires.0, c.numbers_of.ensures)
-
 pub read_list-requires : goal.read_list-requires
 unfolding most_paulis
-read_list-requires c = let g = own_gathered c.args.b.now c.args.n c.requires.0 _ c.numbers_of.ensures _ (rw (c.new-known.ensures, ← c.qubits-qubits.ensures.list) at c.gather.ensures) in
+read_list-requires c = let g = own_gathered c.args.b.now _ (rw (c.new-known.ensures, ← c.qubits-qubits.ensures.list) at c.gather.ensures) in
     let few = own_few c.args.b.now c.args.n c.requires.0 in (
       part_readable _ _ g few c.args.b.now c.args.n c.requires.0 (λ p m. m),
       places_few _ _ g few,
       omega (arith, c.requires.1, accepted_few c.args.b.now c.args.n c.requires.0),
-      (accepted c.args.b.now c.args.n c.requires.0).1,
     )
 
 pub pair_up-requires : goal.pair_up-requires
@@ -37,7 +24,7 @@ pair_up-requires c = (c.read_list.ensures.rest.size ∙ c.requires.1, accepted_f
 
 pub write_roll-wrote-requires : goal.write_roll-wrote-requires
 unfolding most_paulis
-write_roll-wrote-requires c = let g = own_gathered c.args.b.now c.args.n c.requires.0 _ c.numbers_of.ensures _ (rw (c.new-known.ensures, ← c.qubits-qubits.ensures.list) at c.gather.ensures) in
+write_roll-wrote-requires c = let g = own_gathered c.args.b.now _ (rw (c.new-known.ensures, ← c.qubits-qubits.ensures.list) at c.gather.ensures) in
     let few = own_few c.args.b.now c.args.n c.requires.0 in
     let count = accepted_few c.args.b.now c.args.n c.requires.0 in (
       omega (arith, count, c.pair_up.auto.w, c.read_list.ensures.rest.size, c.requires.1),
@@ -48,6 +35,6 @@ write_roll-wrote-requires c = let g = own_gathered c.args.b.now c.args.n c.requi
 
 pub returns : goal.returns
 returns c = let out = c.args.out.now in
-    let g = own_gathered c.args.b.now c.args.n c.requires.0 _ c.numbers_of.ensures _ (rw (c.new-known.ensures, ← c.qubits-qubits.ensures.list) at c.gather.ensures) in
+    let g = own_gathered c.args.b.now _ (rw (c.new-known.ensures, ← c.qubits-qubits.ensures.list) at c.gather.ensures) in
     let wrote = c.write_roll-wrote.ensures in
     let roll = pairs_written c.args.b.now c.args.n c.requires.0 _ g _ c.read_list.ensures.list _ c.pair_up.ensures in record { told = wrote.told ∙ ap (λ (bs : List ℕ). told_bytes (answer bs) out) roll; left = wrote.left ∙ ap (λ (bs : List ℕ). left_in (answer bs) out) roll; area = c.clear_bits.ensures ∙ cleared_whole _ _ (c.pair_up.auto.w ∙ c.read_list.ensures.rest.size ∙ c.requires.1) c.requires.1 }

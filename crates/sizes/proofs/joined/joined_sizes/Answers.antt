@@ -1,6 +1,5 @@
 -- The refusal of the checks is told on; else the sizes.
-use Rattle.std.proofs.Common.{sym, ap, ◌∙◌, arith}
-use Rattle.pauli.specs.Roll.{most_paulis}
+use Rattle.std.proofs.Common.{sym, ap, ◌∙◌}
 use Rattle.pauli.proofs.joined.JoinLaws.{counts_joining}
 use Rattle.sizes.proofs.joined.SizesLaws.{sizes_refused, sizes_told}
 use Rattle.pauli.specs.Refusals.{told_by}
@@ -8,33 +7,14 @@ use Rattle.pauli.proofs.refusal.HandedOn.{handed_on}
 use Rattle.sizes.specs.Answers.{sizes_in}
 use Rattle.sizes.proofs.joined.joined_sizes.Goals as goal
 
-pub returns-in_err-counts : goal.returns-in_err-counts
-returns-in_err-counts c =
-    let told = sizes_refused c.args.left.now c.args.right.now _ _ (sym c.in_err-counts.ensures) in
+pub returns-in_err-pair : goal.returns-in_err-pair
+returns-in_err-pair c =
+    let told = sizes_refused c.args.left.now c.args.right.now _ _ (sym c.in_err-pair.ensures.counts) in
     record { told = ap (told_by sizes_in) (handed_on _ _ c.from_residual.ensures.1) ∙ told }
-
-pub joined_bytes-bytes-requires : goal.joined_bytes-bytes-requires
-joined_bytes-bytes-requires c =
-    let told = sym c.in_ok-counts.ensures in
-    let j = counts_joining c.args.left.now c.args.right.now _ told in
-    (j.left, j.right)
-
-pub overflow_add-count : goal.overflow_add-count
-unfolding most_paulis
-overflow_add-count c =
-    let told = sym c.in_ok-counts.ensures in
-    let j = counts_joining c.args.left.now c.args.right.now _ told in
-    omega (arith, j.few)
-
-pub joined_qubits-qubits-requires : goal.joined_qubits-qubits-requires
-joined_qubits-qubits-requires c =
-    let told = sym c.in_ok-counts.ensures in
-    let j = counts_joining c.args.left.now c.args.right.now _ told in
-    (j.left, j.right)
 
 pub returns : goal.returns
 returns c =
-    let told = sym c.in_ok-counts.ensures in
+    let told = sym c.in_ok-pair.ensures.counts in
     let j = counts_joining c.args.left.now c.args.right.now _ told in
-    let bytes = c.joined_bytes-bytes.ensures in
-    record { told = sizes_told c.args.left.now c.args.right.now _ _ j _ _ bytes c.joined_qubits-qubits.ensures }
+    let bytes = rw (c.in_ok-pair.ensures.rolls.0, c.in_ok-pair.ensures.rolls.1) at c.joined_bytes-bytes.ensures in
+    record { told = sizes_told c.args.left.now c.args.right.now _ _ j _ _ bytes (rw (c.in_ok-pair.ensures.rolls.0, c.in_ok-pair.ensures.rolls.1) at c.joined_qubits-qubits.ensures) }
