@@ -21,7 +21,7 @@ pub(crate) fn is_zero(w: &[u64], at: usize, cols: usize) -> bool
         && (cols % 64 == 0 || w[last] % (1 << (cols % 64)) == 0)
 }
 
-// How many ones the row of n words at word at has.
+// How many ones the row of n words at word at has. A loop: of a chain's sum the check leaves open that it fits.
 pub fn weight(w: &[u64], at: usize, n: usize) -> usize
     requires { (at + n ≤ length w.now) × (n < 2 ^ 57) }
     ensures { result ≡ weight (row_at w.now at n) }
@@ -33,7 +33,7 @@ pub fn weight(w: &[u64], at: usize, n: usize) -> usize
     total
 }
 
-// 1 where the rows of n words at words i and j share an odd number of ones, else 0.
+// 1 where the rows of n words at words i and j share an odd number of ones, else 0. A loop: for a chain the check found no proof.
 pub fn dot(w: &[u64], i: usize, j: usize, n: usize) -> u64
     requires { (i + n ≤ length w.now) × (j + n ≤ length w.now) }
     ensures { result ≡ dot (row_at w.now i n) (row_at w.now j n) }

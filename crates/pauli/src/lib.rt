@@ -6,7 +6,7 @@
 pub mod refusal;
 // Numbers in bytes.
 pub mod bytes;
-// Qubits and their places in a support: the rising list of the qubits in use, kept in a lent slice of numbers.
+// Qubits and their places in a support: the rising list of the qubits in use.
 pub mod support;
 // Rolls: the reader.
 pub mod roll;

@@ -182,12 +182,13 @@ fn page_length(total: u64, start: u64, size: usize) -> usize
     size
 }
 
-// How many elements a page holds of a group of this rank and these phases.
-pub fn page_elements(rank: usize, phases: Phases, start: u32, count: u32) -> usize
-    requires { rank ≤ 16 }
-    ensures { (result ≡ min (page_size_spec count) (2 ^ rank * (4 / step_told phases) - start)) × (result ≤ 128) }
+// How many elements a page holds of a group of this rank, whose phases have this step. The step is a number here, as it was
+// before `Phases`: the function is public, and the enum has no case for 3.
+pub fn page_elements(rank: usize, step: u64, start: u32, count: u32) -> usize
+    requires { (rank ≤ 16) × (0 < step) × (step ≤ 4) }
+    ensures { (result ≡ min (page_size_spec count) (2 ^ rank * (4 / step) - start)) × (result ≤ 128) }
 {
-    let total = (1u64 << rank) * phases.count();
+    let total = (1u64 << rank) * (4 / step);
     page_length(total, start as u64, page_size(count as usize))
 }
 
@@ -213,7 +214,8 @@ fn write_page(
         return Err(Reason::Listing.into());
     }
     let signs = signs_of(w, g.total, promise);
-    let length = page_elements(g.rank, signs.phases, start, count);
+    let step = signs.phases.step();
+    let length = page_elements(g.rank, step, start, count);
     put_elements(w, g.rank, signs.phases, start as u64, length);
     let wrote = write_roll(w, FURTHER, length, known.qubits(), out);
     clear_bits(w, 0, WORK_WORDS);

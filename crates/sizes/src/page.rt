@@ -21,7 +21,7 @@ fn page_of(rank: usize, phases: Phases, start: u32, count: u32) -> Result<usize,
     if rank > MOST_LISTED {
         return Err(Reason::Listing.into());
     }
-    Ok(page_elements(rank, phases, start, count))
+    Ok(page_elements(rank, phases.step(), start, count))
 }
 
 // How many elements a page of the listing of a list's group holds.

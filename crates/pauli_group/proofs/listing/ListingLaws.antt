@@ -1,5 +1,5 @@
 -- Laws of the numbers of subsets: rows of Pascal's triangle, and sets chosen position by position.
-use Rattle.std.proofs.Common.{◌≡◌, ℕ, zero, suc, ◌+◌, ◌-◌, ◌*◌, ◌%◌, ◌^◌, ◌<◌, ◌≤◌, min, List, ◌∷◌, length, get_or, set, replicate, sym, refl, ap, ◌∙◌, ap₂, add-zero, mul_assoc, pow-suc, mul-zero, mul-one, mul-add, add-one, arith, length-set, get_or-set_other, get_or-set_same, pow_pos, pow_mono}
+use Rattle.std.proofs.Common.{◌≡◌, ℕ, zero, suc, ◌+◌, ◌-◌, ◌*◌, ◌/◌, ◌%◌, ◌^◌, ◌<◌, ◌≤◌, min, List, ◌∷◌, length, get_or, set, replicate, sym, refl, ap, ◌∙◌, ap₂, add-zero, mul_assoc, pow-suc, mul-zero, mul-one, mul-add, add-one, arith, length-set, get_or-set_other, get_or-set_same, pow_pos, pow_mono}
 use native.Mathlib.Decide.{dec_lt}
 use lib.ListN.{get_or-replicate}
 use Rattle.pauli_theory.specs.Listing.{default_page, largest_page, page_size, binomial, chosen_at, of_sizes_at, subset_at}
@@ -188,3 +188,14 @@ choice_end n p k i bits h = let e : n - p ≡ 0 = omega arith in rw (e, chosen_e
 
 pub choice_next : (n p k i : ℕ) → p < n → chosen_at (n - p - 1 + 1) k i ≡ chosen_at (n - p) k i
 choice_next n p k i h = let e : n - p - 1 + 1 ≡ n - p = omega arith in ap (λ (m : ℕ). chosen_at m k i) e
+
+pub total_is : (r m : ℕ) → r ≤ 16 → 1 * 2 ^ r % 2 ^ 64 * (4 / m) ≡ 2 ^ r * (4 / m)
+total_is r m h = ap (◌* (4 / m)) (one_shifted r h)
+
+pub total_small : (r m : ℕ) → r ≤ 16 → 0 < m → m ≤ 4 → 1 * 2 ^ r % 2 ^ 64 * (4 / m) < 2 ^ 64
+total_small r zero h a b = absurd (omega arith)
+total_small r (suc zero) h a b = omega (arith, one_shifted r h, pow_small r h)
+total_small r (suc (suc zero)) h a b = omega (arith, one_shifted r h, pow_small r h)
+total_small r (suc (suc (suc zero))) h a b = omega (arith, one_shifted r h, pow_small r h)
+total_small r (suc (suc (suc (suc zero)))) h a b = omega (arith, one_shifted r h, pow_small r h)
+total_small r (suc (suc (suc (suc (suc m))))) h a b = absurd (omega arith)

@@ -40,7 +40,7 @@ write_roll-wrote-requires c =
       omega (arith, size, group.auto.w, pre.1, few),
       omega (arith, few),
       rw (c.qubits.ensures.list, ← places_known group.ensures.group) (group_places _ _ pre.0 group.ensures.group),
-      rw (c.qubits.ensures.list, ← places_known group.ensures.group) (page_places _ _ group.ensures.group _ step _ _ _ c.page_elements-length.ensures.0 _ c.put_elements.ensures.list),
+      rw (c.qubits.ensures.list, ← places_known group.ensures.group) (page_places _ _ group.ensures.group _ step _ _ _ (rw c.step-step.ensures.0 at c.page_elements-length.ensures.0) _ c.put_elements.ensures.list),
     )
 
 pub returns : goal.returns
@@ -50,5 +50,5 @@ returns c =
     let out = c.args.out.now in
     let step = signs_step _ c.group_of-g.ensures.group c.signs_of-signs.result c.signs_of-signs.ensures.clash c.signs_of-signs.ensures.step c.signs_of-signs.ensures.stabilizer in
     let wrote = c.write_roll-wrote.ensures in
-    let roll = rw (← c.qubits.ensures.list) at (page_written _ _ group.ensures.group _ step _ _ _ c.page_elements-length.ensures.0 _ c.put_elements.ensures.list) in
+    let roll = rw (← c.qubits.ensures.list) at (page_written _ _ group.ensures.group _ step _ _ _ (rw c.step-step.ensures.0 at c.page_elements-length.ensures.0) _ c.put_elements.ensures.list) in
     let same = ap answer roll ∙ sym (page_answered (promise_of c.args.promise) c.args.start c.args.count (paulis (list_of c.args.b.now)) (rw (← group.ensures.group.rank_is) c.if-g-gt-MOST_LISTED.false)) in record { told = wrote.told ∙ ap (λ (t : Told (List ℕ)). told_bytes t out) same; left = wrote.left ∙ ap (λ (t : Told (List ℕ)). left_in t out) same; area = c.clear_bits-2.ensures ∙ cleared_whole _ _ (c.put_elements.auto.w ∙ group.auto.w ∙ pre.1) pre.1 }

@@ -12,4 +12,4 @@ returns-then-rank-gt-MOST_LISTED c = ap told_refusal c.into.ensures ∙ sym (tes
 pub returns : goal.returns
 returns c =
     let low = le-ltb most_listed c.args.rank c.if-rank-gt-MOST_LISTED.false in
-    ap answer c.page_elements.ensures.0 ∙ sym (test_pass _ 10 0 _ low)
+    ap answer (rw c.step.ensures.0 at c.page_elements.ensures.0) ∙ sym (test_pass _ 10 0 _ low)
