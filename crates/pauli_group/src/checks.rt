@@ -1,24 +1,25 @@
 // What is checked before a call works: its rolls, its numbers and the work area, in this order.
-ghost use Rattle.std.specs.Prelude.{◌≡◌, length};
+ghost use Rattle.std.specs.Prelude.{◌≡◌, length, IfOk};
 ghost use Rattle.pauli.specs.Told.{map_told};
 ghost use Rattle.pauli_group.specs.Calls.{one_list, roll_counts, question_counts, pair_counts, two_lists};
 ghost use Rattle.pauli.specs.JoinAnswers.{counts_in};
-ghost use Rattle.pauli.specs.Refusals.{told_by, told_of};
+ghost use Rattle.pauli.specs.Refusals.{told_by};
 
 use crate::area::WORK_WORDS;
 use pauli::joined::{RollCounts, joined_counts};
 use pauli::refusal::{Reason, Refusal};
-use pauli::roll::check_roll;
+use pauli::roll::{Roll, check_roll};
 
-// Checks the roll, then the work area of so many words; tells how many Paulis the roll has.
-pub(crate) fn check_list(b: &[u8], words: usize) -> Result<usize, Refusal>
-    ensures { told_of result ≡ map_told length (one_list b.now words) }
+// Checks the roll, then the work area of so many words.
+pub(crate) fn check_list<'a>(b: &'a [u8], words: usize) -> Result<Roll<'a>, Refusal>
+    ensures count { told_by (λ roll. roll.count) result ≡ map_told length (one_list b.now words) }
+    ensures bytes { IfOk result (λ roll. roll.bytes ≡ b.entry) }
 {
-    let n = check_roll(b)?;
+    let roll = Roll::read(b)?;
     if words < WORK_WORDS {
         return Err(Reason::Work.into());
     }
-    Ok(n)
+    Ok(roll)
 }
 
 // Checks the generators' roll, then the elements' roll; tells how many Paulis each has.

@@ -71,16 +71,16 @@ fn note_exponents(w: &mut [u64], m: usize, n: usize, group: Group, own: &[u32], 
     }
 }
 
-// Notes with each of the m Paulis of the further list the exponent by the group of an accepted roll of n Paulis; tells its phases.
-fn note_by(b: &[u8], n: usize, promise: Promise, joint: &[u32], w: &mut [u64], m: usize) -> Phases
-    requires { (count_of b.now ≡ answer n) × (length w.old ≡ 4096) × (m ≤ 128) × (length joint.now ≤ 128) × OnPlaces (length joint.now) (list_in w.old further_at m) × All (MovablePauli joint.now (support_of (paulis (list_of b.now)))) (list_in w.old further_at m) }
-    ensures step { step_told result ≡ phase_step (promise_of promise) (paulis (list_of b.now)) }
-    ensures list { list_in w.new further_at m ≡ map (λ p. noted (exponent_for joint.now (paulis (list_of b.now)) p) p) (list_in w.old further_at m) }
+// Notes with each of the m Paulis of the further list the exponent by the group of a roll; tells its phases.
+fn note_by(roll: Roll, promise: Promise, joint: &[u32], w: &mut [u64], m: usize) -> Phases
+    requires { (length w.old ≡ 4096) × (m ≤ 128) × (length joint.now ≤ 128) × OnPlaces (length joint.now) (list_in w.old further_at m) × All (MovablePauli joint.now (support_of (paulis (list_of roll.bytes.now)))) (list_in w.old further_at m) }
+    ensures step { step_told result ≡ phase_step (promise_of promise) (paulis (list_of roll.entry.bytes.now)) }
+    ensures list { list_in w.new further_at m ≡ map (λ p. noted (exponent_for joint.now (paulis (list_of roll.entry.bytes.now)) p) p) (list_in w.old further_at m) }
 {
     let mut known = Support::new();
-    let group = group_of(b, n, &mut known, w);
+    let group = group_of(roll, &mut known, w);
     let signs = signs_of(w, group.total, promise);
-    note_exponents(w, m, n, group, known.qubits(), joint);
+    note_exponents(w, m, roll.count, group, known.qubits(), joint);
     signs.phases
 }
 
@@ -168,23 +168,23 @@ fn write_part(
     };
     let support = join_support(first, second);
     let joint = support.qubits();
-    let m = common_basis(left, nl, right, nr, joint, w);
-    let first = note_by(left, nl, left_promise, joint, w, m);
-    let second = note_by(right, nr, right_promise, joint, w, m);
-    let kept = keep_shared(w, m, first, second);
-    let total = append_phases(w, kept, first, second);
+    let m = common_basis(first, second, joint, w);
+    let phases = note_by(first, left_promise, joint, w, m);
+    let other = note_by(second, right_promise, joint, w, m);
+    let kept = keep_shared(w, m, phases, other);
+    let total = append_phases(w, kept, phases, other);
     write_roll(w, FURTHER, total, joint, out)
 }
 
-// Writes the Paulis of an accepted roll of n.
-fn write_list(b: &[u8], n: usize, w: &mut [u64], out: &mut [u8]) -> Result<usize, Refusal>
-    requires { (count_of b.now ≡ answer n) × (length w.old ≡ 4096) }
-    ensures told { told_of result ≡ told_bytes (answer (list_bytes (paulis (list_of b.now)))) out.old }
-    ensures left { out.new ≡ left_in (answer (list_bytes (paulis (list_of b.now)))) out.old }
+// Writes the Paulis of a roll.
+fn write_list(roll: Roll, w: &mut [u64], out: &mut [u8]) -> Result<usize, Refusal>
+    requires { length w.old ≡ 4096 }
+    ensures told { told_of result ≡ told_bytes (answer (list_bytes (paulis (list_of roll.entry.bytes.now)))) out.old }
+    ensures left { out.new ≡ left_in (answer (list_bytes (paulis (list_of roll.entry.bytes.now)))) out.old }
 {
     let mut known = Support::new();
-    let group = group_of(b, n, &mut known, w);
-    write_roll(w, LIST, n, known.qubits(), out)
+    let group = group_of(roll, &mut known, w);
+    write_roll(w, LIST, roll.count, known.qubits(), out)
 }
 
 // Writes the lesser list where the order says one, else the common part.
@@ -203,10 +203,18 @@ fn write_lesser(
     ensures told { told_of result ≡ told_bytes (answer (list_bytes (lesser (order_of order) (paulis (list_of left.now)) (paulis (list_of right.now)) (common_part (promise_of left_promise) (promise_of right_promise) (paulis (list_of left.now)) (paulis (list_of right.now)))))) out.old }
     ensures left { out.new ≡ left_in (answer (list_bytes (lesser (order_of order) (paulis (list_of left.now)) (paulis (list_of right.now)) (common_part (promise_of left_promise) (promise_of right_promise) (paulis (list_of left.now)) (paulis (list_of right.now)))))) out.old }
 {
+    let first = Roll {
+        bytes: left,
+        count: nl,
+    };
+    let second = Roll {
+        bytes: right,
+        count: nr,
+    };
     match order {
         Some(lesser) => match lesser {
-            Ordering::Equal | Ordering::Less => write_list(left, nl, w, out),
-            Ordering::Greater => write_list(right, nr, w, out),
+            Ordering::Equal | Ordering::Less => write_list(first, w, out),
+            Ordering::Greater => write_list(second, w, out),
         },
         None => write_part(left, nl, right, nr, left_promise, right_promise, w, out),
     }

@@ -1,9 +1,7 @@
 // The call for membership.
 ghost use Rattle.std.specs.Prelude.{◌≡◌, ◌<◌, length, slice_index_or};
 ghost use Rattle.pauli.specs.Condense.{list_of, nothing};
-ghost use Rattle.pauli.specs.Roll.{count_of};
 ghost use Rattle.pauli.specs.Sets.{pauli_of};
-ghost use Rattle.pauli.specs.Told.{answer};
 ghost use Rattle.pauli_theory.specs.Membership.{factorization_of};
 ghost use Rattle.pauli_group.specs.Promises.{promise_of};
 ghost use Rattle.pauli_group.specs.WorkArea.{cleared};
@@ -20,26 +18,33 @@ use crate::promise::Promise;
 use crate::standard::signs_of;
 use binar::row::clear_bits;
 use pauli::refusal::{Reason, Refusal};
+use pauli::roll::Roll;
 use pauli::support::Support;
 
-// Factors one element by the group of an accepted roll of n, and clears the work area.
+// Factors one element by the group of a roll, and clears the work area.
 fn factor_once(
-    b: &[u8],
-    n: usize,
-    elements: &[u8],
-    m: usize,
+    roll: Roll,
+    elements: Roll,
     number: usize,
     promise: Promise,
     w: &mut [u64],
 ) -> Option<IndexSet>
-    requires { (count_of b.now ≡ answer n) × (count_of elements.now ≡ answer m) × (number < m) × (length w.old ≡ 4096) }
-    ensures told { factoring_told result ≡ factorization_of (promise_of promise) (paulis (list_of b.now)) (pauli_of (slice_index_or (list_of elements.now) number nothing)) }
+    requires { (number < elements.count) × (length w.old ≡ 4096) }
+    ensures told { factoring_told result ≡ factorization_of (promise_of promise) (paulis (list_of roll.entry.bytes.now)) (pauli_of (slice_index_or (list_of elements.entry.bytes.now) number nothing)) }
     ensures area { w.new ≡ cleared w.old }
 {
     let mut known = Support::new();
-    let g = group_of(b, n, &mut known, w);
+    let g = group_of(roll, &mut known, w);
     let signs = signs_of(w, g.total, promise);
-    let factoring = factor(elements, m, number, known.qubits(), n, g, signs.phases, w);
+    let factoring = factor(
+        elements,
+        number,
+        known.qubits(),
+        roll.count,
+        g,
+        signs.phases,
+        w,
+    );
     clear_bits(w, 0, WORK_WORDS);
     factoring
 }
@@ -57,15 +62,15 @@ pub fn indexed_factorization_of(
     ensures { MemberCall (promise_of promise) b.now elements.now number work.old out.old result work.new out.new }
 {
     let counts = check_question(b, elements, number, work.len())?;
-    let factoring = factor_once(
-        b,
-        counts.left,
-        elements,
-        counts.right,
-        number,
-        promise,
-        &mut work[..WORK_WORDS],
-    );
+    let roll = Roll {
+        bytes: b,
+        count: counts.left,
+    };
+    let asked = Roll {
+        bytes: elements,
+        count: counts.right,
+    };
+    let factoring = factor_once(roll, asked, number, promise, &mut work[..WORK_WORDS]);
     let found = match factoring {
         None => {
             return Ok(None);

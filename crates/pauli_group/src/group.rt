@@ -55,18 +55,17 @@ fn build(w: &mut [u64], n: usize, s: usize) -> Group
     }
 }
 
-// Reads an accepted roll of n Paulis, and builds its group.
-pub fn group_of(b: &[u8], n: usize, known: &mut Support, w: &mut [u64]) -> Group
-    requires { (count_of b.now ≡ answer n) × (length w.old ≡ 4096) }
-    ensures group { Grouped (paulis (list_of b.now)) known.new w.new result.places result.rank result.total }
+// Reads a roll, and builds its group.
+pub fn group_of(roll: Roll, known: &mut Support, w: &mut [u64]) -> Group
+    requires { length w.old ≡ 4096 }
+    ensures group { Grouped (paulis (list_of roll.entry.bytes.now)) known.new w.new result.places result.rank result.total }
     ensures rest { Outside 0 further_at w.old w.new }
 {
-    let roll = Roll { bytes: b, count: n };
     *known = Support::new();
     roll.gather(known);
     let qubits = known.qubits();
     read_list(roll, qubits, w, LIST);
-    build(w, n, qubits.len())
+    build(w, roll.count, qubits.len())
 }
 
 // Reads two accepted rolls of nl and nr Paulis, which can be joined, one after the other, and builds the group of the joined list.
@@ -107,13 +106,13 @@ fn describe_group(group: Group, promise: Promise, w: &[u64]) -> Description
     }
 }
 
-// What the calls tell of the group of an accepted roll of n Paulis.
-pub(crate) fn describe(b: &[u8], n: usize, promise: Promise, w: &mut [u64]) -> Description
-    requires { (count_of b.now ≡ answer n) × (length w.old ≡ 4096) }
-    ensures { facts_in result ≡ facts_of (promise_of promise) (paulis (list_of b.now)) }
+// What the calls tell of the group of a roll.
+pub(crate) fn describe(roll: Roll, promise: Promise, w: &mut [u64]) -> Description
+    requires { length w.old ≡ 4096 }
+    ensures { facts_in result ≡ facts_of (promise_of promise) (paulis (list_of roll.entry.bytes.now)) }
 {
     let mut known = Support::new();
-    let g = group_of(b, n, &mut known, w);
+    let g = group_of(roll, &mut known, w);
     describe_group(g, promise, w)
 }
 
@@ -134,12 +133,12 @@ pub(crate) fn describe_two(
 }
 
 // Describes the group, and clears the work area.
-pub(crate) fn describe_once(b: &[u8], n: usize, promise: Promise, w: &mut [u64]) -> Description
-    requires { (count_of b.now ≡ answer n) × (length w.old ≡ 4096) }
-    ensures told { facts_in result ≡ facts_of (promise_of promise) (paulis (list_of b.now)) }
+pub(crate) fn describe_once(roll: Roll, promise: Promise, w: &mut [u64]) -> Description
+    requires { length w.old ≡ 4096 }
+    ensures told { facts_in result ≡ facts_of (promise_of promise) (paulis (list_of roll.entry.bytes.now)) }
     ensures area { w.new ≡ cleared w.old }
 {
-    let d = describe(b, n, promise, w);
+    let d = describe(roll, promise, w);
     clear_bits(w, 0, WORK_WORDS);
     d
 }

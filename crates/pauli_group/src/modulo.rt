@@ -82,25 +82,17 @@ fn multiply_all(w: &mut [u64], m: usize, n: usize, group: Group, own: &[u32], jo
 
 // Leaves the remainder of the left list by the right one in the further list, over the places of the joined support; tells how many
 // Paulis it has.
-fn remainder(
-    left: &[u8],
-    nl: usize,
-    right: &[u8],
-    nr: usize,
-    promise: Promise,
-    joined: &[u32],
-    w: &mut [u64],
-) -> usize
-    requires { (count_of left.now ≡ answer nl) × (count_of right.now ≡ answer nr) × (length joined.now ≤ 128) × (joined.now ≡ support_of (paulis (list_of left.now) ++ paulis (list_of right.now))) × (length w.old ≡ 4096) }
-    ensures { Remainder (promise_of promise) (paulis (list_of left.now)) (paulis (list_of right.now)) w.new result }
+fn remainder(left: Roll, right: Roll, promise: Promise, joined: &[u32], w: &mut [u64]) -> usize
+    requires { (length joined.now ≤ 128) × (joined.now ≡ support_of (paulis (list_of left.bytes.now) ++ paulis (list_of right.bytes.now))) × (length w.old ≡ 4096) }
+    ensures { Remainder (promise_of promise) (paulis (list_of left.entry.bytes.now)) (paulis (list_of right.entry.bytes.now)) w.new result }
 {
     let mut own = Support::new();
-    let a = group_of(left, nl, &mut own, w);
+    let a = group_of(left, &mut own, w);
     move_list(w, STANDARD, FURTHER, a.total, own.qubits(), joined);
     let mut other = Support::new();
-    let b = group_of(right, nr, &mut other, w);
+    let b = group_of(right, &mut other, w);
     let signs = signs_of(w, b.total, promise);
-    multiply_all(w, a.total, nr, b, other.qubits(), joined);
+    multiply_all(w, a.total, right.count, b, other.qubits(), joined);
     take_mod(w, FURTHER, a.total, signs.phases.step());
     a.total
 }
@@ -130,7 +122,7 @@ pub(crate) fn write_modulo(
     };
     let support = join_support(first, second);
     let joined = support.qubits();
-    let count = remainder(left, nl, right, nr, promise, joined, w);
+    let count = remainder(first, second, promise, joined, w);
     let wrote = write_roll(w, FURTHER, count, joined, out);
     clear_bits(w, 0, WORK_WORDS);
     wrote

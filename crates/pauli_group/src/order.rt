@@ -19,6 +19,7 @@ use crate::group::{Description, describe, describe_two};
 use crate::promise::Promise;
 use binar::row::clear_bits;
 use pauli::refusal::Refusal;
+use pauli::roll::Roll;
 use std::cmp::Ordering;
 
 // How many phases a group has, and its rank.
@@ -75,8 +76,16 @@ pub(crate) fn order_of(
     requires { Joinable left.now right.now nl nr × (length w.old ≡ 4096) }
     ensures { order_of result ≡ partial_cmp (promise_of left_promise) (promise_of right_promise) (paulis (list_of left.now)) (paulis (list_of right.now)) }
 {
-    let a = describe(left, nl, left_promise, w);
-    let b = describe(right, nr, right_promise, w);
+    let first = Roll {
+        bytes: left,
+        count: nl,
+    };
+    let second = Roll {
+        bytes: right,
+        count: nr,
+    };
+    let a = describe(first, left_promise, w);
+    let b = describe(second, right_promise, w);
     let both = describe_two(left, nl, right, nr, w);
     order_by(ranks_of(a), ranks_of(b), ranks_of(both))
 }

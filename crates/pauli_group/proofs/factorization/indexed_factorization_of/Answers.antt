@@ -20,10 +20,16 @@ slice_bounds-factor_once-end-2 c =
     let asking = counts_asking _ _ _ _ c.check_question.ensures _ c.in_ok-counts.was in
     sym (length-take-le 4096 c.args.work.now asking.room)
 
+pub invariant_of-roll : goal.invariant_of-roll
+invariant_of-roll c = record { accepted = (counts_asking _ _ _ _ c.check_question.ensures _ c.in_ok-counts.was).generators; low = λ i. (c.type_inv.b i).fits }
+
+pub invariant_of-asked : goal.invariant_of-asked
+invariant_of-asked c = record { accepted = (counts_asking _ _ _ _ c.check_question.ensures _ c.in_ok-counts.was).elements; low = λ i. (c.type_inv.elements i).fits }
+
 pub factor_once-factoring-requires : goal.factor_once-factoring-requires
 factor_once-factoring-requires c =
     let asking = counts_asking _ _ _ _ c.check_question.ensures _ c.in_ok-counts.was in
-    (asking.generators, asking.elements, asking.inside, length-take-le 4096 c.args.work.now asking.room)
+    (asking.inside, length-take-le 4096 c.args.work.now asking.room)
 
 pub returns-in-None : goal.returns-in-None
 returns-in-None c =

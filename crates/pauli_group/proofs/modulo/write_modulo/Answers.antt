@@ -14,7 +14,7 @@ invariant_of-second c = record { accepted = c.requires.0.right; low = λ i. (c.t
 pub remainder-count-requires : goal.remainder-count-requires
 remainder-count-requires c =
     let g = rw (← c.qubits-joined.ensures.list) at c.join_support-support.ensures in
-    (c.requires.0.left, c.requires.0.right, joined_places c.args.left.now c.args.right.now _ c.requires.0.qubits g, joined_support c.args.left.now c.args.right.now _ c.requires.0.qubits g, c.requires.1)
+    (joined_places c.args.left.now c.args.right.now _ c.requires.0.qubits g, joined_support c.args.left.now c.args.right.now _ c.requires.0.qubits g, c.requires.1)
 
 pub write_roll-wrote-requires : goal.write_roll-wrote-requires
 write_roll-wrote-requires c =

@@ -6,6 +6,12 @@ use Rattle.pauli_group.proofs.order.OrderLaws.{ranks_are, compared}
 use Rattle.std.proofs.Common.{ap, ◌∙◌}
 use Rattle.pauli_group.proofs.order.order_of.Goals as goal
 
+pub invariant_of-first : goal.invariant_of-first
+invariant_of-first c = record { accepted = c.requires.0.left; low = λ i. (c.type_inv.left i).fits }
+
+pub invariant_of-second : goal.invariant_of-second
+invariant_of-second c = record { accepted = c.requires.0.right; low = λ i. (c.type_inv.right i).fits }
+
 pub returns : goal.returns
 returns c =
     c.order_by.ensures
