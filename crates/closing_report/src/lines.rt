@@ -20,45 +20,25 @@ use pauli_group::member::IndexSet;
 
 // ---- the first line
 
-fn phases_length(phases: Phases) -> usize
-    ensures { (result ≡ length (phases_text (step_told phases))) × (result ≤ 7) }
+// The phases, with commas.
+fn phases_word(phases: Phases) -> &'static [u8]
+    ensures { (result.now ≡ phases_text (step_told phases)) × (length result.now ≤ 7) }
 {
     match phases {
-        Phases::Zero => 1,
-        Phases::ZeroTwo => 3,
-        Phases::All => 7,
+        Phases::Zero => b"0",
+        Phases::ZeroTwo => b"0,2",
+        Phases::All => b"0,1,2,3",
     }
 }
 
-fn put_phases(out: &mut [u8], at: usize, phases: Phases) -> usize
-    requires { at + length (phases_text (step_told phases)) ≤ length out.old }
-    ensures { Put out.old at (phases_text (step_told phases)) out.new result }
-{
-    match phases {
-        Phases::Zero => put_text(out, at, b"0"),
-        Phases::ZeroTwo => put_text(out, at, b"0,2"),
-        Phases::All => put_text(out, at, b"0,1,2,3"),
-    }
-}
-
-// yes or no
-fn abelian_length(clash: bool) -> usize
-    ensures { (result ≡ length (abelian_text (yes_number clash))) × (result ≤ 3) }
+// Whether the group is abelian.
+fn abelian_word(clash: bool) -> &'static [u8]
+    ensures { (result.now ≡ abelian_text (yes_number clash)) × (length result.now ≤ 3) }
 {
     if clash {
-        return 2;
+        return b"no";
     }
-    3
-}
-
-fn put_abelian(out: &mut [u8], at: usize, clash: bool) -> usize
-    requires { at + length (abelian_text (yes_number clash)) ≤ length out.old }
-    ensures { Put out.old at (abelian_text (yes_number clash)) out.new result }
-{
-    if clash {
-        return put_text(out, at, b"no");
-    }
-    put_text(out, at, b"yes")
+    b"yes"
 }
 
 pub(crate) fn first_line_length(group: Description) -> usize
@@ -67,9 +47,9 @@ pub(crate) fn first_line_length(group: Description) -> usize
     let signs = group.signs;
     5 + number_length(group.rank)
         + 8
-        + phases_length(signs.phases)
+        + phases_word(signs.phases).len()
         + 9
-        + abelian_length(signs.clash)
+        + abelian_word(signs.clash).len()
         + 1
 }
 
@@ -80,14 +60,16 @@ pub(crate) fn put_first_line(out: &mut [u8], at: usize, group: Description) -> u
     let signs = group.signs;
     let phases = put_labelled(out, at, b"rank ", group.rank);
     let step_at = put_text(out, phases, b" phases ");
-    let abelian = put_phases(out, step_at, signs.phases);
+    let abelian = put_text(out, step_at, phases_word(signs.phases));
     let clash_at = put_text(out, abelian, b" abelian ");
-    let end = put_abelian(out, clash_at, signs.clash);
+    let end = put_text(out, clash_at, abelian_word(signs.clash));
     put_text(out, end, b"\n")
 }
 
 // ---- the line of an element: the numbers of its index set are places in the list of generators
 
+// The length of the indexes and the indexes put are two walks over the set: a shared one would take a closure, with a contract longer
+// than the loop.
 fn indexes_length(set: Places) -> usize
     ensures { (result ≡ length (indexes_text (members (set_in set)))) × (result ≤ 2688) }
 {

@@ -10,11 +10,11 @@ unfoldable pub result_in : List ℕ → ℕ → Option Factorization
 result_in l i = cond (nat_lt (get_or l i 0) 4) (some (record { indexes = get_or l (i + 2) 0 * 2 ^ 64 + get_or l (i + 1) 0; exponent = get_or l i 0 })) none
 
 -- a member's result put there: its exponent and the two words of its index set; the two words that say nothing are as they were
-unfoldable pub put_member : List ℕ → ℕ → ℕ → ℕ → ℕ → List ℕ
+abbrev pub put_member : List ℕ → ℕ → ℕ → ℕ → ℕ → List ℕ
 put_member l i e low high = set (set (set l i e) (i + 1) low) (i + 2) high
 
 -- the result of an element that is no member: the other four words are as they were
-unfoldable pub put_other : List ℕ → ℕ → List ℕ
+abbrev pub put_other : List ℕ → ℕ → List ℕ
 put_other l i = set l i 4
 
 -- the n results from word i on

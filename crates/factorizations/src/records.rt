@@ -1,5 +1,5 @@
 // The records of results: the length of each, and the record put into an output.
-ghost use Rattle.std.specs.Prelude.{◌≡◌, ◌+◌, ◌*◌, ◌^◌, ◌<◌, ◌≤◌, length};
+ghost use Rattle.std.specs.Prelude.{◌≡◌, ◌+◌, ◌*◌, ◌≤◌, length};
 ghost use Rattle.std.proofs.Math.Option.{some, none};
 ghost use Rattle.binar.specs.Row.{weight};
 ghost use Rattle.pauli.specs.PlaceSet.{set_in};
@@ -42,14 +42,15 @@ fn put_other(out: &mut [u8], at: usize) -> usize
     at + 1
 }
 
-// Writes the numbers below n in the set from byte at on, rising, two bytes each: places in the list of generators.
-fn put_indexes_at(out: &mut [u8], at: usize, set: Places, n: usize)
-    requires { (n ≤ 128) × (set_in set < 2 ^ n) × (at + 2 * weight (set_in set) ≤ length out.old) }
+// Writes the numbers in the set from byte at on, rising, two bytes each: places in the list of generators.
+// Each walk over a set is written out: a shared one would take a closure, with a contract longer than the loop.
+fn put_indexes_at(out: &mut [u8], at: usize, set: Places)
+    requires { at + 2 * weight (set_in set) ≤ length out.old }
     ensures { out.new ≡ put_bytes out.old at (le16s (members (set_in set))) }
 {
     let mut next = at;
     let mut i = set.first_from(Place(0)).0;
-    while i < n {
+    while i < 128 {
         put_u16(out, next, i);
         next += 2;
         i = set.first_from(Place(i + 1)).0;
@@ -65,7 +66,7 @@ fn put_member(out: &mut [u8], at: usize, set: Places, exponent: u8) -> usize
     out[at] = 1;
     out[at + 1] = exponent;
     put_u16(out, at + 2, count);
-    put_indexes_at(out, at + 4, set, 128);
+    put_indexes_at(out, at + 4, set);
     at + 4 + 2 * count
 }
 

@@ -20,7 +20,6 @@ module _ (l : List ℕ) (i : ℕ) where
   result_other h = rw (le-ltb (get_or l i 0) 4 h)
 
 pub other_stored : (l : List ℕ) (i : ℕ) → i + 5 ≤ length l → Stored l i none (put_other l i)
-unfolding put_other
 other_stored l i h =
     let word = get_or-set_same l i 4 0 (omega arith) in
     record {
@@ -56,7 +55,6 @@ module _ (l : List ℕ) (i : ℕ) (h : i + 5 ≤ length l) (e low high : ℕ) wh
   high_word = get_or-set_same (set (set l i e) (i + 1) low) (i + 2) high 0 (simp length-set (omega arith))
 
   pub member_stored : e < 4 → Stored l i (some (record { indexes = high * 2 ^ 64 + low; exponent = e })) (put_member l i e low high)
-  unfolding put_member
   member_stored f = record {
     kept = result_member three i (rw word f) ∙ rw (word, low_word, high_word);
     rest = record {

@@ -18,38 +18,38 @@ put_text-step_at-requires c =
     let one = begun (first_pieces (step_told c.args.group.signs.phases) (yes_number c.args.group.signs.clash)) c.requires c.put_labelled-phases.ensures in
     next_room one
 
-pub put_phases-abelian-requires : goal.put_phases-abelian-requires
+pub put_text-abelian-requires : goal.put_text-abelian-requires
 unfolding first_line first_pieces joined ascii line_feed
-put_phases-abelian-requires c =
+put_text-abelian-requires c =
     let one = begun (first_pieces (step_told c.args.group.signs.phases) (yes_number c.args.group.signs.clash)) c.requires c.put_labelled-phases.ensures in
     let two = next_put one c.put_text-step_at.ensures in
-    next_room two
+    rw c.phases_word.ensures.0 (next_room two)
 
 pub put_text-clash_at-requires : goal.put_text-clash_at-requires
 unfolding first_line first_pieces joined ascii line_feed
 put_text-clash_at-requires c =
     let one = begun (first_pieces (step_told c.args.group.signs.phases) (yes_number c.args.group.signs.clash)) c.requires c.put_labelled-phases.ensures in
     let two = next_put one c.put_text-step_at.ensures in
-    let three = next_put two c.put_phases-abelian.ensures in
+    let three = next_put two (rw c.phases_word.ensures.0 at c.put_text-abelian.ensures) in
     next_room three
 
-pub put_abelian-end-requires : goal.put_abelian-end-requires
+pub put_text-end-requires : goal.put_text-end-requires
 unfolding first_line first_pieces joined ascii line_feed
-put_abelian-end-requires c =
+put_text-end-requires c =
     let one = begun (first_pieces (step_told c.args.group.signs.phases) (yes_number c.args.group.signs.clash)) c.requires c.put_labelled-phases.ensures in
     let two = next_put one c.put_text-step_at.ensures in
-    let three = next_put two c.put_phases-abelian.ensures in
+    let three = next_put two (rw c.phases_word.ensures.0 at c.put_text-abelian.ensures) in
     let four = next_put three c.put_text-clash_at.ensures in
-    next_room four
+    rw c.abelian_word.ensures.0 (next_room four)
 
 pub put_text-requires : goal.put_text-requires
 unfolding first_line first_pieces joined ascii line_feed
 put_text-requires c =
     let one = begun (first_pieces (step_told c.args.group.signs.phases) (yes_number c.args.group.signs.clash)) c.requires c.put_labelled-phases.ensures in
     let two = next_put one c.put_text-step_at.ensures in
-    let three = next_put two c.put_phases-abelian.ensures in
+    let three = next_put two (rw c.phases_word.ensures.0 at c.put_text-abelian.ensures) in
     let four = next_put three c.put_text-clash_at.ensures in
-    let five = next_put four c.put_abelian-end.ensures in
+    let five = next_put four (rw c.abelian_word.ensures.0 at c.put_text-end.ensures) in
     next_room five
 
 pub returns : goal.returns
@@ -57,7 +57,7 @@ unfolding first_line first_pieces joined ascii line_feed
 returns c =
     let one = begun (first_pieces (step_told c.args.group.signs.phases) (yes_number c.args.group.signs.clash)) c.requires c.put_labelled-phases.ensures in
     let two = next_put one c.put_text-step_at.ensures in
-    let three = next_put two c.put_phases-abelian.ensures in
+    let three = next_put two (rw c.phases_word.ensures.0 at c.put_text-abelian.ensures) in
     let four = next_put three c.put_text-clash_at.ensures in
-    let five = next_put four c.put_abelian-end.ensures in
+    let five = next_put four (rw c.abelian_word.ensures.0 at c.put_text-end.ensures) in
     (next_put five c.put_text.ensures).put

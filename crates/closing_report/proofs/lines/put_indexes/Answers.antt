@@ -6,9 +6,6 @@ use Rattle.factorizations.proofs.records.RecordLaws.{two_words}
 use Rattle.closing_report.proofs.lines.IndexLaws.{text_start, put_end, put_skip, put_fits, put_hit}
 use Rattle.closing_report.proofs.lines.put_indexes.Goals as goal
 
-pub first_from-i-requires : goal.first_from-i-requires
-first_from-i-requires c = omega arith
-
 pub loop-i-init : goal.loop-i-init
 loop-i-init c =
     let f = first_told (omega arith) c.first_from-i.ensures in
@@ -21,12 +18,6 @@ put_labelled-next-requires c =
     let inv = c.loop-i.invariant in
     put_fits _ _ inv.1 c.loop-i-test.true (inv.0 c.loop-i-test.true)
 
-pub overflow_add-i : goal.overflow_add-i
-overflow_add-i c = omega arith
-
-pub first_from-i-requires-in-loop-i : goal.first_from-i-requires-in-loop-i
-first_from-i-requires-in-loop-i c = omega arith
-
 pub loop-i-smaller : goal.loop-i-smaller
 loop-i-smaller c = omega (arith, (first_told (omega arith) c.first_from-i-in-loop-i.ensures).from)
 
@@ -37,9 +28,6 @@ loop-i-preserved c =
     let inv = c.loop-i.invariant in
     let f = first_told (omega arith) c.first_from-i-in-loop-i.ensures in
     (f.found, put_skip _ _ (put_hit _ _ inv.1 c.loop-i-test.true (inv.0 c.loop-i-test.true) _ _ put.ensures put.auto.out) f)
-
-pub shape_of-out : goal.shape_of-out
-shape_of-out c = c.loop-i.invariant.1.size
 
 pub returns : goal.returns
 returns c = put_end _ _ c.loop-i.invariant.1 (omega arith)

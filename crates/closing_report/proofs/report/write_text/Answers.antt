@@ -10,42 +10,12 @@ returns-in_default c =
     let all = text_written _ _ (input_refused _ _ _ (sym c.in_default.ensures.rolls)) wrote.told wrote.left in
     record { told = all.0; left = all.1 }
 
-pub slice_bounds-check_roll-count : goal.slice_bounds-check_roll-count
-slice_bounds-check_roll-count c =
-    let told = c.split_input.ensures in
-    let parts = parted _ _ told.rolls told.within _ c.in-Some.is in
-    parts.low
-
-pub slice_bounds-check_roll-start : goal.slice_bounds-check_roll-start
-slice_bounds-check_roll-start c =
-    let told = c.split_input.ensures in
-    let parts = parted _ _ told.rolls told.within _ c.in-Some.is in
-    parts.low
-
-pub slice_bounds-check_roll-end : goal.slice_bounds-check_roll-end
-slice_bounds-check_roll-end c =
-    let told = c.split_input.ensures in
-    let parts = parted _ _ told.rolls told.within _ c.in-Some.is in
-    parts.high
-
 pub returns-in-Err : goal.returns-in-Err
 returns-in-Err c =
     let told = c.split_input.ensures in
     let parts = parted _ _ told.rolls told.within _ c.in-Some.is in
     let generators = sym c.in-Err.ensures in
     let wrote = c.write_refused.ensures in let all = text_written _ _ (generators_refused _ _ parts.rolls _ _ generators) wrote.told wrote.left in record { told = all.0; left = all.1 }
-
-pub slice_bounds-check_roll-count-2 : goal.slice_bounds-check_roll-count-2
-slice_bounds-check_roll-count-2 c =
-    let told = c.split_input.ensures in
-    let parts = parted _ _ told.rolls told.within _ c.in-Some.is in
-    parts.high
-
-pub slice_bounds-check_roll-start-2 : goal.slice_bounds-check_roll-start-2
-slice_bounds-check_roll-start-2 c =
-    let told = c.split_input.ensures in
-    let parts = parted _ _ told.rolls told.within _ c.in-Some.is in
-    parts.high
 
 pub returns-in-Err-check_roll : goal.returns-in-Err-check_roll
 returns-in-Err-check_roll c =
@@ -54,42 +24,6 @@ returns-in-Err-check_roll c =
     let generators = sym c.in-Ok.ensures in
     let elements = sym c.in-Err-check_roll.ensures in
     let wrote = c.write_refused-in-Err-check_roll.ensures in let all = text_written _ _ (elements_refused _ _ parts.rolls _ generators _ _ elements) wrote.told wrote.left in record { told = all.0; left = all.1 }
-
-pub slice_bounds-write_report-count : goal.slice_bounds-write_report-count
-slice_bounds-write_report-count c =
-    let told = c.split_input.ensures in
-    let parts = parted _ _ told.rolls told.within _ c.in-Some.is in
-    parts.low
-
-pub slice_bounds-write_report-start : goal.slice_bounds-write_report-start
-slice_bounds-write_report-start c =
-    let told = c.split_input.ensures in
-    let parts = parted _ _ told.rolls told.within _ c.in-Some.is in
-    parts.low
-
-pub slice_bounds-write_report-end : goal.slice_bounds-write_report-end
-slice_bounds-write_report-end c =
-    let told = c.split_input.ensures in
-    let parts = parted _ _ told.rolls told.within _ c.in-Some.is in
-    parts.high
-
-pub slice_bounds-write_report-count-2 : goal.slice_bounds-write_report-count-2
-slice_bounds-write_report-count-2 c =
-    let told = c.split_input.ensures in
-    let parts = parted _ _ told.rolls told.within _ c.in-Some.is in
-    parts.high
-
-pub slice_bounds-write_report-start-2 : goal.slice_bounds-write_report-start-2
-slice_bounds-write_report-start-2 c =
-    let told = c.split_input.ensures in
-    let parts = parted _ _ told.rolls told.within _ c.in-Some.is in
-    parts.high
-
-pub write_report-requires : goal.write_report-requires
-write_report-requires c =
-    let generators = sym c.in-Ok.ensures in
-    let elements = sym c.in-Ok-check_roll.ensures in
-    (generators, elements, c.requires)
 
 pub returns : goal.returns
 returns c =

@@ -6,6 +6,3 @@ pub returns-in-None : goal.returns-in-None
 returns-in-None c =
     let line = c.other_line_length.ensures in
     (rw c.in-None.is line.0, omega (arith, line.1))
-
-pub returns-in-Some : goal.returns-in-Some
-returns-in-Some c = rw c.in-Some.is c.member_line_length.ensures

@@ -6,9 +6,6 @@ use Rattle.closing_report.proofs.stored.lines_length.Goals as goal
 pub loop-i-init : goal.loop-i-init
 loop-i-init c = measured_start lines _ _ _
 
-pub overflow_add-total : goal.overflow_add-total
-overflow_add-total c = omega (arith, c.line_length-total.ensures.1)
-
 pub loop-i-preserved : goal.loop-i-preserved
 loop-i-preserved c =
     let counted = c.line_length-total.ensures in

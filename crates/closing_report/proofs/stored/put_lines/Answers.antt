@@ -17,8 +17,5 @@ loop-i-preserved c =
     let written = rw c.result_at.ensures at put.ensures in
     (omega arith, piece_put lines _ _ _ _ c.loop-i.invariant.1 c.loop-i-test.true _ _ written put.auto.out)
 
-pub shape_of-out : goal.shape_of-out
-shape_of-out c = c.loop-i.invariant.1.size
-
 pub returns : goal.returns
 returns c = pieces_put lines _ _ _ _ c.loop-i.invariant.1 (omega arith)

@@ -2,14 +2,8 @@ use native.Mathlib.Omega.{arith}
 use Rattle.closing_report.proofs.text.DecimalLaws.{length_one, length_more, few_digits}
 use Rattle.closing_report.proofs.text.number_length.Goals as goal
 
-pub loop-rest-init : goal.loop-rest-init
-loop-rest-init c = omega arith
-
 pub overflow_add-k : goal.overflow_add-k
 overflow_add-k c = omega (arith, few_digits 19 c.args.n (omega arith))
-
-pub loop-rest-smaller : goal.loop-rest-smaller
-loop-rest-smaller c = omega arith
 
 pub loop-rest-preserved : goal.loop-rest-preserved
 loop-rest-preserved c = omega (arith, length_more c.loop-rest.rest (omega arith))

@@ -4,37 +4,13 @@ use native.Mathlib.Omega.{arith}
 use Rattle.closing_report.proofs.text.PutLaws.{spelled_start, spelled_next, spelled_end}
 use Rattle.closing_report.proofs.text.put_number.Goals as goal
 
-pub number_length-requires : goal.number_length-requires
-number_length-requires c = tt
-
-pub overflow_add-end : goal.overflow_add-end
-overflow_add-end c = omega arith
-
 pub loop-place-init : goal.loop-place-init
 loop-place-init c =
     let e = ap (c.args.at +◌) c.number_length.ensures.0 in
     (rw e (spelled_start _ _ _ c.requires), e)
 
-pub overflow_sub-place : goal.overflow_sub-place
-overflow_sub-place c = omega arith
-
-pub overflow_cast-out : goal.overflow_cast-out
-overflow_cast-out c = omega arith
-
-pub overflow_add-out : goal.overflow_add-out
-overflow_add-out c = omega arith
-
-pub bounds-out-place : goal.bounds-out-place
-bounds-out-place c = omega arith
-
-pub loop-place-smaller : goal.loop-place-smaller
-loop-place-smaller c = omega arith
-
 pub loop-place-preserved : goal.loop-place-preserved
 loop-place-preserved c = (spelled_next _ _ _ c.loop-place.invariant.0 c.loop-place-test.true, c.loop-place.invariant.1)
-
-pub shape_of-out : goal.shape_of-out
-shape_of-out c = c.loop-place.invariant.0.size
 
 pub returns : goal.returns
 returns c = record { bytes = spelled_end _ _ _ c.loop-place.invariant.0 (omega arith); past = c.loop-place.invariant.1 }

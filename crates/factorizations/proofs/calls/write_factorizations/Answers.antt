@@ -16,10 +16,6 @@ write_records-wrote-requires c =
     let few = accepted_few _ _ c.requires.1 in
     (omega (arith, few, c.factor_rolls.auto.w, c.requires.2), omega (arith, few))
 
-pub clear_bits-requires : goal.clear_bits-requires
-clear_bits-requires c =
-    omega (arith, c.factor_rolls.auto.w, c.requires.2)
-
 pub returns : goal.returns
 returns c =
     let wrote = c.write_records-wrote.ensures in

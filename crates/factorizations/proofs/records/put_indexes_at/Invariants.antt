@@ -10,7 +10,7 @@ use Rattle.factorizations.proofs.records.put_indexes_at.Given as goal
 
 abbrev pub invariant-loop-i : goal.invariant-loop-i
 invariant-loop-i l =
-    (l.i < 128 → bit (set_in l.set) l.i ≡ 1) × Left l.initial.out l.at (le16s (members (set_in l.set))) l.out l.next (le16s (chosen_from (set_in l.set) (up_to l.n) l.i))
+    (l.i < 128 → bit (set_in l.set) l.i ≡ 1) × Left l.initial.out l.at (le16s (members (set_in l.set))) l.out l.next (le16s (chosen_from (set_in l.set) (up_to 128) l.i))
 
 abbrev pub decreases-loop-i : goal.decreases-loop-i
-decreases-loop-i l = l.n - l.i
+decreases-loop-i l = 128 - l.i

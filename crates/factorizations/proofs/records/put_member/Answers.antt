@@ -1,7 +1,7 @@
 -- Two stores, the index count and the indexes.
-use Rattle.std.proofs.Common.{◌∙◌, arith, length-set}
+use Rattle.std.proofs.Common.{arith, length-set}
 use Rattle.pauli.specs.PlaceSet.{set_in}
-use Rattle.factorizations.proofs.records.RecordLaws.{two_words, member_room, member_put}
+use Rattle.factorizations.proofs.records.RecordLaws.{member_room, member_put}
 use Rattle.factorizations.proofs.records.put_member.Goals as goal
 
 pub bounds-out-at : goal.bounds-out-at
@@ -20,14 +20,8 @@ put_u16-requires c =
 
 pub put_indexes_at-requires : goal.put_indexes_at-requires
 put_indexes_at-requires c =
-    let room = member_room c.args.out.now c.args.at (set_in c.args.set) c.args.exponent c.requires in (
-      omega arith,
-      two_words c.args.set (record { low = omega arith; high = omega arith }),
-      rw c.put_u16.auto.out (simp length-set (omega (arith, room))),
-    )
-
-pub shape_of-out : goal.shape_of-out
-shape_of-out c = c.put_indexes_at.auto.out ∙ c.put_u16.auto.out ∙ simp length-set
+    let room = member_room c.args.out.now c.args.at (set_in c.args.set) c.args.exponent c.requires in
+    rw c.put_u16.auto.out (simp length-set (omega (arith, room)))
 
 pub returns : goal.returns
 returns c =

@@ -7,15 +7,6 @@ use Rattle.factorizations.proofs.records.put_records.Goals as goal
 pub loop-i-init : goal.loop-i-init
 loop-i-init c = (omega arith, left_start _ _ _ _ (pieces_start records _ _ _) (omega (arith, c.requires.1)))
 
-pub overflow_mul-i : goal.overflow_mul-i
-overflow_mul-i c = omega arith
-
-pub overflow_add-base : goal.overflow_add-base
-overflow_add-base c = omega arith
-
-pub result_at-requires : goal.result_at-requires
-result_at-requires c = omega arith
-
 pub put_record-next-requires : goal.put_record-next-requires
 put_record-next-requires c =
     rw c.result_at.ensures (piece_fits records _ _ _ _ c.loop-i.invariant.1 c.loop-i-test.true)
@@ -24,9 +15,6 @@ pub loop-i-preserved : goal.loop-i-preserved
 loop-i-preserved c =
     let written = rw c.result_at.ensures at c.put_record-next.ensures in
     (omega arith, piece_put records _ _ _ _ c.loop-i.invariant.1 c.loop-i-test.true _ _ written c.put_record-next.auto.out)
-
-pub shape_of-out : goal.shape_of-out
-shape_of-out c = c.loop-i.invariant.1.size
 
 pub returns : goal.returns
 returns c = pieces_put records _ _ _ _ c.loop-i.invariant.1 (omega arith)

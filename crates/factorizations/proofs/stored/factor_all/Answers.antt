@@ -7,11 +7,6 @@ use Rattle.factorizations.proofs.stored.factor_all.Goals as goal
 pub loop-k-init : goal.loop-k-init
 loop-k-init c = (omega arith, c.requires.2, λ g. factored_start g _)
 
-pub factor-factoring-requires : goal.factor-factoring-requires
-factor-factoring-requires c =
-    let inv = c.loop-k.invariant in
-    (c.requires.0, omega arith, c.requires.1, inv.1, c.requires.3, asked_now c.requires.4 _ (inv.2 c.requires.4))
-
 pub overflow_mul-k : goal.overflow_mul-k
 unfolding most_paulis
 overflow_mul-k c =
@@ -43,9 +38,6 @@ loop-k-preserved c =
       stored.rest.size ∙ factor.rest.size ∙ inv.1,
       λ g. let f = inv.2 g in factored_next g _ f c.requires.1 inv.1 (omega (arith, size, taken)) (factor.told (asked_now g _ f)) factor.rest stored,
     )
-
-pub shape_of-w : goal.shape_of-w
-shape_of-w c = c.loop-k.invariant.1 ∙ sym c.requires.2
 
 pub returns : goal.returns
 returns c =

@@ -6,9 +6,6 @@ use Rattle.pauli_group.proofs.group.GroupedLaws.{group_total, group_places, list
 use Rattle.pauli_group.proofs.member.FactorLaws.{asked_of}
 use Rattle.factorizations.proofs.stored.factor_rolls.Goals as goal
 
-pub group_of-g-requires : goal.group_of-g-requires
-group_of-g-requires c = (c.requires.0, c.requires.2)
-
 pub signs_of-signs-requires : goal.signs_of-signs-requires
 signs_of-signs-requires c =
     let group = c.group_of-g in
