@@ -8,7 +8,7 @@ ghost use Rattle.pauli.specs.Refusals.{told_by};
 use crate::area::WORK_WORDS;
 use pauli::joined::{RollCounts, joined_counts};
 use pauli::refusal::{Reason, Refusal};
-use pauli::roll::{Roll, check_roll};
+use pauli::roll::Roll;
 
 // Checks the roll, then the work area of so many words.
 pub(crate) fn check_list<'a>(b: &'a [u8], words: usize) -> Result<Roll<'a>, Refusal>
@@ -22,32 +22,44 @@ pub(crate) fn check_list<'a>(b: &'a [u8], words: usize) -> Result<Roll<'a>, Refu
     Ok(roll)
 }
 
-// Checks the generators' roll, then the elements' roll; tells how many Paulis each has.
-pub fn check_rolls(b: &[u8], elements: &[u8]) -> Result<RollCounts, Refusal>
-    ensures { told_by counts_in result ≡ roll_counts b.now elements.now }
+// The rolls of a question: the generators, and the elements that are put to their group.
+#[derive(Clone, Copy)]
+pub struct Rolls<'a> {
+    pub generators: Roll<'a>,
+    pub elements: Roll<'a>,
+}
+
+// Checks the generators' roll, then the elements' roll.
+pub fn check_rolls<'a>(generators: &'a [u8], elements: &'a [u8]) -> Result<Rolls<'a>, Refusal>
+    ensures counts { told_by (λ rolls. record { left = rolls.generators.count; right = rolls.elements.count }) result ≡ roll_counts generators.now elements.now }
+    ensures rolls { IfOk result (λ rolls. (rolls.generators.bytes ≡ generators.entry) × (rolls.elements.bytes ≡ elements.entry)) }
 {
-    let left = check_roll(b)?;
-    let right = check_roll(elements)?;
-    Ok(RollCounts { left, right })
+    let generators = Roll::read(generators)?;
+    let elements = Roll::read(elements)?;
+    Ok(Rolls {
+        generators,
+        elements,
+    })
 }
 
 // Checks the generators' roll, the elements' roll, the element's number and the work area of so many words.
-pub(crate) fn check_question(
-    b: &[u8],
-    elements: &[u8],
+pub(crate) fn check_question<'a>(
+    generators: &'a [u8],
+    elements: &'a [u8],
     number: usize,
     words: usize,
-) -> Result<RollCounts, Refusal>
-    ensures { told_by counts_in result ≡ question_counts b.now elements.now number words }
+) -> Result<Rolls<'a>, Refusal>
+    ensures counts { told_by (λ rolls. record { left = rolls.generators.count; right = rolls.elements.count }) result ≡ question_counts generators.now elements.now number words }
+    ensures rolls { IfOk result (λ rolls. (rolls.generators.bytes ≡ generators.entry) × (rolls.elements.bytes ≡ elements.entry)) }
 {
-    let counts = check_rolls(b, elements)?;
-    if number >= counts.right {
+    let rolls = check_rolls(generators, elements)?;
+    if number >= rolls.elements.count {
         return Err(Reason::Number.into());
     }
     if words < WORK_WORDS {
         return Err(Reason::Work.into());
     }
-    Ok(counts)
+    Ok(rolls)
 }
 
 // Checks two rolls, the limits of the joined list and the work area of so many words; tells how many Paulis each roll has.

@@ -11,36 +11,29 @@ ghost use Rattle.pauli_group.specs.Inner.Members.{factoring_told};
 
 use crate::answers::Factors;
 use crate::area::WORK_WORDS;
-use crate::checks::check_question;
+use crate::checks::{Rolls, check_question};
 use crate::group::group_of;
 use crate::member::{IndexSet, factor, put_indexes};
 use crate::promise::Promise;
 use crate::standard::signs_of;
 use binar::row::clear_bits;
 use pauli::refusal::{Reason, Refusal};
-use pauli::roll::Roll;
 use pauli::support::Support;
 
-// Factors one element by the group of a roll, and clears the work area.
-fn factor_once(
-    roll: Roll,
-    elements: Roll,
-    number: usize,
-    promise: Promise,
-    w: &mut [u64],
-) -> Option<IndexSet>
-    requires { (number < elements.count) × (length w.old ≡ 4096) }
-    ensures told { factoring_told result ≡ factorization_of (promise_of promise) (paulis (list_of roll.entry.bytes.now)) (pauli_of (slice_index_or (list_of elements.entry.bytes.now) number nothing)) }
+// Factors one element by the group of the generators, and clears the work area.
+fn factor_once(rolls: Rolls, number: usize, promise: Promise, w: &mut [u64]) -> Option<IndexSet>
+    requires { (number < rolls.elements.count) × (length w.old ≡ 4096) }
+    ensures told { factoring_told result ≡ factorization_of (promise_of promise) (paulis (list_of rolls.entry.generators.bytes.now)) (pauli_of (slice_index_or (list_of rolls.entry.elements.bytes.now) number nothing)) }
     ensures area { w.new ≡ cleared w.old }
 {
     let mut known = Support::new();
-    let g = group_of(roll, &mut known, w);
+    let g = group_of(rolls.generators, &mut known, w);
     let signs = signs_of(w, g.total, promise);
     let factoring = factor(
-        elements,
+        rolls.elements,
         number,
         known.qubits(),
-        roll.count,
+        rolls.generators.count,
         g,
         signs.phases,
         w,
@@ -61,16 +54,8 @@ pub fn indexed_factorization_of(
 ) -> Result<Option<Factors>, Refusal>
     ensures { MemberCall (promise_of promise) b.now elements.now number work.old out.old result work.new out.new }
 {
-    let counts = check_question(b, elements, number, work.len())?;
-    let roll = Roll {
-        bytes: b,
-        count: counts.left,
-    };
-    let asked = Roll {
-        bytes: elements,
-        count: counts.right,
-    };
-    let factoring = factor_once(roll, asked, number, promise, &mut work[..WORK_WORDS]);
+    let rolls = check_question(b, elements, number, work.len())?;
+    let factoring = factor_once(rolls, number, promise, &mut work[..WORK_WORDS]);
     let found = match factoring {
         None => {
             return Ok(None);
@@ -82,7 +67,7 @@ pub fn indexed_factorization_of(
     if out.len() < 2 * count {
         return Err(Reason::Output.into());
     }
-    put_indexes(out, set, counts.left);
+    put_indexes(out, set, rolls.generators.count);
     Ok(Some(Factors {
         count,
         exponent: found.exponent,
