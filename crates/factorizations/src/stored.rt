@@ -71,8 +71,8 @@ pub fn result_at(w: &[u64], at: usize) -> Option<IndexSet>
     })
 }
 
-// Factors the Paulis of a roll by the group of a list of n that is in the work area, which has these phases, and
-// stores the results in place of a further list.
+// Factors the Paulis of a roll by the group of a list of n that is in the work area, which has these phases, and stores the results
+// in place of a further list.
 fn factor_all(roll: Roll, known: &[u32], n: usize, group: Group, phases: Phases, w: &mut [u64])
     requires { (n ≤ 128) × (length w.old ≡ 4096) × (group.places ≤ 128) × Asked known.now w.old n group.places group.rank group.total (step_told phases) }
     ensures { (g : Asked known.now w.old n group.places group.rank group.total (step_told phases)) → stored_in w.new further_at roll.entry.count ≡ map (factorization_of g.promise g.list) (paulis (list_of roll.entry.bytes.now)) }

@@ -10,7 +10,7 @@ use crate::area::{FURTHER, STANDARD};
 use crate::form::{form_of, put_products};
 use crate::group::group_of;
 use crate::moved::move_list;
-use pauli::roll::Roll;
+use pauli::joined::Pair;
 use pauli::support::Support;
 
 // How many Paulis of each of two lists stand one after the other.
@@ -20,15 +20,15 @@ pub(crate) struct Stacked {
     pub second: usize,
 }
 
-// Puts the standard generators of two rolls over the places of the joint support, in the further list's place.
-fn stack_standard(left: Roll, right: Roll, joint: &[u32], w: &mut [u64]) -> Stacked
-    requires { (left.count + right.count ≤ 128) × (length w.old ≡ 4096) × Joint (paulis (list_of left.bytes.now)) (paulis (list_of right.bytes.now)) joint.now }
-    ensures { Stack (paulis (list_of left.entry.bytes.now)) (paulis (list_of right.entry.bytes.now)) w.new result.first result.second }
+// Puts the standard generators of two rolls that can be joined over the places of the joint support, in the further list's place.
+fn stack_standard(pair: Pair, joint: &[u32], w: &mut [u64]) -> Stacked
+    requires { (length w.old ≡ 4096) × Joint (paulis (list_of pair.left.bytes.now)) (paulis (list_of pair.right.bytes.now)) joint.now }
+    ensures { Stack (paulis (list_of pair.entry.left.bytes.now)) (paulis (list_of pair.entry.right.bytes.now)) w.new result.first result.second }
 {
     let mut known = Support::new();
-    let a = group_of(left, &mut known, w);
+    let a = group_of(pair.left, &mut known, w);
     move_list(w, STANDARD, FURTHER, a.total, known.qubits(), joint);
-    let b = group_of(right, &mut known, w);
+    let b = group_of(pair.right, &mut known, w);
     move_list(
         w,
         STANDARD,
@@ -43,14 +43,14 @@ fn stack_standard(left: Roll, right: Roll, joint: &[u32], w: &mut [u64]) -> Stac
     }
 }
 
-// Leaves the common basis of the groups of two rolls, over the places of the joint support, in the further list's place;
-// tells how many elements it has.
-pub(crate) fn common_basis(left: Roll, right: Roll, joint: &[u32], w: &mut [u64]) -> usize
-    requires { (left.count + right.count ≤ 128) × (length w.old ≡ 4096) × Joint (paulis (list_of left.bytes.now)) (paulis (list_of right.bytes.now)) joint.now }
+// Leaves the common basis of the groups of two rolls that can be joined, over the places of the joint support, in the further list's
+// place; tells how many elements it has.
+pub(crate) fn common_basis(pair: Pair, joint: &[u32], w: &mut [u64]) -> usize
+    requires { (length w.old ≡ 4096) × Joint (paulis (list_of pair.left.bytes.now)) (paulis (list_of pair.right.bytes.now)) joint.now }
     ensures few { result ≤ 128 }
-    ensures list { list_in w.new further_at result ≡ basis_over (paulis (list_of left.entry.bytes.now)) (paulis (list_of right.entry.bytes.now)) }
+    ensures list { list_in w.new further_at result ≡ basis_over (paulis (list_of pair.entry.left.bytes.now)) (paulis (list_of pair.entry.right.bytes.now)) }
 {
-    let stacked = stack_standard(left, right, joint, w);
+    let stacked = stack_standard(pair, joint, w);
     let n = stacked.first + stacked.second;
     let rank = form_of(w, FURTHER, n, joint.len());
     let zeros = n - rank;

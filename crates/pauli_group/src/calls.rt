@@ -1,5 +1,5 @@
 // The calls on one list.
-ghost use Rattle.std.specs.Prelude.{◌≡◌, ◌<◌, ◌≤◌, length, ◌≢◌};
+ghost use Rattle.std.specs.Prelude.{◌≡◌, ◌<◌, length};
 ghost use Rattle.pauli.specs.Condense.{list_of};
 ghost use Rattle.pauli.specs.Told.{answer};
 ghost use Rattle.pauli.specs.Writing.{told_bytes, left_in};
@@ -7,9 +7,8 @@ ghost use Rattle.pauli_group.specs.Promises.{promise_of};
 ghost use Rattle.pauli_group.specs.WorkArea.{cleared};
 ghost use Rattle.pauli_group.specs.Calls.{paulis, standard_bytes};
 ghost use Rattle.pauli_group.specs.Inner.Groups.{DescriptionCall};
-ghost use Rattle.pauli_group.specs.Answers.{yes_number};
 ghost use Rattle.pauli_group.specs.CallContracts.{StandardCall, RankCall, PhasesCall, AbelianCall, StabilizerCall, SizeCall};
-ghost use Rattle.pauli.specs.Refusals.{told_by, told_of};
+ghost use Rattle.pauli.specs.Refusals.{told_of};
 
 use crate::answers::Phases;
 use crate::area::{STANDARD, WORK_WORDS};

@@ -2,11 +2,10 @@
 ghost use Rattle.std.specs.Prelude.{◌≡◌, length, IfOk};
 ghost use Rattle.pauli.specs.Told.{map_told};
 ghost use Rattle.pauli_group.specs.Calls.{one_list, roll_counts, question_counts, pair_counts, two_lists};
-ghost use Rattle.pauli.specs.JoinAnswers.{counts_in};
 ghost use Rattle.pauli.specs.Refusals.{told_by};
 
 use crate::area::WORK_WORDS;
-use pauli::joined::{RollCounts, joined_counts};
+use pauli::joined::Pair;
 use pauli::refusal::{Reason, Refusal};
 use pauli::roll::Roll;
 
@@ -62,13 +61,18 @@ pub(crate) fn check_question<'a>(
     Ok(rolls)
 }
 
-// Checks two rolls, the limits of the joined list and the work area of so many words; tells how many Paulis each roll has.
-pub(crate) fn check_pair(left: &[u8], right: &[u8], words: usize) -> Result<RollCounts, Refusal>
-    ensures { told_by counts_in result ≡ map_told pair_counts (two_lists left.now right.now words) }
+// Checks two rolls, the limits of the joined list and the work area of so many words.
+pub(crate) fn check_pair<'a>(
+    left: &'a [u8],
+    right: &'a [u8],
+    words: usize,
+) -> Result<Pair<'a>, Refusal>
+    ensures counts { told_by (λ pair. record { left = pair.left.count; right = pair.right.count }) result ≡ map_told pair_counts (two_lists left.now right.now words) }
+    ensures rolls { IfOk result (λ pair. (pair.left.bytes ≡ left.entry) × (pair.right.bytes ≡ right.entry)) }
 {
-    let counts = joined_counts(left, right)?;
+    let pair = Pair::read(left, right)?;
     if words < WORK_WORDS {
         return Err(Reason::Work.into());
     }
-    Ok(counts)
+    Ok(pair)
 }

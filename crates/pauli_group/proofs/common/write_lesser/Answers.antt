@@ -5,12 +5,6 @@ use Rattle.pauli_theory.specs.Common.{lesser}
 use Rattle.pauli_group.specs.Answers.{order_of}
 use Rattle.pauli_group.proofs.common.write_lesser.Goals as goal
 
-pub invariant_of-first : goal.invariant_of-first
-invariant_of-first c = record { accepted = c.requires.0.left; low = λ i. (c.type_inv.left i).fits }
-
-pub invariant_of-second : goal.invariant_of-second
-invariant_of-second c = record { accepted = c.requires.0.right; low = λ i. (c.type_inv.right i).fits }
-
 pub returns-in-Equal : goal.returns-in-Equal
 unfolding lesser
 returns-in-Equal c =
