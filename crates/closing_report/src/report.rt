@@ -1,6 +1,5 @@
 // The call for the closing listing.
 ghost use Rattle.std.specs.Prelude.{◌≡◌, length};
-ghost use Rattle.pauli.specs.Roll.{count_of};
 ghost use Rattle.pauli.specs.Told.{answer};
 ghost use Rattle.pauli.specs.Condense.{list_of};
 ghost use Rattle.pauli.specs.Writing.{told_bytes, left_in};
@@ -16,28 +15,22 @@ use crate::listing::{write_listing, write_refused};
 use binar::row::clear_bits;
 use factorizations::stored::factor_rolls;
 use pauli::refusal::{Reason, Refusal};
-use pauli::roll::check_roll;
+use pauli::roll::Roll;
 use pauli_group::area::{FURTHER, WORK_WORDS};
+use pauli_group::checks::Rolls;
 use pauli_group::promise::Promise;
 
 // No text is longer.
 pub const MOST_TEXT: usize = 53924;
 
-// Writes the listing for two accepted rolls of n generators and m elements.
-fn write_report(
-    b: &[u8],
-    n: usize,
-    elements: &[u8],
-    m: usize,
-    w: &mut [u64],
-    out: &mut [u8],
-) -> Result<usize, Refusal>
-    requires { (count_of b.now ≡ answer n) × (count_of elements.now ≡ answer m) × (length w.old ≡ 4096) }
-    ensures told { told_of result ≡ told_bytes (answer (report (paulis (list_of b.now)) (paulis (list_of elements.now)))) out.old }
-    ensures left { out.new ≡ left_in (answer (report (paulis (list_of b.now)) (paulis (list_of elements.now)))) out.old }
+// Writes the listing for two rolls.
+fn write_report(rolls: Rolls, w: &mut [u64], out: &mut [u8]) -> Result<usize, Refusal>
+    requires { length w.old ≡ 4096 }
+    ensures told { told_of result ≡ told_bytes (answer (report (paulis (list_of rolls.entry.generators.bytes.now)) (paulis (list_of rolls.entry.elements.bytes.now)))) out.old }
+    ensures left { out.new ≡ left_in (answer (report (paulis (list_of rolls.entry.generators.bytes.now)) (paulis (list_of rolls.entry.elements.bytes.now)))) out.old }
 {
-    let group = factor_rolls(b, n, elements, m, Promise::None, w);
-    write_listing(group, w, FURTHER, m, out)
+    let group = factor_rolls(rolls, Promise::None, w);
+    write_listing(group, w, FURTHER, rolls.elements.count, out)
 }
 
 // Writes the line for an input without a whole first roll.
@@ -57,15 +50,22 @@ fn write_text(input: &[u8], w: &mut [u64], out: &mut [u8]) -> Result<usize, Refu
     let Some(end) = split_input(input) else {
         return write_cut(out);
     };
-    let n = match check_roll(&input[4..end]) {
-        Ok(n) => n,
+    let generators = match Roll::read(&input[4..end]) {
+        Ok(roll) => roll,
         Err(refusal) => return write_refused(refusal, 1, out),
     };
-    let m = match check_roll(&input[end..]) {
-        Ok(m) => m,
+    let elements = match Roll::read(&input[end..]) {
+        Ok(roll) => roll,
         Err(refusal) => return write_refused(refusal, 2, out),
     };
-    write_report(&input[4..end], n, &input[end..], m, w, out)
+    write_report(
+        Rolls {
+            generators,
+            elements,
+        },
+        w,
+        out,
+    )
 }
 
 // Writes the text of an input, and clears the work area.

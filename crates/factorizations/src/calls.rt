@@ -1,7 +1,6 @@
 // The call for the factorizations of a roll of elements.
-ghost use Rattle.std.specs.Prelude.{◌≡◌, map, length};
+ghost use Rattle.std.specs.Prelude.{◌≡◌, map, length, IfOk};
 ghost use Rattle.pauli.specs.Condense.{list_of};
-ghost use Rattle.pauli.specs.Roll.{count_of};
 ghost use Rattle.pauli.specs.Told.{answer, map_told};
 ghost use Rattle.pauli.specs.Writing.{told_bytes, left_in};
 ghost use Rattle.pauli_theory.specs.Membership.{factorization_of};
@@ -11,48 +10,47 @@ ghost use Rattle.pauli_group.specs.Calls.{paulis};
 ghost use Rattle.factorizations.specs.Calls.{questions, questions_counts};
 ghost use Rattle.factorizations.specs.Contract.{FactorizationsCall};
 ghost use Rattle.factorizations.specs.Records.{results_bytes};
-ghost use Rattle.pauli.specs.JoinAnswers.{counts_in};
 ghost use Rattle.pauli.specs.Refusals.{told_by, told_of};
 
 use crate::answers::Results;
 use crate::records::write_records;
 use crate::stored::factor_rolls;
 use binar::row::clear_bits;
-use pauli::joined::RollCounts;
 use pauli::refusal::{Reason, Refusal};
 use pauli_group::area::{FURTHER, WORK_WORDS};
-use pauli_group::checks::check_rolls;
+use pauli_group::checks::{Rolls, check_rolls};
 use pauli_group::promise::Promise;
 
-// Checks the generators' roll, the elements' roll and the work area of so many words; tells how many Paulis each roll has.
-fn check_questions(generators: &[u8], elements: &[u8], words: usize) -> Result<RollCounts, Refusal>
-    ensures { told_by counts_in result ≡ map_told questions_counts (questions generators.now elements.now words) }
+// Checks the generators' roll, the elements' roll and the work area of so many words.
+fn check_questions<'a>(
+    generators: &'a [u8],
+    elements: &'a [u8],
+    words: usize,
+) -> Result<Rolls<'a>, Refusal>
+    ensures counts { told_by (λ rolls. record { left = rolls.generators.count; right = rolls.elements.count }) result ≡ map_told questions_counts (questions generators.now elements.now words) }
+    ensures rolls { IfOk result (λ rolls. (rolls.generators.bytes ≡ generators.entry) × (rolls.elements.bytes ≡ elements.entry)) }
 {
-    let counts = check_rolls(generators, elements)?;
+    let rolls = check_rolls(generators, elements)?;
     if words < WORK_WORDS {
         return Err(Reason::Work.into());
     }
-    Ok(counts)
+    Ok(rolls)
 }
 
-// Factors the elements of an accepted roll of m by the group of an accepted roll of n, writes their records, and clears the work
-// area.
+// Factors the elements by the group of the generators, writes their records, and clears the work area.
 fn write_factorizations(
-    b: &[u8],
-    n: usize,
-    elements: &[u8],
-    m: usize,
+    rolls: Rolls,
     promise: Promise,
     w: &mut [u64],
     out: &mut [u8],
 ) -> Result<usize, Refusal>
-    requires { (count_of b.now ≡ answer n) × (count_of elements.now ≡ answer m) × (length w.old ≡ 4096) }
-    ensures told { told_of result ≡ told_bytes (answer (results_bytes (map (factorization_of (promise_of promise) (paulis (list_of b.now))) (paulis (list_of elements.now))))) out.old }
-    ensures left { out.new ≡ left_in (answer (results_bytes (map (factorization_of (promise_of promise) (paulis (list_of b.now))) (paulis (list_of elements.now))))) out.old }
+    requires { length w.old ≡ 4096 }
+    ensures told { told_of result ≡ told_bytes (answer (results_bytes (map (factorization_of (promise_of promise) (paulis (list_of rolls.entry.generators.bytes.now))) (paulis (list_of rolls.entry.elements.bytes.now))))) out.old }
+    ensures left { out.new ≡ left_in (answer (results_bytes (map (factorization_of (promise_of promise) (paulis (list_of rolls.entry.generators.bytes.now))) (paulis (list_of rolls.entry.elements.bytes.now))))) out.old }
     ensures area { w.new ≡ cleared w.old }
 {
-    factor_rolls(b, n, elements, m, promise, w);
-    let wrote = write_records(w, FURTHER, m, out);
+    factor_rolls(rolls, promise, w);
+    let wrote = write_records(w, FURTHER, rolls.elements.count, out);
     clear_bits(w, 0, WORK_WORDS);
     wrote
 }
@@ -68,18 +66,10 @@ pub fn indexed_factorizations_of(
 ) -> Result<Results, Refusal>
     ensures { FactorizationsCall (promise_of promise) generators.now elements.now work.old out.old result work.new out.new }
 {
-    let counts = check_questions(generators, elements, work.len())?;
-    let bytes = write_factorizations(
-        generators,
-        counts.left,
-        elements,
-        counts.right,
-        promise,
-        &mut work[..WORK_WORDS],
-        out,
-    )?;
+    let rolls = check_questions(generators, elements, work.len())?;
+    let bytes = write_factorizations(rolls, promise, &mut work[..WORK_WORDS], out)?;
     Ok(Results {
-        count: counts.right,
+        count: rolls.elements.count,
         bytes,
     })
 }

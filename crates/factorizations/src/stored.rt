@@ -2,8 +2,6 @@
 // words of the index set.
 ghost use Rattle.std.specs.Prelude.{◌≡◌, map, ◌+◌, ◌≤◌, length};
 ghost use Rattle.pauli.specs.Condense.{list_of};
-ghost use Rattle.pauli.specs.Roll.{count_of};
-ghost use Rattle.pauli.specs.Told.{answer};
 ghost use Rattle.pauli_theory.specs.Membership.{factorization_of};
 ghost use Rattle.pauli_group.specs.Calls.{paulis};
 ghost use Rattle.pauli_group.specs.Promises.{promise_of};
@@ -14,9 +12,11 @@ ghost use Rattle.pauli_group.specs.Inner.Members.{factoring_told, Asked};
 ghost use Rattle.factorizations.specs.Stored.{result_in, put_member, put_other, stored_in, Storable, Stored};
 
 use pauli::places::Places;
+use pauli::roll::Roll;
 use pauli::support::Support;
 use pauli_group::answers::Phases;
 use pauli_group::area::FURTHER;
+use pauli_group::checks::Rolls;
 use pauli_group::group::{Description, Group, group_of};
 use pauli_group::member::{IndexSet, factor};
 use pauli_group::promise::Promise;
@@ -71,44 +71,35 @@ pub fn result_at(w: &[u64], at: usize) -> Option<IndexSet>
     })
 }
 
-// Factors the m Paulis of an accepted roll by the group of a list of n that is in the work area, which has these phases, and
-// stores the results in place of a further list.
-fn factor_all(
-    b: &[u8],
-    m: usize,
-    known: &[u32],
-    n: usize,
-    group: Group,
-    phases: Phases,
-    w: &mut [u64],
-)
-    requires { (count_of b.now ≡ answer m) × (n ≤ 128) × (length w.old ≡ 4096) × (group.places ≤ 128) × Asked known.now w.old n group.places group.rank group.total (step_told phases) }
-    ensures { (g : Asked known.now w.old n group.places group.rank group.total (step_told phases)) → stored_in w.new further_at m ≡ map (factorization_of g.promise g.list) (paulis (list_of b.now)) }
+// Factors the Paulis of a roll by the group of a list of n that is in the work area, which has these phases, and stores the results
+// in place of a further list.
+fn factor_all(roll: Roll, known: &[u32], n: usize, group: Group, phases: Phases, w: &mut [u64])
+    requires { (n ≤ 128) × (length w.old ≡ 4096) × (group.places ≤ 128) × Asked known.now w.old n group.places group.rank group.total (step_told phases) }
+    ensures { (g : Asked known.now w.old n group.places group.rank group.total (step_told phases)) → stored_in w.new further_at roll.entry.count ≡ map (factorization_of g.promise g.list) (paulis (list_of roll.entry.bytes.now)) }
 {
-    for k in 0..m {
-        let factoring = factor(b, m, k, known, n, group, phases, w);
+    for k in 0..roll.count {
+        let factoring = factor(roll, k, known, n, group, phases, w);
         store_result(w, FURTHER + 5 * k, factoring);
     }
 }
 
-// Describes the group of an accepted roll of n, factors the m elements of another one by it, and stores the results in place of a
-// further list.
-pub fn factor_rolls(
-    b: &[u8],
-    n: usize,
-    elements: &[u8],
-    m: usize,
-    promise: Promise,
-    w: &mut [u64],
-) -> Description
-    requires { (count_of b.now ≡ answer n) × (count_of elements.now ≡ answer m) × (length w.old ≡ 4096) }
-    ensures told { facts_in result ≡ facts_of (promise_of promise) (paulis (list_of b.now)) }
-    ensures results { stored_in w.new further_at m ≡ map (factorization_of (promise_of promise) (paulis (list_of b.now))) (paulis (list_of elements.now)) }
+// Describes the group of the generators, factors the elements by it, and stores the results in place of a further list.
+pub fn factor_rolls(rolls: Rolls, promise: Promise, w: &mut [u64]) -> Description
+    requires { length w.old ≡ 4096 }
+    ensures told { facts_in result ≡ facts_of (promise_of promise) (paulis (list_of rolls.entry.generators.bytes.now)) }
+    ensures results { stored_in w.new further_at rolls.entry.elements.count ≡ map (factorization_of (promise_of promise) (paulis (list_of rolls.entry.generators.bytes.now))) (paulis (list_of rolls.entry.elements.bytes.now)) }
 {
     let mut known = Support::new();
-    let g = group_of(b, n, &mut known, w);
+    let g = group_of(rolls.generators, &mut known, w);
     let signs = signs_of(w, g.total, promise);
-    factor_all(elements, m, known.qubits(), n, g, signs.phases, w);
+    factor_all(
+        rolls.elements,
+        known.qubits(),
+        rolls.generators.count,
+        g,
+        signs.phases,
+        w,
+    );
     Description {
         rank: g.rank,
         signs,

@@ -1,4 +1,4 @@
 pub mod OneList
-pub mod Rolls
+pub mod RollsLaws
 pub mod TwoLists
 pub mod Question

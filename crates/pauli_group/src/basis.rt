@@ -1,7 +1,5 @@
 // The common basis of two groups, up to exponents.
 ghost use Rattle.std.specs.Prelude.{◌≡◌, ◌+◌, ◌≤◌, length};
-ghost use Rattle.pauli.specs.Roll.{count_of};
-ghost use Rattle.pauli.specs.Told.{answer};
 ghost use Rattle.pauli.specs.Condense.{list_of};
 ghost use Rattle.pauli.specs.Signed.{list_in};
 ghost use Rattle.pauli_group.specs.Inner.Area.{further_at};
@@ -12,6 +10,7 @@ use crate::area::{FURTHER, STANDARD};
 use crate::form::{form_of, put_products};
 use crate::group::group_of;
 use crate::moved::move_list;
+use pauli::joined::Pair;
 use pauli::support::Support;
 
 // How many Paulis of each of two lists stand one after the other.
@@ -21,22 +20,15 @@ pub(crate) struct Stacked {
     pub second: usize,
 }
 
-// Puts the standard generators of two accepted rolls over the places of the joint support, in the further list's place.
-fn stack_standard(
-    left: &[u8],
-    nl: usize,
-    right: &[u8],
-    nr: usize,
-    joint: &[u32],
-    w: &mut [u64],
-) -> Stacked
-    requires { (count_of left.now ≡ answer nl) × (count_of right.now ≡ answer nr) × (nl + nr ≤ 128) × (length w.old ≡ 4096) × Joint (paulis (list_of left.now)) (paulis (list_of right.now)) joint.now }
-    ensures { Stack (paulis (list_of left.now)) (paulis (list_of right.now)) w.new result.first result.second }
+// Puts the standard generators of two rolls that can be joined over the places of the joint support, in the further list's place.
+fn stack_standard(pair: Pair, joint: &[u32], w: &mut [u64]) -> Stacked
+    requires { (length w.old ≡ 4096) × Joint (paulis (list_of pair.left.bytes.now)) (paulis (list_of pair.right.bytes.now)) joint.now }
+    ensures { Stack (paulis (list_of pair.entry.left.bytes.now)) (paulis (list_of pair.entry.right.bytes.now)) w.new result.first result.second }
 {
     let mut known = Support::new();
-    let a = group_of(left, nl, &mut known, w);
+    let a = group_of(pair.left, &mut known, w);
     move_list(w, STANDARD, FURTHER, a.total, known.qubits(), joint);
-    let b = group_of(right, nr, &mut known, w);
+    let b = group_of(pair.right, &mut known, w);
     move_list(
         w,
         STANDARD,
@@ -51,21 +43,14 @@ fn stack_standard(
     }
 }
 
-// Leaves the common basis of the groups of two accepted rolls, over the places of the joint support, in the further list's place;
-// tells how many elements it has.
-pub(crate) fn common_basis(
-    left: &[u8],
-    nl: usize,
-    right: &[u8],
-    nr: usize,
-    joint: &[u32],
-    w: &mut [u64],
-) -> usize
-    requires { (count_of left.now ≡ answer nl) × (count_of right.now ≡ answer nr) × (nl + nr ≤ 128) × (length w.old ≡ 4096) × Joint (paulis (list_of left.now)) (paulis (list_of right.now)) joint.now }
+// Leaves the common basis of the groups of two rolls that can be joined, over the places of the joint support, in the further list's
+// place; tells how many elements it has.
+pub(crate) fn common_basis(pair: Pair, joint: &[u32], w: &mut [u64]) -> usize
+    requires { (length w.old ≡ 4096) × Joint (paulis (list_of pair.left.bytes.now)) (paulis (list_of pair.right.bytes.now)) joint.now }
     ensures few { result ≤ 128 }
-    ensures list { list_in w.new further_at result ≡ basis_over (paulis (list_of left.now)) (paulis (list_of right.now)) }
+    ensures list { list_in w.new further_at result ≡ basis_over (paulis (list_of pair.entry.left.bytes.now)) (paulis (list_of pair.entry.right.bytes.now)) }
 {
-    let stacked = stack_standard(left, nl, right, nr, joint, w);
+    let stacked = stack_standard(pair, joint, w);
     let n = stacked.first + stacked.second;
     let rank = form_of(w, FURTHER, n, joint.len());
     let zeros = n - rank;

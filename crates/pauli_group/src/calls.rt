@@ -1,16 +1,14 @@
 // The calls on one list.
-ghost use Rattle.std.specs.Prelude.{◌≡◌, ◌<◌, ◌≤◌, length, ◌≢◌};
+ghost use Rattle.std.specs.Prelude.{◌≡◌, ◌<◌, length};
 ghost use Rattle.pauli.specs.Condense.{list_of};
-ghost use Rattle.pauli.specs.Roll.{count_of};
 ghost use Rattle.pauli.specs.Told.{answer};
 ghost use Rattle.pauli.specs.Writing.{told_bytes, left_in};
 ghost use Rattle.pauli_group.specs.Promises.{promise_of};
 ghost use Rattle.pauli_group.specs.WorkArea.{cleared};
 ghost use Rattle.pauli_group.specs.Calls.{paulis, standard_bytes};
 ghost use Rattle.pauli_group.specs.Inner.Groups.{DescriptionCall};
-ghost use Rattle.pauli_group.specs.Answers.{yes_number};
 ghost use Rattle.pauli_group.specs.CallContracts.{StandardCall, RankCall, PhasesCall, AbelianCall, StabilizerCall, SizeCall};
-ghost use Rattle.pauli.specs.Refusals.{told_by, told_of};
+ghost use Rattle.pauli.specs.Refusals.{told_of};
 
 use crate::answers::Phases;
 use crate::area::{STANDARD, WORK_WORDS};
@@ -19,18 +17,19 @@ use crate::group::{Description, describe_once, group_of};
 use crate::promise::Promise;
 use binar::row::clear_bits;
 use pauli::refusal::Refusal;
+use pauli::roll::Roll;
 use pauli::support::Support;
 use pauli::write::write_roll;
 
-// Writes the standard generators of an accepted roll of n Paulis, and clears the work area.
-fn write_standard(b: &[u8], n: usize, w: &mut [u64], out: &mut [u8]) -> Result<usize, Refusal>
-    requires { (count_of b.now ≡ answer n) × (length w.old ≡ 4096) }
-    ensures told { told_of result ≡ told_bytes (answer (standard_bytes (paulis (list_of b.now)))) out.old }
-    ensures left { out.new ≡ left_in (answer (standard_bytes (paulis (list_of b.now)))) out.old }
+// Writes the standard generators of a roll, and clears the work area.
+fn write_standard(roll: Roll, w: &mut [u64], out: &mut [u8]) -> Result<usize, Refusal>
+    requires { length w.old ≡ 4096 }
+    ensures told { told_of result ≡ told_bytes (answer (standard_bytes (paulis (list_of roll.entry.bytes.now)))) out.old }
+    ensures left { out.new ≡ left_in (answer (standard_bytes (paulis (list_of roll.entry.bytes.now)))) out.old }
     ensures area { w.new ≡ cleared w.old }
 {
     let mut known = Support::new();
-    let g = group_of(b, n, &mut known, w);
+    let g = group_of(roll, &mut known, w);
     let wrote = write_roll(w, STANDARD, g.total, known.qubits(), out);
     clear_bits(w, 0, WORK_WORDS);
     wrote
@@ -40,16 +39,16 @@ fn write_standard(b: &[u8], n: usize, w: &mut [u64], out: &mut [u8]) -> Result<u
 pub fn standard_generators(b: &[u8], work: &mut [u64], out: &mut [u8]) -> Result<usize, Refusal>
     ensures { StandardCall b.now work.old out.old result work.new out.new }
 {
-    let n = check_list(b, work.len())?;
-    write_standard(b, n, &mut work[..WORK_WORDS], out)
+    let roll = check_list(b, work.len())?;
+    write_standard(roll, &mut work[..WORK_WORDS], out)
 }
 
 // Describes the group of a list, and clears the work area.
 pub fn describe_list(b: &[u8], promise: Promise, work: &mut [u64]) -> Result<Description, Refusal>
     ensures { DescriptionCall (promise_of promise) b.now work.old result work.new }
 {
-    let n = check_list(b, work.len())?;
-    Ok(describe_once(b, n, promise, &mut work[..WORK_WORDS]))
+    let roll = check_list(b, work.len())?;
+    Ok(describe_once(roll, promise, &mut work[..WORK_WORDS]))
 }
 
 // The rank of a list: the dimension of the space of its rows.

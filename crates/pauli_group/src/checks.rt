@@ -1,61 +1,78 @@
 // What is checked before a call works: its rolls, its numbers and the work area, in this order.
-ghost use Rattle.std.specs.Prelude.{◌≡◌, length};
+ghost use Rattle.std.specs.Prelude.{◌≡◌, length, IfOk};
 ghost use Rattle.pauli.specs.Told.{map_told};
 ghost use Rattle.pauli_group.specs.Calls.{one_list, roll_counts, question_counts, pair_counts, two_lists};
-ghost use Rattle.pauli.specs.JoinAnswers.{counts_in};
-ghost use Rattle.pauli.specs.Refusals.{told_by, told_of};
+ghost use Rattle.pauli.specs.Refusals.{told_by};
 
 use crate::area::WORK_WORDS;
-use pauli::joined::{RollCounts, joined_counts};
+use pauli::joined::Pair;
 use pauli::refusal::{Reason, Refusal};
-use pauli::roll::check_roll;
+use pauli::roll::Roll;
 
-// Checks the roll, then the work area of so many words; tells how many Paulis the roll has.
-pub(crate) fn check_list(b: &[u8], words: usize) -> Result<usize, Refusal>
-    ensures { told_of result ≡ map_told length (one_list b.now words) }
+// Checks the roll, then the work area of so many words.
+pub(crate) fn check_list<'a>(b: &'a [u8], words: usize) -> Result<Roll<'a>, Refusal>
+    ensures count { told_by (λ roll. roll.count) result ≡ map_told length (one_list b.now words) }
+    ensures bytes { IfOk result (λ roll. roll.bytes ≡ b.entry) }
 {
-    let n = check_roll(b)?;
+    let roll = Roll::read(b)?;
     if words < WORK_WORDS {
         return Err(Reason::Work.into());
     }
-    Ok(n)
+    Ok(roll)
 }
 
-// Checks the generators' roll, then the elements' roll; tells how many Paulis each has.
-pub fn check_rolls(b: &[u8], elements: &[u8]) -> Result<RollCounts, Refusal>
-    ensures { told_by counts_in result ≡ roll_counts b.now elements.now }
+// The rolls of a question: the generators, and the elements that are put to their group.
+#[derive(Clone, Copy)]
+pub struct Rolls<'a> {
+    pub generators: Roll<'a>,
+    pub elements: Roll<'a>,
+}
+
+// Checks the generators' roll, then the elements' roll.
+pub fn check_rolls<'a>(generators: &'a [u8], elements: &'a [u8]) -> Result<Rolls<'a>, Refusal>
+    ensures counts { told_by (λ rolls. record { left = rolls.generators.count; right = rolls.elements.count }) result ≡ roll_counts generators.now elements.now }
+    ensures rolls { IfOk result (λ rolls. (rolls.generators.bytes ≡ generators.entry) × (rolls.elements.bytes ≡ elements.entry)) }
 {
-    let left = check_roll(b)?;
-    let right = check_roll(elements)?;
-    Ok(RollCounts { left, right })
+    let generators = Roll::read(generators)?;
+    let elements = Roll::read(elements)?;
+    Ok(Rolls {
+        generators,
+        elements,
+    })
 }
 
 // Checks the generators' roll, the elements' roll, the element's number and the work area of so many words.
-pub(crate) fn check_question(
-    b: &[u8],
-    elements: &[u8],
+pub(crate) fn check_question<'a>(
+    generators: &'a [u8],
+    elements: &'a [u8],
     number: usize,
     words: usize,
-) -> Result<RollCounts, Refusal>
-    ensures { told_by counts_in result ≡ question_counts b.now elements.now number words }
+) -> Result<Rolls<'a>, Refusal>
+    ensures counts { told_by (λ rolls. record { left = rolls.generators.count; right = rolls.elements.count }) result ≡ question_counts generators.now elements.now number words }
+    ensures rolls { IfOk result (λ rolls. (rolls.generators.bytes ≡ generators.entry) × (rolls.elements.bytes ≡ elements.entry)) }
 {
-    let counts = check_rolls(b, elements)?;
-    if number >= counts.right {
+    let rolls = check_rolls(generators, elements)?;
+    if number >= rolls.elements.count {
         return Err(Reason::Number.into());
     }
     if words < WORK_WORDS {
         return Err(Reason::Work.into());
     }
-    Ok(counts)
+    Ok(rolls)
 }
 
-// Checks two rolls, the limits of the joined list and the work area of so many words; tells how many Paulis each roll has.
-pub(crate) fn check_pair(left: &[u8], right: &[u8], words: usize) -> Result<RollCounts, Refusal>
-    ensures { told_by counts_in result ≡ map_told pair_counts (two_lists left.now right.now words) }
+// Checks two rolls, the limits of the joined list and the work area of so many words.
+pub(crate) fn check_pair<'a>(
+    left: &'a [u8],
+    right: &'a [u8],
+    words: usize,
+) -> Result<Pair<'a>, Refusal>
+    ensures counts { told_by (λ pair. record { left = pair.left.count; right = pair.right.count }) result ≡ map_told pair_counts (two_lists left.now right.now words) }
+    ensures rolls { IfOk result (λ pair. (pair.left.bytes ≡ left.entry) × (pair.right.bytes ≡ right.entry)) }
 {
-    let counts = joined_counts(left, right)?;
+    let pair = Pair::read(left, right)?;
     if words < WORK_WORDS {
         return Err(Reason::Work.into());
     }
-    Ok(counts)
+    Ok(pair)
 }

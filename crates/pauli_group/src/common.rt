@@ -1,7 +1,6 @@
 // The call for the common part.
-ghost use Rattle.std.specs.Prelude.{◌≡◌, IfSome, ◌+◌, ◌*◌, ◌^◌, ◌<◌, ◌≤◌, ◌++◌, map, length, take};
-ghost use Rattle.pauli.specs.Roll.{support, count_of, write};
-ghost use Rattle.pauli.specs.Support.{most_qubits, All};
+ghost use Rattle.std.specs.Prelude.{◌≡◌, IfSome, ◌+◌, ◌*◌, ◌^◌, ◌<◌, ◌≤◌, ◌++◌, map, length};
+ghost use Rattle.pauli.specs.Support.{All};
 ghost use Rattle.pauli.specs.Told.{answer};
 ghost use Rattle.pauli.specs.Condense.{list_of};
 ghost use Rattle.pauli.specs.Signed.{held, pauli_in, list_in};
@@ -11,7 +10,7 @@ ghost use Rattle.pauli_theory.specs.Common.{with_exponent as with_exponent_spec,
 ghost use Rattle.pauli_theory.specs.Inner.CommonPlaces.{shared_exponent as shared_exponent_spec, shared_with};
 ghost use Rattle.pauli_group.specs.Inner.Area.{target_at, further_at, stride_of, Outside};
 ghost use Rattle.pauli_group.specs.WorkArea.{cleared};
-ghost use Rattle.pauli_group.specs.Inner.Lists.{Joinable, step_told, found};
+ghost use Rattle.pauli_group.specs.Inner.Lists.{step_told, found};
 ghost use Rattle.pauli_group.specs.Calls.{paulis, list_bytes, common_bytes};
 ghost use Rattle.pauli_group.specs.Promises.{promise_of};
 ghost use Rattle.pauli_group.specs.Answers.{order_of};
@@ -32,7 +31,7 @@ use crate::promise::Promise;
 use crate::scan::put_phase;
 use crate::standard::signs_of;
 use binar::row::clear_bits;
-use pauli::joined::join_support;
+use pauli::joined::{Pair, join_support};
 use pauli::refusal::Refusal;
 use pauli::roll::Roll;
 use pauli::signed::{Pauli, indexed_product, load, store};
@@ -71,16 +70,16 @@ fn note_exponents(w: &mut [u64], m: usize, n: usize, group: Group, own: &[u32], 
     }
 }
 
-// Notes with each of the m Paulis of the further list the exponent by the group of an accepted roll of n Paulis; tells its phases.
-fn note_by(b: &[u8], n: usize, promise: Promise, joint: &[u32], w: &mut [u64], m: usize) -> Phases
-    requires { (count_of b.now ≡ answer n) × (length w.old ≡ 4096) × (m ≤ 128) × (length joint.now ≤ 128) × OnPlaces (length joint.now) (list_in w.old further_at m) × All (MovablePauli joint.now (support_of (paulis (list_of b.now)))) (list_in w.old further_at m) }
-    ensures step { step_told result ≡ phase_step (promise_of promise) (paulis (list_of b.now)) }
-    ensures list { list_in w.new further_at m ≡ map (λ p. noted (exponent_for joint.now (paulis (list_of b.now)) p) p) (list_in w.old further_at m) }
+// Notes with each of the m Paulis of the further list the exponent by the group of a roll; tells its phases.
+fn note_by(roll: Roll, promise: Promise, joint: &[u32], w: &mut [u64], m: usize) -> Phases
+    requires { (length w.old ≡ 4096) × (m ≤ 128) × (length joint.now ≤ 128) × OnPlaces (length joint.now) (list_in w.old further_at m) × All (MovablePauli joint.now (support_of (paulis (list_of roll.bytes.now)))) (list_in w.old further_at m) }
+    ensures step { step_told result ≡ phase_step (promise_of promise) (paulis (list_of roll.entry.bytes.now)) }
+    ensures list { list_in w.new further_at m ≡ map (λ p. noted (exponent_for joint.now (paulis (list_of roll.entry.bytes.now)) p) p) (list_in w.old further_at m) }
 {
     let mut known = Support::new();
-    let group = group_of(b, n, &mut known, w);
+    let group = group_of(roll, &mut known, w);
     let signs = signs_of(w, group.total, promise);
-    note_exponents(w, m, n, group, known.qubits(), joint);
+    note_exponents(w, m, roll.count, group, known.qubits(), joint);
     signs.phases
 }
 
@@ -143,103 +142,76 @@ fn append_phases(w: &mut [u64], n: usize, first: Phases, second: Phases) -> usiz
     total
 }
 
-// Writes the common part of the groups of two accepted rolls that can be joined.
+// Writes the common part of the groups of two rolls that can be joined.
 fn write_part(
-    left: &[u8],
-    nl: usize,
-    right: &[u8],
-    nr: usize,
+    pair: Pair,
     left_promise: Promise,
     right_promise: Promise,
     w: &mut [u64],
     out: &mut [u8],
 ) -> Result<usize, Refusal>
-    requires { Joinable left.now right.now nl nr × (length w.old ≡ 4096) }
-    ensures told { told_of result ≡ told_bytes (answer (list_bytes (common_part (promise_of left_promise) (promise_of right_promise) (paulis (list_of left.now)) (paulis (list_of right.now))))) out.old }
-    ensures left { out.new ≡ left_in (answer (list_bytes (common_part (promise_of left_promise) (promise_of right_promise) (paulis (list_of left.now)) (paulis (list_of right.now))))) out.old }
+    requires { length w.old ≡ 4096 }
+    ensures told { told_of result ≡ told_bytes (answer (list_bytes (common_part (promise_of left_promise) (promise_of right_promise) (paulis (list_of pair.entry.left.bytes.now)) (paulis (list_of pair.entry.right.bytes.now))))) out.old }
+    ensures left { out.new ≡ left_in (answer (list_bytes (common_part (promise_of left_promise) (promise_of right_promise) (paulis (list_of pair.entry.left.bytes.now)) (paulis (list_of pair.entry.right.bytes.now))))) out.old }
 {
-    let first = Roll {
-        bytes: left,
-        count: nl,
-    };
-    let second = Roll {
-        bytes: right,
-        count: nr,
-    };
-    let support = join_support(first, second);
+    let support = join_support(pair.left, pair.right);
     let joint = support.qubits();
-    let m = common_basis(left, nl, right, nr, joint, w);
-    let first = note_by(left, nl, left_promise, joint, w, m);
-    let second = note_by(right, nr, right_promise, joint, w, m);
+    let m = common_basis(pair, joint, w);
+    let first = note_by(pair.left, left_promise, joint, w, m);
+    let second = note_by(pair.right, right_promise, joint, w, m);
     let kept = keep_shared(w, m, first, second);
     let total = append_phases(w, kept, first, second);
     write_roll(w, FURTHER, total, joint, out)
 }
 
-// Writes the Paulis of an accepted roll of n.
-fn write_list(b: &[u8], n: usize, w: &mut [u64], out: &mut [u8]) -> Result<usize, Refusal>
-    requires { (count_of b.now ≡ answer n) × (length w.old ≡ 4096) }
-    ensures told { told_of result ≡ told_bytes (answer (list_bytes (paulis (list_of b.now)))) out.old }
-    ensures left { out.new ≡ left_in (answer (list_bytes (paulis (list_of b.now)))) out.old }
+// Writes the Paulis of a roll.
+fn write_list(roll: Roll, w: &mut [u64], out: &mut [u8]) -> Result<usize, Refusal>
+    requires { length w.old ≡ 4096 }
+    ensures told { told_of result ≡ told_bytes (answer (list_bytes (paulis (list_of roll.entry.bytes.now)))) out.old }
+    ensures left { out.new ≡ left_in (answer (list_bytes (paulis (list_of roll.entry.bytes.now)))) out.old }
 {
     let mut known = Support::new();
-    let group = group_of(b, n, &mut known, w);
-    write_roll(w, LIST, n, known.qubits(), out)
+    let group = group_of(roll, &mut known, w);
+    write_roll(w, LIST, roll.count, known.qubits(), out)
 }
 
 // Writes the lesser list where the order says one, else the common part.
 fn write_lesser(
     order: Option<Ordering>,
-    left: &[u8],
-    nl: usize,
-    right: &[u8],
-    nr: usize,
+    pair: Pair,
     left_promise: Promise,
     right_promise: Promise,
     w: &mut [u64],
     out: &mut [u8],
 ) -> Result<usize, Refusal>
-    requires { Joinable left.now right.now nl nr × (length w.old ≡ 4096) }
-    ensures told { told_of result ≡ told_bytes (answer (list_bytes (lesser (order_of order) (paulis (list_of left.now)) (paulis (list_of right.now)) (common_part (promise_of left_promise) (promise_of right_promise) (paulis (list_of left.now)) (paulis (list_of right.now)))))) out.old }
-    ensures left { out.new ≡ left_in (answer (list_bytes (lesser (order_of order) (paulis (list_of left.now)) (paulis (list_of right.now)) (common_part (promise_of left_promise) (promise_of right_promise) (paulis (list_of left.now)) (paulis (list_of right.now)))))) out.old }
+    requires { length w.old ≡ 4096 }
+    ensures told { told_of result ≡ told_bytes (answer (list_bytes (lesser (order_of order) (paulis (list_of pair.entry.left.bytes.now)) (paulis (list_of pair.entry.right.bytes.now)) (common_part (promise_of left_promise) (promise_of right_promise) (paulis (list_of pair.entry.left.bytes.now)) (paulis (list_of pair.entry.right.bytes.now)))))) out.old }
+    ensures left { out.new ≡ left_in (answer (list_bytes (lesser (order_of order) (paulis (list_of pair.entry.left.bytes.now)) (paulis (list_of pair.entry.right.bytes.now)) (common_part (promise_of left_promise) (promise_of right_promise) (paulis (list_of pair.entry.left.bytes.now)) (paulis (list_of pair.entry.right.bytes.now)))))) out.old }
 {
     match order {
         Some(lesser) => match lesser {
-            Ordering::Equal | Ordering::Less => write_list(left, nl, w, out),
-            Ordering::Greater => write_list(right, nr, w, out),
+            Ordering::Equal | Ordering::Less => write_list(pair.left, w, out),
+            Ordering::Greater => write_list(pair.right, w, out),
         },
-        None => write_part(left, nl, right, nr, left_promise, right_promise, w, out),
+        None => write_part(pair, left_promise, right_promise, w, out),
     }
 }
 
-// Writes the common part of two accepted rolls that can be joined, and clears the work area.
+// Writes the common part of two rolls that can be joined, and clears the work area.
 fn write_common(
-    left: &[u8],
-    nl: usize,
-    right: &[u8],
-    nr: usize,
+    pair: Pair,
     left_promise: Promise,
     right_promise: Promise,
     w: &mut [u64],
     out: &mut [u8],
 ) -> Result<usize, Refusal>
-    requires { Joinable left.now right.now nl nr × (length w.old ≡ 4096) }
-    ensures told { told_of result ≡ told_bytes (answer (common_bytes (promise_of left_promise) (promise_of right_promise) (record { left = paulis (list_of left.entry.now); right = paulis (list_of right.now) }))) out.old }
-    ensures left { out.new ≡ left_in (answer (common_bytes (promise_of left_promise) (promise_of right_promise) (record { left = paulis (list_of left.entry.now); right = paulis (list_of right.now) }))) out.old }
+    requires { length w.old ≡ 4096 }
+    ensures told { told_of result ≡ told_bytes (answer (common_bytes (promise_of left_promise) (promise_of right_promise) (record { left = paulis (list_of pair.entry.left.bytes.now); right = paulis (list_of pair.entry.right.bytes.now) }))) out.old }
+    ensures left { out.new ≡ left_in (answer (common_bytes (promise_of left_promise) (promise_of right_promise) (record { left = paulis (list_of pair.entry.left.bytes.now); right = paulis (list_of pair.entry.right.bytes.now) }))) out.old }
     ensures area { w.new ≡ cleared w.old }
 {
-    let order = order_of(left, nl, right, nr, left_promise, right_promise, w);
-    let wrote = write_lesser(
-        order,
-        left,
-        nl,
-        right,
-        nr,
-        left_promise,
-        right_promise,
-        w,
-        out,
-    );
+    let order = order_of(pair, left_promise, right_promise, w);
+    let wrote = write_lesser(order, pair, left_promise, right_promise, w, out);
     clear_bits(w, 0, WORK_WORDS);
     wrote
 }
@@ -255,12 +227,9 @@ pub fn bitand(
 ) -> Result<usize, Refusal>
     ensures { CommonCall (promise_of left_promise) (promise_of right_promise) left.now right.now work.old out.old result work.new out.new }
 {
-    let counts = check_pair(left, right, work.len())?;
+    let pair = check_pair(left, right, work.len())?;
     write_common(
-        left,
-        counts.left,
-        right,
-        counts.right,
+        pair,
         left_promise,
         right_promise,
         &mut work[..WORK_WORDS],

@@ -1,9 +1,7 @@
 // The call for membership.
 ghost use Rattle.std.specs.Prelude.{◌≡◌, ◌<◌, length, slice_index_or};
 ghost use Rattle.pauli.specs.Condense.{list_of, nothing};
-ghost use Rattle.pauli.specs.Roll.{count_of};
 ghost use Rattle.pauli.specs.Sets.{pauli_of};
-ghost use Rattle.pauli.specs.Told.{answer};
 ghost use Rattle.pauli_theory.specs.Membership.{factorization_of};
 ghost use Rattle.pauli_group.specs.Promises.{promise_of};
 ghost use Rattle.pauli_group.specs.WorkArea.{cleared};
@@ -13,7 +11,7 @@ ghost use Rattle.pauli_group.specs.Inner.Members.{factoring_told};
 
 use crate::answers::Factors;
 use crate::area::WORK_WORDS;
-use crate::checks::check_question;
+use crate::checks::{Rolls, check_question};
 use crate::group::group_of;
 use crate::member::{IndexSet, factor, put_indexes};
 use crate::promise::Promise;
@@ -22,24 +20,24 @@ use binar::row::clear_bits;
 use pauli::refusal::{Reason, Refusal};
 use pauli::support::Support;
 
-// Factors one element by the group of an accepted roll of n, and clears the work area.
-fn factor_once(
-    b: &[u8],
-    n: usize,
-    elements: &[u8],
-    m: usize,
-    number: usize,
-    promise: Promise,
-    w: &mut [u64],
-) -> Option<IndexSet>
-    requires { (count_of b.now ≡ answer n) × (count_of elements.now ≡ answer m) × (number < m) × (length w.old ≡ 4096) }
-    ensures told { factoring_told result ≡ factorization_of (promise_of promise) (paulis (list_of b.now)) (pauli_of (slice_index_or (list_of elements.now) number nothing)) }
+// Factors one element by the group of the generators, and clears the work area.
+fn factor_once(rolls: Rolls, number: usize, promise: Promise, w: &mut [u64]) -> Option<IndexSet>
+    requires { (number < rolls.elements.count) × (length w.old ≡ 4096) }
+    ensures told { factoring_told result ≡ factorization_of (promise_of promise) (paulis (list_of rolls.entry.generators.bytes.now)) (pauli_of (slice_index_or (list_of rolls.entry.elements.bytes.now) number nothing)) }
     ensures area { w.new ≡ cleared w.old }
 {
     let mut known = Support::new();
-    let g = group_of(b, n, &mut known, w);
+    let g = group_of(rolls.generators, &mut known, w);
     let signs = signs_of(w, g.total, promise);
-    let factoring = factor(elements, m, number, known.qubits(), n, g, signs.phases, w);
+    let factoring = factor(
+        rolls.elements,
+        number,
+        known.qubits(),
+        rolls.generators.count,
+        g,
+        signs.phases,
+        w,
+    );
     clear_bits(w, 0, WORK_WORDS);
     factoring
 }
@@ -56,16 +54,8 @@ pub fn indexed_factorization_of(
 ) -> Result<Option<Factors>, Refusal>
     ensures { MemberCall (promise_of promise) b.now elements.now number work.old out.old result work.new out.new }
 {
-    let counts = check_question(b, elements, number, work.len())?;
-    let factoring = factor_once(
-        b,
-        counts.left,
-        elements,
-        counts.right,
-        number,
-        promise,
-        &mut work[..WORK_WORDS],
-    );
+    let rolls = check_question(b, elements, number, work.len())?;
+    let factoring = factor_once(rolls, number, promise, &mut work[..WORK_WORDS]);
     let found = match factoring {
         None => {
             return Ok(None);
@@ -77,7 +67,7 @@ pub fn indexed_factorization_of(
     if out.len() < 2 * count {
         return Err(Reason::Output.into());
     }
-    put_indexes(out, set, counts.left);
+    put_indexes(out, set, rolls.generators.count);
     Ok(Some(Factors {
         count,
         exponent: found.exponent,

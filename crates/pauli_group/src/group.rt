@@ -1,17 +1,14 @@
 // The group of a list: its form and its standard generators in the work area.
-ghost use Rattle.std.specs.Prelude.{◌≡◌, ℕ, ◌+◌, ◌*◌, ◌<◌, ◌≤◌, List, ◌++◌, length};
+ghost use Rattle.std.specs.Prelude.{◌≡◌, ℕ, ◌+◌, ◌*◌, ◌≤◌, List, ◌++◌, length};
 ghost use Rattle.pauli.specs.Condense.{list_of};
-ghost use Rattle.pauli.specs.Roll.{support, count_of};
 ghost use Rattle.pauli.specs.Pauli.{Pauli};
 ghost use Rattle.pauli.specs.Signed.{list_in};
-ghost use Rattle.pauli.specs.Told.{answer};
 ghost use Rattle.pauli.specs.Writing.{OnPlaces};
 ghost use Rattle.pauli_theory.specs.Group.{none};
 ghost use Rattle.pauli_group.specs.Promises.{promise_of};
 ghost use Rattle.pauli_group.specs.Inner.Area.{list_at, standard_at, further_at, Outside};
 ghost use Rattle.pauli_group.specs.WorkArea.{cleared};
 ghost use Rattle.pauli_group.specs.Inner.Groups.{Built, Grouped, facts_in, facts_of};
-ghost use Rattle.pauli_group.specs.Inner.Lists.{Joinable};
 ghost use Rattle.pauli_group.specs.Calls.{paulis};
 
 use crate::area::{LIST, STANDARD, WORK_WORDS};
@@ -20,7 +17,7 @@ use crate::list::read_list;
 use crate::promise::Promise;
 use crate::standard::{Signs, signs_of, standardize};
 use binar::row::clear_bits;
-use pauli::joined::join_support;
+use pauli::joined::{Pair, join_support};
 use pauli::roll::Roll;
 use pauli::support::Support;
 
@@ -55,45 +52,29 @@ fn build(w: &mut [u64], n: usize, s: usize) -> Group
     }
 }
 
-// Reads an accepted roll of n Paulis, and builds its group.
-pub fn group_of(b: &[u8], n: usize, known: &mut Support, w: &mut [u64]) -> Group
-    requires { (count_of b.now ≡ answer n) × (length w.old ≡ 4096) }
-    ensures group { Grouped (paulis (list_of b.now)) known.new w.new result.places result.rank result.total }
+// Reads a roll, and builds its group.
+pub fn group_of(roll: Roll, known: &mut Support, w: &mut [u64]) -> Group
+    requires { length w.old ≡ 4096 }
+    ensures group { Grouped (paulis (list_of roll.entry.bytes.now)) known.new w.new result.places result.rank result.total }
     ensures rest { Outside 0 further_at w.old w.new }
 {
-    let roll = Roll { bytes: b, count: n };
     *known = Support::new();
     roll.gather(known);
     let qubits = known.qubits();
     read_list(roll, qubits, w, LIST);
-    build(w, n, qubits.len())
+    build(w, roll.count, qubits.len())
 }
 
-// Reads two accepted rolls of nl and nr Paulis, which can be joined, one after the other, and builds the group of the joined list.
-fn group_of_two(
-    left: &[u8],
-    nl: usize,
-    right: &[u8],
-    nr: usize,
-    known: &mut Support,
-    w: &mut [u64],
-) -> Group
-    requires { Joinable left.now right.now nl nr × (length w.old ≡ 4096) }
-    ensures { Grouped (paulis (list_of left.now ++ list_of right.now)) known.new w.new result.places result.rank result.total }
+// Reads two rolls that can be joined, one after the other, and builds the group of the joined list.
+fn group_of_two(pair: Pair, known: &mut Support, w: &mut [u64]) -> Group
+    requires { length w.old ≡ 4096 }
+    ensures { Grouped (paulis (list_of pair.entry.left.bytes.now ++ list_of pair.entry.right.bytes.now)) known.new w.new result.places result.rank result.total }
 {
-    let first = Roll {
-        bytes: left,
-        count: nl,
-    };
-    let second = Roll {
-        bytes: right,
-        count: nr,
-    };
-    *known = join_support(first, second);
+    *known = join_support(pair.left, pair.right);
     let qubits = known.qubits();
-    read_list(first, qubits, w, LIST);
-    read_list(second, qubits, w, LIST + 5 * nl);
-    build(w, nl + nr, qubits.len())
+    read_list(pair.left, qubits, w, LIST);
+    read_list(pair.right, qubits, w, LIST + 5 * pair.left.count);
+    build(w, pair.left.count + pair.right.count, qubits.len())
 }
 
 // What the calls tell of the group of a list, which is in the work area.
@@ -107,39 +88,33 @@ fn describe_group(group: Group, promise: Promise, w: &[u64]) -> Description
     }
 }
 
-// What the calls tell of the group of an accepted roll of n Paulis.
-pub(crate) fn describe(b: &[u8], n: usize, promise: Promise, w: &mut [u64]) -> Description
-    requires { (count_of b.now ≡ answer n) × (length w.old ≡ 4096) }
-    ensures { facts_in result ≡ facts_of (promise_of promise) (paulis (list_of b.now)) }
+// What the calls tell of the group of a roll.
+pub(crate) fn describe(roll: Roll, promise: Promise, w: &mut [u64]) -> Description
+    requires { length w.old ≡ 4096 }
+    ensures { facts_in result ≡ facts_of (promise_of promise) (paulis (list_of roll.entry.bytes.now)) }
 {
     let mut known = Support::new();
-    let g = group_of(b, n, &mut known, w);
+    let g = group_of(roll, &mut known, w);
     describe_group(g, promise, w)
 }
 
-// What the calls tell of the group of two accepted rolls joined, without promise.
-pub(crate) fn describe_two(
-    left: &[u8],
-    nl: usize,
-    right: &[u8],
-    nr: usize,
-    w: &mut [u64],
-) -> Description
-    requires { Joinable left.now right.now nl nr × (length w.old ≡ 4096) }
-    ensures { facts_in result ≡ facts_of none (paulis (list_of left.now ++ list_of right.now)) }
+// What the calls tell of the group of two rolls joined, without promise.
+pub(crate) fn describe_two(pair: Pair, w: &mut [u64]) -> Description
+    requires { length w.old ≡ 4096 }
+    ensures { facts_in result ≡ facts_of none (paulis (list_of pair.entry.left.bytes.now ++ list_of pair.entry.right.bytes.now)) }
 {
     let mut known = Support::new();
-    let g = group_of_two(left, nl, right, nr, &mut known, w);
+    let g = group_of_two(pair, &mut known, w);
     describe_group(g, Promise::None, w)
 }
 
 // Describes the group, and clears the work area.
-pub(crate) fn describe_once(b: &[u8], n: usize, promise: Promise, w: &mut [u64]) -> Description
-    requires { (count_of b.now ≡ answer n) × (length w.old ≡ 4096) }
-    ensures told { facts_in result ≡ facts_of (promise_of promise) (paulis (list_of b.now)) }
+pub(crate) fn describe_once(roll: Roll, promise: Promise, w: &mut [u64]) -> Description
+    requires { length w.old ≡ 4096 }
+    ensures told { facts_in result ≡ facts_of (promise_of promise) (paulis (list_of roll.entry.bytes.now)) }
     ensures area { w.new ≡ cleared w.old }
 {
-    let d = describe(b, n, promise, w);
+    let d = describe(roll, promise, w);
     clear_bits(w, 0, WORK_WORDS);
     d
 }

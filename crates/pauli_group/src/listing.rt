@@ -1,7 +1,6 @@
 // The call for the listing of a group's elements.
 ghost use Rattle.std.specs.Prelude.{◌≡◌, ◌+◌, ◌-◌, ◌*◌, ◌/◌, ◌^◌, ◌<◌, ◌≤◌, min, length, nat_lt};
 ghost use Rattle.pauli.specs.Condense.{list_of};
-ghost use Rattle.pauli.specs.Roll.{count_of};
 ghost use Rattle.pauli.specs.Signed.{list_in};
 ghost use Rattle.pauli.specs.PlaceSet.{set_in};
 ghost use Rattle.pauli.specs.Told.{answer, refuse_if};
@@ -26,6 +25,7 @@ use crate::standard::signs_of;
 use binar::row::clear_bits;
 use pauli::places::Places;
 use pauli::refusal::{Reason, Refusal};
+use pauli::roll::Roll;
 use pauli::signed::{Pauli, indexed_product, store};
 use pauli::support::Support;
 use pauli::write::write_roll;
@@ -192,23 +192,22 @@ pub fn page_elements(rank: usize, step: u64, start: u32, count: u32) -> usize
     page_length(total, start as u64, page_size(count as usize))
 }
 
-// Writes a page of the group of an accepted roll of n Paulis, and clears the work area.
+// Writes a page of the group of a roll, and clears the work area.
 fn write_page(
-    b: &[u8],
-    n: usize,
+    roll: Roll,
     promise: Promise,
     start: u32,
     count: u32,
     w: &mut [u64],
     out: &mut [u8],
 ) -> Result<usize, Refusal>
-    requires { (count_of b.now ≡ answer n) × (length w.old ≡ 4096) }
-    ensures told { told_of result ≡ told_bytes (refuse_if (nat_lt most_listed (rank (paulis (list_of b.now)))) 10 0 (answer (page_bytes (promise_of promise) start count (paulis (list_of b.now))))) out.old }
-    ensures left { out.new ≡ left_in (refuse_if (nat_lt most_listed (rank (paulis (list_of b.now)))) 10 0 (answer (page_bytes (promise_of promise) start count (paulis (list_of b.now))))) out.old }
+    requires { length w.old ≡ 4096 }
+    ensures told { told_of result ≡ told_bytes (refuse_if (nat_lt most_listed (rank (paulis (list_of roll.entry.bytes.now)))) 10 0 (answer (page_bytes (promise_of promise) start count (paulis (list_of roll.entry.bytes.now))))) out.old }
+    ensures left { out.new ≡ left_in (refuse_if (nat_lt most_listed (rank (paulis (list_of roll.entry.bytes.now)))) 10 0 (answer (page_bytes (promise_of promise) start count (paulis (list_of roll.entry.bytes.now))))) out.old }
     ensures area { w.new ≡ cleared w.old }
 {
     let mut known = Support::new();
-    let g = group_of(b, n, &mut known, w);
+    let g = group_of(roll, &mut known, w);
     if g.rank > MOST_LISTED {
         clear_bits(w, 0, WORK_WORDS);
         return Err(Reason::Listing.into());
@@ -233,6 +232,6 @@ pub fn elements(
 ) -> Result<usize, Refusal>
     ensures { ElementsCall (promise_of promise) start count b.now work.old out.old result work.new out.new }
 {
-    let n = check_list(b, work.len())?;
-    write_page(b, n, promise, start, count, &mut work[..WORK_WORDS], out)
+    let roll = check_list(b, work.len())?;
+    write_page(roll, promise, start, count, &mut work[..WORK_WORDS], out)
 }

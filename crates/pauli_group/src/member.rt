@@ -5,12 +5,10 @@ ghost use Rattle.binar.specs.Row.{weight};
 ghost use Rattle.binar.specs.Solve.{transpose_solve as transpose_solve_spec};
 ghost use Rattle.pauli.specs.Bytes.{numbers_at};
 ghost use Rattle.pauli.specs.Condense.{list_of, nothing};
-ghost use Rattle.pauli.specs.Roll.{count_of};
 ghost use Rattle.pauli.specs.Support.{Rising};
 ghost use Rattle.pauli.specs.Sets.{members, pauli_of};
 ghost use Rattle.pauli.specs.Signed.{held};
 ghost use Rattle.pauli.specs.PlaceSet.{set_in};
-ghost use Rattle.pauli.specs.Told.{answer};
 ghost use Rattle.pauli.specs.Writing.{put_bytes};
 ghost use Rattle.pauli_theory.specs.Membership.{factorization_of};
 ghost use Rattle.pauli_group.specs.Inner.Area.{target_at, row_words, stride_of, Outside};
@@ -29,7 +27,7 @@ use binar::row::clear_bits;
 use pauli::bytes::u32_at;
 use pauli::condense::condense_from;
 use pauli::places::Places;
-use pauli::roll::{Roll, entry_at};
+use pauli::roll::Roll;
 use pauli::signed::{Pauli, indexed_product};
 use pauli::support::{Place, Qubit, place_from, qubit_at, walk_start};
 use pauli::write::put_u16;
@@ -65,13 +63,18 @@ fn covers(b: &[u8], at: usize, total: usize, support: &[u32]) -> bool
     true
 }
 
-// Whether the qubits of Pauli i of an accepted roll of n are all in the support.
-fn is_supported(b: &[u8], n: usize, i: usize, support: &[u32]) -> bool
-    requires { (count_of b.now ≡ answer n) × (i < n) × Rising 0 support.now }
-    ensures { result ≡ covered support.now ((get_or (list_of b.now) i nothing).xs ++ (get_or (list_of b.now) i nothing).zs) }
+// Whether the qubits of Pauli i of a roll are all in the support.
+fn is_supported(roll: Roll, i: usize, support: &[u32]) -> bool
+    requires { (i < roll.count) × Rising 0 support.now }
+    ensures { result ≡ covered support.now ((get_or (list_of roll.entry.bytes.now) i nothing).xs ++ (get_or (list_of roll.entry.bytes.now) i nothing).zs) }
 {
-    let e = entry_at(b, i);
-    covers(b, 2 + 10 * n + 4 * e.start, e.xcount + e.zcount, support)
+    let e = roll.entry(i);
+    covers(
+        roll.bytes,
+        2 + 10 * roll.count + 4 * e.start,
+        e.xcount + e.zcount,
+        support,
+    )
 }
 
 // Finds the generators whose rows add up to that of p, by the form of n rows over s places.
@@ -95,10 +98,9 @@ pub(crate) fn solve(w: &mut [u64], n: usize, s: usize, rank: usize, p: Pauli) ->
     }
 }
 
-// Factors Pauli i of an accepted roll of m by the group of a list of n that is in the work area, which has these phases.
+// Factors Pauli i of a roll by the group of a list of n that is in the work area, which has these phases.
 pub fn factor(
-    b: &[u8],
-    m: usize,
+    roll: Roll,
     i: usize,
     known: &[u32],
     n: usize,
@@ -106,15 +108,14 @@ pub fn factor(
     phases: Phases,
     w: &mut [u64],
 ) -> Option<IndexSet>
-    requires { (count_of b.now ≡ answer m) × (i < m) × (n ≤ 128) × (length w.old ≡ 4096) × (group.places ≤ 128) × Asked known.now w.old n group.places group.rank group.total (step_told phases) }
-    ensures told { (g : Asked known.now w.old n group.places group.rank group.total (step_told phases)) → factoring_told result ≡ factorization_of g.promise g.list (pauli_of (slice_index_or (list_of b.now) i nothing)) }
+    requires { (i < roll.count) × (n ≤ 128) × (length w.old ≡ 4096) × (group.places ≤ 128) × Asked known.now w.old n group.places group.rank group.total (step_told phases) }
+    ensures told { (g : Asked known.now w.old n group.places group.rank group.total (step_told phases)) → factoring_told result ≡ factorization_of g.promise g.list (pauli_of (slice_index_or (list_of roll.entry.bytes.now) i nothing)) }
     ensures rest { Outside target_at (stride_of n) w.old w.new }
 {
     let places = group.places;
-    if !is_supported(b, m, i, known) {
+    if !is_supported(roll, i, known) {
         return None;
     }
-    let roll = Roll { bytes: b, count: m };
     let p = condense_from(roll, i, known);
     let set = solve(w, n, places, group.rank, p)?;
     let product = indexed_product(w, LIST, n, set);

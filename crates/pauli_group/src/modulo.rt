@@ -1,7 +1,6 @@
 // The call for the remainder of a list by another.
-ghost use Rattle.std.specs.Prelude.{◌≡◌, ◌+◌, ◌*◌, ◌^◌, ◌<◌, ◌≤◌, ◌++◌, map, length};
-ghost use Rattle.pauli.specs.Roll.{support, count_of};
-ghost use Rattle.pauli.specs.Support.{most_qubits, All};
+ghost use Rattle.std.specs.Prelude.{◌≡◌, ◌+◌, ◌*◌, ◌<◌, ◌≤◌, ◌++◌, map, length};
+ghost use Rattle.pauli.specs.Support.{All};
 ghost use Rattle.pauli.specs.Told.{answer};
 ghost use Rattle.pauli.specs.Condense.{list_of};
 ghost use Rattle.pauli.specs.Pauli.{normal};
@@ -12,7 +11,6 @@ ghost use Rattle.pauli_theory.specs.Inner.ModuloPlaces.{multiplied_at};
 ghost use Rattle.pauli_theory.specs.Standard.{support_of};
 ghost use Rattle.pauli_group.specs.Inner.Area.{further_at, Outside};
 ghost use Rattle.pauli_group.specs.WorkArea.{cleared};
-ghost use Rattle.pauli_group.specs.Inner.Lists.{Joinable};
 ghost use Rattle.pauli_group.specs.Calls.{paulis, list_bytes};
 ghost use Rattle.pauli_group.specs.Promises.{promise_of};
 ghost use Rattle.pauli_group.specs.CallContracts.{ModuloCall};
@@ -28,9 +26,8 @@ use crate::promise::Promise;
 use crate::scan::take_mod;
 use crate::standard::signs_of;
 use binar::row::clear_bits;
-use pauli::joined::join_support;
+use pauli::joined::{Pair, join_support};
 use pauli::refusal::Refusal;
-use pauli::roll::Roll;
 use pauli::signed::{Pauli, load, store};
 use pauli::support::{Place, Support, place_of, qubit_at};
 use pauli::write::write_roll;
@@ -82,55 +79,36 @@ fn multiply_all(w: &mut [u64], m: usize, n: usize, group: Group, own: &[u32], jo
 
 // Leaves the remainder of the left list by the right one in the further list, over the places of the joined support; tells how many
 // Paulis it has.
-fn remainder(
-    left: &[u8],
-    nl: usize,
-    right: &[u8],
-    nr: usize,
-    promise: Promise,
-    joined: &[u32],
-    w: &mut [u64],
-) -> usize
-    requires { (count_of left.now ≡ answer nl) × (count_of right.now ≡ answer nr) × (length joined.now ≤ 128) × (joined.now ≡ support_of (paulis (list_of left.now) ++ paulis (list_of right.now))) × (length w.old ≡ 4096) }
-    ensures { Remainder (promise_of promise) (paulis (list_of left.now)) (paulis (list_of right.now)) w.new result }
+fn remainder(pair: Pair, promise: Promise, joined: &[u32], w: &mut [u64]) -> usize
+    requires { (length joined.now ≤ 128) × (joined.now ≡ support_of (paulis (list_of pair.left.bytes.now) ++ paulis (list_of pair.right.bytes.now))) × (length w.old ≡ 4096) }
+    ensures { Remainder (promise_of promise) (paulis (list_of pair.entry.left.bytes.now)) (paulis (list_of pair.entry.right.bytes.now)) w.new result }
 {
     let mut own = Support::new();
-    let a = group_of(left, nl, &mut own, w);
+    let a = group_of(pair.left, &mut own, w);
     move_list(w, STANDARD, FURTHER, a.total, own.qubits(), joined);
     let mut other = Support::new();
-    let b = group_of(right, nr, &mut other, w);
+    let b = group_of(pair.right, &mut other, w);
     let signs = signs_of(w, b.total, promise);
-    multiply_all(w, a.total, nr, b, other.qubits(), joined);
+    multiply_all(w, a.total, pair.right.count, b, other.qubits(), joined);
     take_mod(w, FURTHER, a.total, signs.phases.step());
     a.total
 }
 
-// Writes the remainder of two accepted rolls of nl and nr Paulis, which can be joined, and clears the work area.
+// Writes the remainder of two rolls that can be joined, and clears the work area.
 pub(crate) fn write_modulo(
-    left: &[u8],
-    nl: usize,
-    right: &[u8],
-    nr: usize,
+    pair: Pair,
     promise: Promise,
     w: &mut [u64],
     out: &mut [u8],
 ) -> Result<usize, Refusal>
-    requires { Joinable left.now right.now nl nr × (length w.old ≡ 4096) }
-    ensures told { told_of result ≡ told_bytes (answer (list_bytes (modulo (promise_of promise) (paulis (list_of left.now)) (paulis (list_of right.now))))) out.old }
-    ensures left { out.new ≡ left_in (answer (list_bytes (modulo (promise_of promise) (paulis (list_of left.now)) (paulis (list_of right.now))))) out.old }
+    requires { length w.old ≡ 4096 }
+    ensures told { told_of result ≡ told_bytes (answer (list_bytes (modulo (promise_of promise) (paulis (list_of pair.entry.left.bytes.now)) (paulis (list_of pair.entry.right.bytes.now))))) out.old }
+    ensures left { out.new ≡ left_in (answer (list_bytes (modulo (promise_of promise) (paulis (list_of pair.entry.left.bytes.now)) (paulis (list_of pair.entry.right.bytes.now))))) out.old }
     ensures area { w.new ≡ cleared w.old }
 {
-    let first = Roll {
-        bytes: left,
-        count: nl,
-    };
-    let second = Roll {
-        bytes: right,
-        count: nr,
-    };
-    let support = join_support(first, second);
+    let support = join_support(pair.left, pair.right);
     let joined = support.qubits();
-    let count = remainder(left, nl, right, nr, promise, joined, w);
+    let count = remainder(pair, promise, joined, w);
     let wrote = write_roll(w, FURTHER, count, joined, out);
     clear_bits(w, 0, WORK_WORDS);
     wrote
@@ -147,14 +125,6 @@ pub fn modulo(
 ) -> Result<usize, Refusal>
     ensures { ModuloCall (promise_of right_promise) left.now right.now work.old out.old result work.new out.new }
 {
-    let counts = check_pair(left, right, work.len())?;
-    write_modulo(
-        left,
-        counts.left,
-        right,
-        counts.right,
-        right_promise,
-        &mut work[..WORK_WORDS],
-        out,
-    )
+    let pair = check_pair(left, right, work.len())?;
+    write_modulo(pair, right_promise, &mut work[..WORK_WORDS], out)
 }

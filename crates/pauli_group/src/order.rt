@@ -1,14 +1,11 @@
 // The call for comparison.
-ghost use Rattle.std.specs.Prelude.{◌≡◌, ◌+◌, ◌/◌, ◌<◌, ◌≤◌, ◌++◌, length};
+ghost use Rattle.std.specs.Prelude.{◌≡◌, ◌/◌, ◌<◌, length};
 ghost use Rattle.pauli.specs.Condense.{list_of};
-ghost use Rattle.pauli.specs.Roll.{support, count_of};
-ghost use Rattle.pauli.specs.Support.{most_qubits};
-ghost use Rattle.pauli.specs.Told.{answer};
 ghost use Rattle.pauli_theory.specs.Order.{partial_cmp, no_more};
 ghost use Rattle.pauli_group.specs.Promises.{promise_of};
 ghost use Rattle.pauli_group.specs.Answers.{order_of};
 ghost use Rattle.pauli_group.specs.WorkArea.{cleared};
-ghost use Rattle.pauli_group.specs.Inner.Lists.{Joinable, step_told};
+ghost use Rattle.pauli_group.specs.Inner.Lists.{step_told};
 ghost use Rattle.pauli_group.specs.Calls.{paulis};
 ghost use Rattle.pauli_group.specs.Inner.Compare.{ranks_in, order_by};
 ghost use Rattle.pauli_group.specs.CallContracts.{OrderCall};
@@ -18,6 +15,7 @@ use crate::checks::check_pair;
 use crate::group::{Description, describe, describe_two};
 use crate::promise::Promise;
 use binar::row::clear_bits;
+use pauli::joined::Pair;
 use pauli::refusal::Refusal;
 use std::cmp::Ordering;
 
@@ -62,40 +60,34 @@ fn order_by(a: GroupRanks, b: GroupRanks, both: GroupRanks) -> Option<Ordering>
     None
 }
 
-// How the groups of two accepted rolls of nl and nr Paulis, which can be joined, compare.
+// How the groups of two rolls that can be joined compare.
 pub(crate) fn order_of(
-    left: &[u8],
-    nl: usize,
-    right: &[u8],
-    nr: usize,
+    pair: Pair,
     left_promise: Promise,
     right_promise: Promise,
     w: &mut [u64],
 ) -> Option<Ordering>
-    requires { Joinable left.now right.now nl nr × (length w.old ≡ 4096) }
-    ensures { order_of result ≡ partial_cmp (promise_of left_promise) (promise_of right_promise) (paulis (list_of left.now)) (paulis (list_of right.now)) }
+    requires { length w.old ≡ 4096 }
+    ensures { order_of result ≡ partial_cmp (promise_of left_promise) (promise_of right_promise) (paulis (list_of pair.entry.left.bytes.now)) (paulis (list_of pair.entry.right.bytes.now)) }
 {
-    let a = describe(left, nl, left_promise, w);
-    let b = describe(right, nr, right_promise, w);
-    let both = describe_two(left, nl, right, nr, w);
+    let a = describe(pair.left, left_promise, w);
+    let b = describe(pair.right, right_promise, w);
+    let both = describe_two(pair, w);
     order_by(ranks_of(a), ranks_of(b), ranks_of(both))
 }
 
-// Compares the groups of two accepted rolls that can be joined, and clears the work area.
+// Compares the groups of two rolls that can be joined, and clears the work area.
 fn compare(
-    left: &[u8],
-    nl: usize,
-    right: &[u8],
-    nr: usize,
+    pair: Pair,
     left_promise: Promise,
     right_promise: Promise,
     w: &mut [u64],
 ) -> Option<Ordering>
-    requires { Joinable left.now right.now nl nr × (length w.old ≡ 4096) }
-    ensures told { order_of result ≡ partial_cmp (promise_of left_promise) (promise_of right_promise) (paulis (list_of left.now)) (paulis (list_of right.now)) }
+    requires { length w.old ≡ 4096 }
+    ensures told { order_of result ≡ partial_cmp (promise_of left_promise) (promise_of right_promise) (paulis (list_of pair.entry.left.bytes.now)) (paulis (list_of pair.entry.right.bytes.now)) }
     ensures area { w.new ≡ cleared w.old }
 {
-    let order = order_of(left, nl, right, nr, left_promise, right_promise, w);
+    let order = order_of(pair, left_promise, right_promise, w);
     clear_bits(w, 0, WORK_WORDS);
     order
 }
@@ -110,15 +102,7 @@ pub fn partial_cmp(
 ) -> Result<Option<Ordering>, Refusal>
     ensures { OrderCall (promise_of left_promise) (promise_of right_promise) left.now right.now work.old result work.new }
 {
-    let counts = check_pair(left, right, work.len())?;
-    let order = compare(
-        left,
-        counts.left,
-        right,
-        counts.right,
-        left_promise,
-        right_promise,
-        &mut work[..WORK_WORDS],
-    );
+    let pair = check_pair(left, right, work.len())?;
+    let order = compare(pair, left_promise, right_promise, &mut work[..WORK_WORDS]);
     Ok(order)
 }

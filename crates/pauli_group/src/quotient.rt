@@ -1,13 +1,9 @@
 // The call for the quotient of a list by another.
-ghost use Rattle.std.specs.Prelude.{◌≡◌, ◌+◌, ◌≤◌, ◌++◌, length};
-ghost use Rattle.pauli.specs.Roll.{support, count_of};
-ghost use Rattle.pauli.specs.Support.{most_qubits};
-ghost use Rattle.pauli.specs.Told.{answer};
+ghost use Rattle.std.specs.Prelude.{◌≡◌, length};
 ghost use Rattle.pauli.specs.Condense.{list_of};
 ghost use Rattle.pauli.specs.Writing.{told_bytes, left_in};
 ghost use Rattle.pauli_theory.specs.Modulo.{try_quotient as try_quotient_spec};
 ghost use Rattle.pauli_group.specs.WorkArea.{cleared};
-ghost use Rattle.pauli_group.specs.Inner.Lists.{Joinable};
 ghost use Rattle.pauli_group.specs.Calls.{paulis, quotient_bytes};
 ghost use Rattle.pauli_group.specs.Promises.{promise_of};
 ghost use Rattle.pauli_group.specs.Answers.{order_of};
@@ -21,6 +17,7 @@ use crate::modulo::write_modulo;
 use crate::order::order_of;
 use crate::promise::Promise;
 use binar::row::clear_bits;
+use pauli::joined::Pair;
 use pauli::refusal::{Reason, Refusal};
 use std::cmp::Ordering;
 
@@ -31,29 +28,29 @@ fn is_below(order: Option<Ordering>) -> bool
     matches!(order, Some(Ordering::Equal | Ordering::Less))
 }
 
-// Writes the quotient of two accepted rolls of nl and nr Paulis, which can be joined, if the right group is inside the left one, and
-// clears the work area.
+// Writes the quotient of two rolls that can be joined, if the right group is inside the left one, and clears the work area.
 fn write_quotient(
-    left: &[u8],
-    nl: usize,
-    right: &[u8],
-    nr: usize,
+    pair: Pair,
     left_promise: Promise,
     right_promise: Promise,
     w: &mut [u64],
     out: &mut [u8],
 ) -> Result<usize, Refusal>
-    requires { Joinable left.now right.now nl nr × (length w.old ≡ 4096) }
-    ensures told { told_of result ≡ told_bytes (quotient_bytes (try_quotient_spec (promise_of left_promise) (promise_of right_promise) (paulis (list_of left.now)) (paulis (list_of right.now)))) out.old }
-    ensures left { out.new ≡ left_in (quotient_bytes (try_quotient_spec (promise_of left_promise) (promise_of right_promise) (paulis (list_of left.now)) (paulis (list_of right.now)))) out.old }
+    requires { length w.old ≡ 4096 }
+    ensures told { told_of result ≡ told_bytes (quotient_bytes (try_quotient_spec (promise_of left_promise) (promise_of right_promise) (paulis (list_of pair.entry.left.bytes.now)) (paulis (list_of pair.entry.right.bytes.now)))) out.old }
+    ensures left { out.new ≡ left_in (quotient_bytes (try_quotient_spec (promise_of left_promise) (promise_of right_promise) (paulis (list_of pair.entry.left.bytes.now)) (paulis (list_of pair.entry.right.bytes.now)))) out.old }
     ensures area { w.new ≡ cleared w.old }
 {
-    let order = order_of(right, nr, left, nl, right_promise, left_promise, w);
+    let swapped = Pair {
+        left: pair.right,
+        right: pair.left,
+    };
+    let order = order_of(swapped, right_promise, left_promise, w);
     if !is_below(order) {
         clear_bits(w, 0, WORK_WORDS);
         return Err(Reason::Subgroup.into());
     }
-    write_modulo(left, nl, right, nr, right_promise, w, out)
+    write_modulo(pair, right_promise, w, out)
 }
 
 // The quotient of the left list by the right one, the divisor. Each list may have a promise.
@@ -67,12 +64,9 @@ pub fn try_quotient(
 ) -> Result<usize, Refusal>
     ensures { QuotientCall (promise_of left_promise) (promise_of right_promise) left.now right.now work.old out.old result work.new out.new }
 {
-    let counts = check_pair(left, right, work.len())?;
+    let pair = check_pair(left, right, work.len())?;
     write_quotient(
-        left,
-        counts.left,
-        right,
-        counts.right,
+        pair,
         left_promise,
         right_promise,
         &mut work[..WORK_WORDS],

@@ -2,12 +2,11 @@
 ghost use Rattle.std.specs.Prelude.{◌≡◌, IfSome, ◌+◌, ◌-◌, ◌*◌, ◌<◌, ◌≤◌, map, length};
 ghost use Rattle.pauli.specs.Condense.{list_of};
 ghost use Rattle.pauli.specs.Pauli.{normal};
-ghost use Rattle.pauli.specs.Roll.{count_of};
 ghost use Rattle.pauli.specs.Signed.{held, list_in};
 ghost use Rattle.pauli.specs.Told.{answer};
 ghost use Rattle.pauli.specs.Writing.{told_bytes, left_in};
-ghost use Rattle.pauli_theory.specs.Symplectic.{position, times_if as times_if_spec, cleared as cleared_by, on_position, symplectic_form};
-ghost use Rattle.pauli_group.specs.Inner.Area.{list_at, standard_at, further_at, Outside};
+ghost use Rattle.pauli_theory.specs.Symplectic.{position, times_if as times_if_spec, cleared as cleared_by, symplectic_form};
+ghost use Rattle.pauli_group.specs.Inner.Area.{list_at, standard_at, Outside};
 ghost use Rattle.pauli_group.specs.WorkArea.{cleared};
 ghost use Rattle.pauli_group.specs.Calls.{paulis, symplectic_bytes};
 ghost use Rattle.pauli_group.specs.CallContracts.{SymplecticCall};
@@ -132,20 +131,19 @@ fn pair_up(w: &mut [u64], n: usize)
     copy_list(w, FURTHER, p.commuting, STANDARD + 5 * p.conjugate);
 }
 
-// Writes the paired list of an accepted roll of n Paulis, and clears the work area.
-fn write_symplectic(b: &[u8], n: usize, w: &mut [u64], out: &mut [u8]) -> Result<usize, Refusal>
-    requires { (count_of b.now ≡ answer n) × (length w.old ≡ 4096) }
-    ensures told { told_of result ≡ told_bytes (answer (symplectic_bytes (paulis (list_of b.now)))) out.old }
-    ensures left { out.new ≡ left_in (answer (symplectic_bytes (paulis (list_of b.now)))) out.old }
+// Writes the paired list of a roll, and clears the work area.
+fn write_symplectic(roll: Roll, w: &mut [u64], out: &mut [u8]) -> Result<usize, Refusal>
+    requires { length w.old ≡ 4096 }
+    ensures told { told_of result ≡ told_bytes (answer (symplectic_bytes (paulis (list_of roll.entry.bytes.now)))) out.old }
+    ensures left { out.new ≡ left_in (answer (symplectic_bytes (paulis (list_of roll.entry.bytes.now)))) out.old }
     ensures area { w.new ≡ cleared w.old }
 {
-    let roll = Roll { bytes: b, count: n };
     let mut known = Support::new();
     roll.gather(&mut known);
     let qubits = known.qubits();
     read_list(roll, qubits, w, LIST);
-    pair_up(w, n);
-    let wrote = write_roll(w, STANDARD, n, qubits, out);
+    pair_up(w, roll.count);
+    let wrote = write_roll(w, STANDARD, roll.count, qubits, out);
     clear_bits(w, 0, WORK_WORDS);
     wrote
 }
@@ -154,6 +152,6 @@ fn write_symplectic(b: &[u8], n: usize, w: &mut [u64], out: &mut [u8]) -> Result
 pub fn symplectic_form_of(b: &[u8], work: &mut [u64], out: &mut [u8]) -> Result<usize, Refusal>
     ensures { SymplecticCall b.now work.old out.old result work.new out.new }
 {
-    let n = check_list(b, work.len())?;
-    write_symplectic(b, n, &mut work[..WORK_WORDS], out)
+    let roll = check_list(b, work.len())?;
+    write_symplectic(roll, &mut work[..WORK_WORDS], out)
 }

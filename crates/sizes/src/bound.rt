@@ -1,20 +1,17 @@
 // The call for the bound on standard generators.
 ghost use Rattle.std.specs.Prelude.{◌≡◌, ◌+◌, ◌*◌, ◌≤◌, max, length};
 ghost use Rattle.pauli.specs.Condense.{list_of};
-ghost use Rattle.pauli.specs.Roll.{support, count_of};
-ghost use Rattle.pauli.specs.Told.{answer};
+ghost use Rattle.pauli.specs.Roll.{support};
 ghost use Rattle.sizes.specs.SizeContracts.{StandardBoundCall};
 
 use pauli::refusal::Refusal;
-use pauli::roll::{Roll, check_roll};
+use pauli::roll::Roll;
 use pauli::support::Support;
 
-// How many distinct qubits an accepted roll of n Paulis has.
-fn qubits_of(b: &[u8], n: usize) -> usize
-    requires { count_of b.now ≡ answer n }
-    ensures { result ≡ length (support (list_of b.now)) }
+// How many distinct qubits a roll has.
+fn qubits_of(roll: Roll) -> usize
+    ensures { result ≡ length (support (list_of roll.entry.bytes.now)) }
 {
-    let roll = Roll { bytes: b, count: n };
     let mut known = Support::new();
     roll.gather(&mut known);
     known.len()
@@ -35,6 +32,6 @@ fn full_roll(n: usize, s: usize) -> usize
 pub fn standard_bound(b: &[u8]) -> Result<usize, Refusal>
     ensures { StandardBoundCall b.now result }
 {
-    let n = check_roll(b)?;
-    Ok(full_roll(n, qubits_of(b, n)))
+    let roll = Roll::read(b)?;
+    Ok(full_roll(roll.count, qubits_of(roll)))
 }

@@ -3,12 +3,10 @@ use Rattle.std.proofs.Common.{◌≡◌, refl, sym, ap, ◌∙◌, subst, List, 
 use mathlib.Core.Option.{Option}
 use borrow.Author.Tests.{lt-ltb, le-ltb, ltb-false}
 use lib.ListN.{length-map}
-use Rattle.pauli.specs.declared.joined.RollCounts.{RollCounts}
 use Rattle.pauli.specs.declared.refusal.Refusal.{Refusal}
 use Rattle.pauli.specs.Condense.{list_of}
-use Rattle.pauli.specs.JoinAnswers.{counts_in}
 use Rattle.pauli.specs.JoinCalls.{read_both, Counts}
-use Rattle.pauli.specs.Refusals.{told_refusal, told_by, told_of}
+use Rattle.pauli.specs.Refusals.{told_refusal, told_of}
 use Rattle.pauli.specs.Told.{Told, answer, refused, and_then, map_told}
 use Rattle.pauli.specs.Writing.{told_bytes, left_in}
 use Rattle.pauli.proofs.joined.JoinLaws.{accepted}
@@ -17,7 +15,7 @@ use Rattle.pauli_theory.specs.Group.{Promise}
 use Rattle.pauli_theory.specs.Membership.{Factorization, factorization_of}
 use Rattle.pauli_group.specs.Calls.{paulis, roll_counts}
 use Rattle.pauli_group.specs.WorkArea.{work_words, enough, cleared, area_after}
-use Rattle.pauli_group.proofs.checks.Rolls.{Accepted, both}
+use Rattle.pauli_group.proofs.checks.RollsLaws.{Accepted, both}
 use Rattle.pauli_group.proofs.group.GroupedLaws.{cleared_part, list_length}
 use Rattle.factorizations.specs.Calls.{questions, questions_counts, results_of, factorizations_call, Totals, totals, told_results}
 use Rattle.factorizations.specs.Contract.{FactorizationsCall}
@@ -62,7 +60,7 @@ module _ (b e : List ℕ) (words : ℕ) where
     pub rolls : Accepted b e n m
     pub room : work_words ≤ words
 
-  asking : (c : Counts) → answer c ≡ map_told questions_counts (questions b e words) → Asking c.left c.right
+  pub asking : (c : Counts) → answer c ≡ map_told questions_counts (questions b e words) → Asking c.left c.right
   unfolding roll_counts enough
   asking c h = go (roll_counts b e) refl
     where
@@ -77,13 +75,8 @@ module _ (b e : List ℕ) (words : ℕ) where
           let counts_same : d ≡ c = cc in
           subst (λ (x : Counts). Asking x.left x.right) counts_same (record { rolls = a; room = room })
 
-  -- by what check_questions tells
-  module _ {r : Result RollCounts Refusal} (h : told_by counts_in r ≡ map_told questions_counts (questions b e words)) where
-    pub counts_asking : (c : RollCounts) → r ≡ Ok c → Asking c.left c.right
-    counts_asking c k = asking (counts_in c) (sym (ap (told_by counts_in) k) ∙ h)
-
-    pub counts_none : (q : Refusal) → r ≡ Err q → questions b e words ≡ told_refusal q
-    counts_none q k = map_refused questions_counts (questions b e words) _ _ (sym (sym (ap (told_by counts_in) k) ∙ h))
+  pub questions_none : {m p : ℕ} → refused m p ≡ map_told questions_counts (questions b e words) → questions b e words ≡ refused m p
+  questions_none h = map_refused questions_counts (questions b e words) _ _ (sym h)
 
 -- ---- the call
 

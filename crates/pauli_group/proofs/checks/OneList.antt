@@ -1,7 +1,5 @@
 -- One list: what its checks tell, and what is told and left after them.
-use Rattle.std.proofs.Common.{◌≡◌, ℕ, ◌<◌, ◌≤◌, ltb, List, ◌++◌, length, take, drop, sym, refl, ap, ◌∙◌, ltb-false, le-ltb, lt-ltb, Err, Ok, Result}
-use Rattle.pauli.specs.declared.refusal.Refusal.{Refusal}
-use Rattle.pauli.specs.Refusals.{told_refusal, told_of}
+use Rattle.std.proofs.Common.{◌≡◌, ℕ, ◌<◌, ◌≤◌, ltb, List, ◌++◌, length, take, drop, sym, refl, ap, ◌∙◌, ltb-false, le-ltb, lt-ltb}
 use Rattle.pauli.specs.Condense.{list_of}
 use Rattle.pauli.specs.Pauli.{Pauli}
 use Rattle.pauli.specs.Roll.{read, count_of}
@@ -50,13 +48,8 @@ module _ (b : List ℕ) (size : ℕ) where
           let number : k ≡ n = sym (list_length b k f) ∙ ap length list ∙ many in
           record { count = f ∙ ap answer number; room = ltb-false size work_words large; told = told ∙ sym same }
 
-  -- by what check_list tells
-  module _ {r : Result ℕ Refusal} (e : told_of r ≡ map_told length (one_list b size)) where
-    pub list_given : (n : ℕ) → r ≡ Ok n → Given n
-    list_given n h = given n (sym (ap told_of h) ∙ e)
-
-    pub list_none : (q : Refusal) → r ≡ Err q → one_list b size ≡ told_refusal q
-    list_none q h = map_refused length (one_list b size) _ _ (sym (sym (ap told_of h) ∙ e))
+  pub list_none : {m p : ℕ} → refused m p ≡ map_told length (one_list b size) → one_list b size ≡ refused m p
+  list_none e = map_refused length (one_list b size) _ _ (sym e)
 
 -- ---- one list, answered
 

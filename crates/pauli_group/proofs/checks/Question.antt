@@ -1,9 +1,6 @@
 -- An element put to a list: what the checks tell.
-use Rattle.std.proofs.Common.{◌≡◌, ℕ, ◌<◌, ◌≤◌, Bool, true, false, ltb, leb, List, length, get_or, sym, refl, ap, ◌∙◌, arith, ltb-false, le-ltb, lt-ltb, le-leb, leb-false, Err, Ok, Result}
+use Rattle.std.proofs.Common.{◌≡◌, ℕ, ◌<◌, ◌≤◌, Bool, true, false, ltb, leb, List, length, get_or, sym, refl, ap, ◌∙◌, arith, ltb-false, le-ltb, lt-ltb, le-leb, leb-false}
 use borrow.Author.Tests.{lt-leb}
-use Rattle.pauli.specs.declared.joined.RollCounts.{RollCounts}
-use Rattle.pauli.specs.declared.refusal.Refusal.{Refusal}
-use Rattle.pauli.specs.Refusals.{told_refusal, told_by}
 use Rattle.pauli.specs.JoinCalls.{Lists, read_both, within, Counts}
 use Rattle.pauli.specs.Condense.{list_of, nothing}
 use Rattle.pauli.specs.Roll.{most_paulis, count_of}
@@ -13,8 +10,7 @@ use Rattle.pauli.proofs.joined.JoinLaws.{accepted, accepted_few}
 use Rattle.pauli.proofs.roll.Told.{refused_none, test_pass, test_refuses, test_passed, map_refused}
 use Rattle.pauli_group.specs.WorkArea.{work_words, enough}
 use Rattle.pauli_group.specs.Calls.{paulis, question, roll_counts, question_counts}
-use Rattle.pauli_group.proofs.checks.Rolls.{Accepted, both}
-use Rattle.pauli.specs.JoinAnswers.{counts_in}
+use Rattle.pauli_group.proofs.checks.RollsLaws.{Accepted, both}
 
 -- what they let pass, changed by f
 unfoldable passed : {A : Type 0} → Told Lists → ℕ → ℕ → (Lists → A) → Told A
@@ -74,7 +70,7 @@ module _ (b e : List ℕ) (number words : ℕ) where
   unfolding most_paulis
   asking_few {n} a = accepted_few b n a.generators
 
-  asking : (n m : ℕ) → answer (record { left = n; right = m }) ≡ question_counts b e number words → Asking n m
+  pub asking : (n m : ℕ) → answer (record { left = n; right = m }) ≡ question_counts b e number words → Asking n m
   unfolding roll_counts
   asking n m h = go (roll_counts b e) refl
     where
@@ -94,7 +90,7 @@ module _ (b e : List ℕ) (number words : ℕ) where
             room = ltb-false words work_words large;
           }
 
-  question_none : (k p : ℕ) → question_counts b e number words ≡ refused k p → question b e number words ≡ refused k p
+  pub question_none : (k p : ℕ) → question_counts b e number words ≡ refused k p → question b e number words ≡ refused k p
   unfolding question question_counts passed
   question_none k p h =
       passed_refused number words _ (read_both b e) k p
@@ -107,11 +103,3 @@ module _ (b e : List ℕ) (number words : ℕ) where
       let (left, _) = accepted b n a.generators in
       let (right, size) = accepted e m a.elements in
       rw (left, right, lt-leb (length (list_of e)) number (rw size a.inside), le-ltb words work_words a.room)
-
-  -- by what check_question tells
-  module _ {r : Result RollCounts Refusal} (h : told_by counts_in r ≡ question_counts b e number words) where
-    pub counts_asking : (c : RollCounts) → r ≡ Ok c → Asking c.left c.right
-    counts_asking c k = asking c.left c.right (sym (ap (told_by counts_in) k) ∙ h)
-
-    pub counts_none : (q : Refusal) → r ≡ Err q → question b e number words ≡ told_refusal q
-    counts_none q k = question_none _ _ (sym (sym (ap (told_by counts_in) k) ∙ h))

@@ -1,11 +1,7 @@
 -- Two lists: what their checks tell, and what is told and left after them.
-use Rattle.std.proofs.Common.{◌≡◌, ℕ, ◌+◌, ◌<◌, ◌≤◌, ltb, List, ◌++◌, length, take, drop, sym, refl, ap, ◌∙◌, subst, ltb-false, le-ltb, lt-ltb, Err, Ok, Result}
-use Rattle.pauli.specs.declared.refusal.Refusal.{Refusal}
-use Rattle.pauli.specs.declared.joined.RollCounts.{RollCounts}
-use Rattle.pauli.specs.JoinAnswers.{counts_in}
+use Rattle.std.proofs.Common.{◌≡◌, ℕ, ◌+◌, ◌<◌, ◌≤◌, ltb, List, ◌++◌, length, take, drop, sym, refl, ap, ◌∙◌, subst, ltb-false, le-ltb, lt-ltb}
 use Rattle.pauli.specs.JoinCalls.{Counts, counts_of, read_both, few_qubits}
 use Rattle.pauli.specs.Condense.{list_of}
-use Rattle.pauli.specs.Refusals.{told_refusal, told_by}
 use Rattle.pauli.specs.Roll.{most_paulis, support}
 use Rattle.pauli.specs.Support.{most_qubits}
 use Rattle.pauli.specs.Told.{Told, answer, refused, and_then, map_told}
@@ -14,12 +10,7 @@ use Rattle.pauli.proofs.joined.JoinLaws.{accepted, Joining, counts_joining, limi
 use Rattle.pauli.proofs.roll.Told.{refused_none, test_pass, test_refuses, test_passed, map_refused, map_answer}
 use Rattle.pauli_group.specs.WorkArea.{work_words, enough, cleared, area_after}
 use Rattle.pauli_group.specs.Calls.{paulis, Pair, pair_counts, two_lists}
-use Rattle.pauli_group.specs.Inner.Lists.{Joinable}
 use Rattle.pauli_group.proofs.group.GroupedLaws.{cleared_part, list_length}
-
-pub joinable : {l r : List ℕ} {nl nr : ℕ} → Joining l r nl nr → Joinable l r nl nr
-unfolding most_paulis
-joinable j = record { left = j.left; right = j.right; few = j.few; qubits = j.qubits }
 
 -- ---- what the checks tell
 
@@ -61,7 +52,7 @@ module _ (l r : List ℕ) (size : ℕ) where
     pub joining : Joining l r nl nr
     pub room : work_words ≤ size
 
-  paired : (c : Counts) → answer c ≡ map_told pair_counts (two_lists l r size) → Paired c.left c.right
+  pub paired : (c : Counts) → answer c ≡ map_told pair_counts (two_lists l r size) → Paired c.left c.right
   unfolding enough
   paired c e = go (counts_of l r) refl
     where
@@ -76,13 +67,8 @@ module _ (l r : List ℕ) (size : ℕ) where
           let counts_same : d ≡ c = cc in
           subst (λ (x : Counts). Paired x.left x.right) counts_same (record { joining = j; room = room })
 
-  -- by what check_pair tells
-  module _ {f : Result RollCounts Refusal} (e : told_by counts_in f ≡ map_told pair_counts (two_lists l r size)) where
-    pub pair_given : (c : RollCounts) → f ≡ Ok c → Paired c.left c.right
-    pair_given c h = paired (counts_in c) (sym (ap (told_by counts_in) h) ∙ e)
-
-    pub pair_none : (q : Refusal) → f ≡ Err q → two_lists l r size ≡ told_refusal q
-    pair_none q h = map_refused pair_counts (two_lists l r size) _ _ (sym (sym (ap (told_by counts_in) h) ∙ e))
+  pub pair_none : {m p : ℕ} → refused m p ≡ map_told pair_counts (two_lists l r size) → two_lists l r size ≡ refused m p
+  pair_none e = map_refused pair_counts (two_lists l r size) _ _ (sym e)
 
 -- ---- the work area after the checks
 

@@ -1,9 +1,8 @@
 -- The group of a list in the work area: from the roll's Paulis over the places of their support.
-use Rattle.std.proofs.Common.{◌≡◌, ℕ, ◌+◌, ◌*◌, ◌≤◌, List, [], ◌++◌, map, length, sym, refl, ap, ◌∙◌, subst, ap₂, arith, length-append}
+use Rattle.std.proofs.Common.{◌≡◌, ℕ, ◌+◌, ◌*◌, ◌≤◌, List, [], ◌++◌, map, length, sym, refl, ap, ◌∙◌, ap₂, arith, length-append}
 use mathlib.Core.List.{map-append, Memᴰ as Mem}
 use lib.ListN.{length-map}
 use Rattle.binar.specs.Echelon.{rank as echelon_rank}
-use Rattle.pauli.specs.Bytes.{numbers_at}
 use Rattle.pauli.specs.Condense.{list_of, condensed}
 use Rattle.pauli.specs.Known.{Gathered}
 use Rattle.pauli.specs.Pauli.{Pauli, normal}
@@ -13,7 +12,7 @@ use Rattle.pauli.specs.Sets.{pauli_of}
 use Rattle.pauli.specs.Signed.{list_in}
 use Rattle.pauli.specs.Told.{answer}
 use Rattle.pauli.specs.Writing.{OnPlaces}
-use Rattle.pauli.proofs.joined.JoinLaws.{accepted, accepted_joined}
+use Rattle.pauli.proofs.joined.JoinLaws.{accepted}
 use Rattle.pauli.proofs.join.ProductLaws.{count_accepted, readable}
 use Rattle.pauli.proofs.roll.RollLaws.{answer_parts}
 use Rattle.pauli_theory.specs.Group.{Promise, none, abelian, not_abelian}

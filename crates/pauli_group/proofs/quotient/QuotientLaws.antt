@@ -5,19 +5,16 @@ use mathlib.Core.List.Memᴰ.{append_cases as in-append}
 use mathlib.Core.List.{Memᴰ as Mem}
 use Rattle.pauli.specs.Roll.{Sparse, numbers, support}
 use Rattle.pauli.specs.Told.{answer, refused}
-use Rattle.pauli.specs.Condense.{list_of}
-use Rattle.pauli.specs.Support.{most_qubits}
 use Rattle.pauli.proofs.roll.ListSupport.{numbers_append, support_length}
 use Rattle.pauli.specs.Pauli.{Pauli}
 use Rattle.pauli_theory.specs.Group.{Promise}
 use Rattle.pauli_theory.specs.Modulo.{modulo, if_below, try_quotient}
 use Rattle.pauli_theory.specs.Order.{Order, equal, less, greater, no_order, partial_cmp}
 use Rattle.pauli_group.specs.Calls.{list_bytes, quotient_bytes}
-use Rattle.pauli_group.specs.Inner.Lists.{Joinable}
 use Rattle.pauli_group.specs.Inner.Compare.{is_below}
 
 -- the other way round two lists have as many qubits
-swapped_few : (ps qs : List Sparse) (k : ℕ) → length (support (ps ++ qs)) ≤ k → length (support (qs ++ ps)) ≤ k
+pub swapped_few : (ps qs : List Sparse) (k : ℕ) → length (support (ps ++ qs)) ≤ k → length (support (qs ++ ps)) ≤ k
 swapped_few ps qs k h = omega (arith, h, support_length (qs ++ ps) (ps ++ qs) inside)
   where
     inside : (n : ℕ) → Mem n (numbers (qs ++ ps)) → Mem n (numbers (ps ++ qs))
@@ -25,15 +22,6 @@ swapped_few ps qs k h = omega (arith, h, support_length (qs ++ ps) (ps ++ qs) in
         subst (Mem n) (sym (numbers_append ps qs))
         (⊎_elim (λ a. Memᴰ.append_right (numbers ps) a) (λ a. Memᴰ.append_left (numbers qs) a)
         (in-append (numbers qs) (subst (Mem n) (numbers_append qs ps) m)))
-
-pub swapped : {l r : List ℕ} {nl nr : ℕ} → Joinable l r nl nr → Joinable r l nr nl
-swapped {l} {r} {nl} {nr} j =
-    record {
-      left = j.right;
-      right = j.left;
-      few = omega (arith, j.few);
-      qubits = swapped_few (list_of l) (list_of r) most_qubits j.qubits;
-    }
 
 turned : (b : Bool) → b ≡ not (not b)
 turned true = refl

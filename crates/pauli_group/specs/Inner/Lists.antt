@@ -1,16 +1,14 @@
 -- Lists of Paulis over the places of a support, in the work area.
-use Rattle.std.specs.Prelude.{◌≡◌, ℕ, ◌+◌, ◌*◌, ◌/◌, ◌%◌, ◌^◌, ◌<◌, ◌≤◌, max, Option as CodeOption, Some, None, Bool, true, false, MatchBool, List, ◌++◌, map, length, take, drop}
+use Rattle.std.specs.Prelude.{◌≡◌, ℕ, ◌+◌, ◌*◌, ◌/◌, ◌%◌, ◌^◌, ◌<◌, max, Option as CodeOption, Some, None, Bool, true, false, MatchBool, List, ◌++◌, map, take, drop}
 use Rattle.std.proofs.Math.Option.{Option, some, none as nothing}
 use Rattle.binar.specs.Echelon.{EchelonForm, echelon}
 use Rattle.binar.specs.Words.{matrix}
-use Rattle.pauli.specs.Condense.{Readable, list_of, condensed}
+use Rattle.pauli.specs.Condense.{Readable, condensed}
 use Rattle.pauli.specs.Pauli.{Pauli, normal, indexed_product}
-use Rattle.pauli.specs.Roll.{Sparse, support, count_of}
+use Rattle.pauli.specs.Roll.{Sparse}
 use Rattle.pauli.specs.Signed.{held, pauli_in}
 use Rattle.pauli.specs.declared.signed.Pauli.{Pauli as Held}
 use Rattle.pauli.specs.Sets.{pauli_of}
-use Rattle.pauli.specs.Support.{most_qubits}
-use Rattle.pauli.specs.Told.{answer}
 use Rattle.pauli_theory.specs.Group.{Promise, none, abelian, not_abelian}
 use Rattle.pauli_theory.specs.Standard.{if_zero, modulus_of, exponent_mod, some_order_four, some_anticommute, appended, some_minus}
 use Rattle.pauli_group.specs.declared.answers.Phases.{Phases}
@@ -20,13 +18,6 @@ use Rattle.pauli_group.specs.Inner.Area.{row_words, stride_of}
 -- every Pauli of a roll of n has its qubits in the support qs
 abbrev pub ReadableAll : List ℕ → ℕ → List ℕ → Type 0
 ReadableAll b n qs = (i : ℕ) → i < n → Readable b n i qs
-
--- two accepted rolls of nl and nr Paulis that can be joined
-pub record Joinable (l r : List ℕ) (nl nr : ℕ) : Type 0 where
-  pub left : count_of l ≡ answer nl
-  pub right : count_of r ≡ answer nr
-  pub few : nl + nr ≤ 128
-  pub qubits : length (support (list_of l ++ list_of r)) ≤ most_qubits
 
 -- a Pauli of a roll over the places of a support, its exponent by value
 unfoldable pub over_places : List ℕ → Sparse → Pauli

@@ -11,8 +11,8 @@ use Rattle.closing_report.proofs.report.write_report.Goals as goal
 pub write_listing-requires : goal.write_listing-requires
 unfolding most_paulis
 write_listing-requires c =
-    let few = accepted_few _ _ c.requires.1 in
-    (omega (arith, few, c.factor_rolls-group.auto.w, c.requires.2), omega (arith, few))
+    let few = accepted_few _ _ c.args.rolls.elements.accepted in
+    (omega (arith, few, c.factor_rolls-group.auto.w, c.requires), omega (arith, few))
 
 pub returns : goal.returns
 returns c =

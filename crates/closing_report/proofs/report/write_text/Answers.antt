@@ -14,21 +14,21 @@ pub returns-in-Err : goal.returns-in-Err
 returns-in-Err c =
     let told = c.split_input.ensures in
     let parts = parted _ _ told.rolls told.within _ c.in-Some.is in
-    let generators = sym c.in-Err.ensures in
+    let generators = sym c.in-Err.ensures.count in
     let wrote = c.write_refused.ensures in let all = text_written _ _ (generators_refused _ _ parts.rolls _ _ generators) wrote.told wrote.left in record { told = all.0; left = all.1 }
 
-pub returns-in-Err-check_roll : goal.returns-in-Err-check_roll
-returns-in-Err-check_roll c =
+pub returns-in-Err-read : goal.returns-in-Err-read
+returns-in-Err-read c =
     let told = c.split_input.ensures in
     let parts = parted _ _ told.rolls told.within _ c.in-Some.is in
-    let generators = sym c.in-Ok.ensures in
-    let elements = sym c.in-Err-check_roll.ensures in
-    let wrote = c.write_refused-in-Err-check_roll.ensures in let all = text_written _ _ (elements_refused _ _ parts.rolls _ generators _ _ elements) wrote.told wrote.left in record { told = all.0; left = all.1 }
+    let generators = sym c.in-Ok.ensures.count in
+    let elements = sym c.in-Err-read.ensures.count in
+    let wrote = c.write_refused-in-Err-read.ensures in let all = text_written _ _ (elements_refused _ _ parts.rolls _ generators _ _ elements) wrote.told wrote.left in record { told = all.0; left = all.1 }
 
 pub returns : goal.returns
 returns c =
     let told = c.split_input.ensures in
     let parts = parted _ _ told.rolls told.within _ c.in-Some.is in
-    let generators = sym c.in-Ok.ensures in
-    let elements = sym c.in-Ok-check_roll.ensures in
-    let wrote = c.write_report.ensures in let all = text_written _ _ (both_accepted _ _ parts.rolls _ generators _ elements) wrote.told wrote.left in record { told = all.0; left = all.1 }
+    let generators = sym c.in-Ok.ensures.count in
+    let elements = sym c.in-Ok-read.ensures.count in
+    let wrote = rw (c.in-Ok.ensures.bytes, c.in-Ok-read.ensures.bytes) at c.write_report.ensures in let all = text_written _ _ (both_accepted _ _ parts.rolls _ generators _ elements) wrote.told wrote.left in record { told = all.0; left = all.1 }

@@ -13,11 +13,11 @@ use Rattle.factorizations.proofs.calls.write_factorizations.Goals as goal
 pub write_records-wrote-requires : goal.write_records-wrote-requires
 unfolding most_paulis
 write_records-wrote-requires c =
-    let few = accepted_few _ _ c.requires.1 in
-    (omega (arith, few, c.factor_rolls.auto.w, c.requires.2), omega (arith, few))
+    let few = accepted_few _ _ c.args.rolls.elements.accepted in
+    (omega (arith, few, c.factor_rolls.auto.w, c.requires), omega (arith, few))
 
 pub returns : goal.returns
 returns c =
     let wrote = c.write_records-wrote.ensures in
     let results = c.factor_rolls.ensures.results in
-    let out = c.args.out.now in record { told = wrote.told ∙ ap (λ (os : List (Option Factorization)). told_bytes (answer (results_bytes os)) out) results; left = wrote.left ∙ ap (λ (os : List (Option Factorization)). left_in (answer (results_bytes os)) out) results; area = c.clear_bits.ensures ∙ cleared_whole _ _ (c.factor_rolls.auto.w ∙ c.requires.2) c.requires.2 }
+    let out = c.args.out.now in record { told = wrote.told ∙ ap (λ (os : List (Option Factorization)). told_bytes (answer (results_bytes os)) out) results; left = wrote.left ∙ ap (λ (os : List (Option Factorization)). left_in (answer (results_bytes os)) out) results; area = c.clear_bits.ensures ∙ cleared_whole _ _ (c.factor_rolls.auto.w ∙ c.requires) c.requires }

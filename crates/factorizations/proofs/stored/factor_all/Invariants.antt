@@ -8,5 +8,5 @@ use Rattle.factorizations.proofs.stored.factor_all.Given as goal
 
 abbrev pub invariant-loop-k : goal.invariant-loop-k
 invariant-loop-k l =
-    (l.k ≤ l.m) × (length l.w ≡ 4096)
-    × ((g : Asked l.known l.initial.w l.n l.group.places l.group.rank l.group.total (step_told l.phases)) → Factored g (list_of l.b) l.k l.w)
+    (l.k ≤ l.roll.count) × (length l.w ≡ 4096)
+    × ((g : Asked l.known l.initial.w l.n l.group.places l.group.rank l.group.total (step_told l.phases)) → Factored g (list_of l.roll.bytes.now) l.k l.w)

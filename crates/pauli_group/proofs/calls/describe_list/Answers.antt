@@ -2,36 +2,36 @@
 use Rattle.std.proofs.Common.{sym, length-take-le, ap, ◌∙◌}
 use Rattle.pauli_group.specs.Promises.{promise_of}
 use Rattle.pauli_group.specs.Inner.Groups.{facts_of, facts_in}
-use Rattle.pauli_group.proofs.checks.OneList.{list_given, list_none, answers, area_cleared, refuses, area_kept}
+use Rattle.pauli_group.proofs.checks.OneList.{given, list_none, answers, area_cleared, refuses, area_kept}
 use Rattle.pauli.proofs.refusal.HandedOn.{handed_on}
 use Rattle.pauli.specs.Refusals.{told_by}
 use Rattle.pauli_group.proofs.calls.describe_list.Goals as goal
 
-pub returns-in_err-n : goal.returns-in_err-n
-returns-in_err-n c =
-    let none = list_none _ _ c.check_list.ensures _ c.in_err-n.was in
+pub returns-in_err-roll : goal.returns-in_err-roll
+returns-in_err-roll c =
+    let none = list_none _ _ c.in_err-roll.ensures.count in
     record {
       told = ap (told_by facts_in) (handed_on _ _ c.from_residual.ensures.1) ∙ refuses c.args.b.now c.args.work.now none (facts_of (promise_of c.args.promise));
       area = area_kept c.args.b.now c.args.work.now none;
     }
 
 pub slice_bounds-describe_once-end : goal.slice_bounds-describe_once-end
-slice_bounds-describe_once-end c = (list_given _ _ c.check_list.ensures _ c.in_ok-n.was).room
+slice_bounds-describe_once-end c = (given _ _ _ c.in_ok-roll.ensures.count).room
 
 pub slice_bounds-describe_once-end-2 : goal.slice_bounds-describe_once-end-2
 slice_bounds-describe_once-end-2 c =
-    let given = list_given _ _ c.check_list.ensures _ c.in_ok-n.was in
+    let given = given _ _ _ c.in_ok-roll.ensures.count in
     sym (length-take-le 4096 c.args.work.now given.room)
 
 pub describe_once-requires : goal.describe_once-requires
 describe_once-requires c =
-    let given = list_given _ _ c.check_list.ensures _ c.in_ok-n.was in
-    (given.count, length-take-le 4096 c.args.work.now given.room)
+    let given = given _ _ _ c.in_ok-roll.ensures.count in
+    length-take-le 4096 c.args.work.now given.room
 
 pub returns : goal.returns
 returns c =
-    let given = list_given _ _ c.check_list.ensures _ c.in_ok-n.was in
-    let description = c.describe_once.ensures in
+    let given = given _ _ _ c.in_ok-roll.ensures.count in
+    let description = rw c.in_ok-roll.ensures.bytes at c.describe_once.ensures in
     record {
       told = answers c.args.b.now c.args.work.now given (facts_of (promise_of c.args.promise)) _ description.told;
       area = area_cleared c.args.b.now c.args.work.now given _ description.area;

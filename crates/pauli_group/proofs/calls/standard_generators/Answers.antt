@@ -3,18 +3,18 @@ use Rattle.std.proofs.Common.{ℕ, List, sym, refl, ap, ◌∙◌, length-take-l
 use Rattle.pauli.specs.Told.{Told}
 use Rattle.pauli.specs.Writing.{told_bytes, left_in}
 use Rattle.pauli_group.specs.Calls.{standard_bytes, standard_generators}
-use Rattle.pauli_group.proofs.checks.OneList.{list_given, list_none, answers, area_cleared, refuses, area_kept}
+use Rattle.pauli_group.proofs.checks.OneList.{given, list_none, answers, area_cleared, refuses, area_kept}
 use Rattle.pauli.proofs.refusal.HandedOn.{handed_on}
 use Rattle.pauli.specs.Refusals.{told_of}
 use Rattle.pauli_group.proofs.calls.standard_generators.Goals as goal
 
-pub returns-in_err-n : goal.returns-in_err-n
+pub returns-in_err-roll : goal.returns-in_err-roll
 unfolding standard_generators told_bytes left_in
-returns-in_err-n c =
+returns-in_err-roll c =
     let b = c.args.b.now in
     let work = c.args.work.now in
     let out = c.args.out.now in
-    let none = list_none _ _ c.check_list.ensures _ c.in_err-n.was in
+    let none = list_none _ _ c.in_err-roll.ensures.count in
     let same = refuses b work none standard_bytes in
     record {
       told = ap told_of (handed_on _ _ c.from_residual.ensures.1) ∙ ap (λ (t : Told (List ℕ)). told_bytes t out) same;
@@ -23,17 +23,17 @@ returns-in_err-n c =
     }
 
 pub slice_bounds-write_standard-end : goal.slice_bounds-write_standard-end
-slice_bounds-write_standard-end c = (list_given _ _ c.check_list.ensures _ c.in_ok-n.was).room
+slice_bounds-write_standard-end c = (given _ _ _ c.in_ok-roll.ensures.count).room
 
 pub slice_bounds-write_standard-end-2 : goal.slice_bounds-write_standard-end-2
 slice_bounds-write_standard-end-2 c =
-    let given = list_given _ _ c.check_list.ensures _ c.in_ok-n.was in
+    let given = given _ _ _ c.in_ok-roll.ensures.count in
     sym (length-take-le 4096 c.args.work.now given.room)
 
 pub write_standard-requires : goal.write_standard-requires
 write_standard-requires c =
-    let given = list_given _ _ c.check_list.ensures _ c.in_ok-n.was in
-    (given.count, length-take-le 4096 c.args.work.now given.room)
+    let given = given _ _ _ c.in_ok-roll.ensures.count in
+    length-take-le 4096 c.args.work.now given.room
 
 pub returns : goal.returns
 unfolding standard_generators
@@ -41,10 +41,9 @@ returns c =
     let b = c.args.b.now in
     let work = c.args.work.now in
     let out = c.args.out.now in
-    let given = list_given _ _ c.check_list.ensures _
-    c.in_ok-n.was in
+    let given = given _ _ _ c.in_ok-roll.ensures.count in
     let same = answers b work given standard_bytes _ refl in
-    let written = c.write_standard.ensures in
+    let written = rw c.in_ok-roll.ensures.bytes at c.write_standard.ensures in
     record {
       told = written.told ∙ ap (λ (t : Told (List ℕ)). told_bytes t out) same;
       left = written.left ∙ ap (λ (t : Told (List ℕ)). left_in t out) same;

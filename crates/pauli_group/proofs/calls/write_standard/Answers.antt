@@ -8,11 +8,11 @@ use Rattle.pauli_group.proofs.calls.CallLaws.{group_written}
 use Rattle.pauli_group.proofs.calls.write_standard.Goals as goal
 
 pub group_of-g-requires : goal.group_of-g-requires
-group_of-g-requires c = (c.requires.0, omega arith)
+group_of-g-requires c = c.requires
 
 pub write_roll-wrote-requires : goal.write_roll-wrote-requires
 write_roll-wrote-requires c =
-    let count = c.requires.0 in
+    let count = c.args.roll.accepted in
     let group = c.group_of-g.ensures.group in
     let total = group_total _ _ count group in
     let places = group_places _ _ count group in
@@ -20,8 +20,7 @@ write_roll-wrote-requires c =
 
 pub returns : goal.returns
 returns c =
-    let pre = c.requires in
     let out = c.args.out.now in
     let group = c.group_of-g in
     let wrote = c.write_roll-wrote.ensures in
-    let roll = rw (← c.qubits.ensures.list) at (group_written _ group.ensures.group) in record { told = wrote.told ∙ ap (λ (bs : List ℕ). told_bytes (answer bs) out) roll; left = wrote.left ∙ ap (λ (bs : List ℕ). left_in (answer bs) out) roll; area = c.clear_bits.ensures ∙ cleared_whole _ _ (group.auto.w ∙ pre.1) pre.1 }
+    let roll = rw (← c.qubits.ensures.list) at (group_written _ group.ensures.group) in record { told = wrote.told ∙ ap (λ (bs : List ℕ). told_bytes (answer bs) out) roll; left = wrote.left ∙ ap (λ (bs : List ℕ). left_in (answer bs) out) roll; area = c.clear_bits.ensures ∙ cleared_whole _ _ (group.auto.w ∙ c.requires) c.requires }

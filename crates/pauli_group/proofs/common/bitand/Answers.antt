@@ -3,35 +3,35 @@ use Rattle.std.proofs.Common.{sym, refl, length-take-le, ap, ◌∙◌}
 use Rattle.pauli.specs.Told.{map_told}
 use Rattle.pauli_group.specs.Calls.{common_bytes, common_call}
 use Rattle.pauli_group.specs.Promises.{promise_of}
-use Rattle.pauli_group.proofs.checks.TwoLists.{joinable, pair_given, pair_none, ends_refused, ends_answered}
+use Rattle.pauli_group.proofs.checks.TwoLists.{paired, pair_none, ends_refused, ends_answered}
 use Rattle.pauli.proofs.refusal.HandedOn.{handed_on}
 use Rattle.pauli.specs.Refusals.{told_of}
 use Rattle.pauli_group.proofs.common.bitand.Goals as goal
 
-pub returns-in_err-counts : goal.returns-in_err-counts
+pub returns-in_err-pair : goal.returns-in_err-pair
 unfolding common_call map_told
-returns-in_err-counts c =
-    let none = pair_none c.args.left.now c.args.right.now _ c.check_pair.ensures _ c.in_err-counts.was in
+returns-in_err-pair c =
+    let none = pair_none c.args.left.now c.args.right.now _ c.in_err-pair.ensures.counts in
     let e = ends_refused c.args.left.now c.args.right.now c.args.work.now c.args.out.now (map_told (common_bytes (promise_of c.args.left_promise) (promise_of c.args.right_promise))) refl none in
     record { told = ap told_of (handed_on _ _ c.from_residual.ensures.1) ∙ e.answered; written = e.written; area = e.area }
 
 pub slice_bounds-write_common-end : goal.slice_bounds-write_common-end
-slice_bounds-write_common-end c = (pair_given _ _ _ c.check_pair.ensures _ c.in_ok-counts.was).room
+slice_bounds-write_common-end c = (paired _ _ _ _ c.in_ok-pair.ensures.counts).room
 
 pub slice_bounds-write_common-end-2 : goal.slice_bounds-write_common-end-2
 slice_bounds-write_common-end-2 c =
-    let g = pair_given _ _ _ c.check_pair.ensures _ c.in_ok-counts.was in
+    let g = paired _ _ _ _ c.in_ok-pair.ensures.counts in
     sym (length-take-le 4096 c.args.work.now g.room)
 
 pub write_common-requires : goal.write_common-requires
 write_common-requires c =
-    let g = pair_given _ _ _ c.check_pair.ensures _ c.in_ok-counts.was in
-    (joinable g.joining, length-take-le 4096 c.args.work.now g.room)
+    let g = paired _ _ _ _ c.in_ok-pair.ensures.counts in
+    length-take-le 4096 c.args.work.now g.room
 
 pub returns : goal.returns
 unfolding common_call map_told
 returns c =
-    let g = pair_given _ _ _ c.check_pair.ensures _ c.in_ok-counts.was in
-    let write = c.write_common.ensures in
+    let g = paired _ _ _ _ c.in_ok-pair.ensures.counts in
+    let write = rw (c.in_ok-pair.ensures.rolls.0, c.in_ok-pair.ensures.rolls.1) at c.write_common.ensures in
     let e = ends_answered c.args.left.now c.args.right.now c.args.work.now c.args.out.now (map_told (common_bytes (promise_of c.args.left_promise) (promise_of c.args.right_promise))) g.joining g.room _ refl _ _ _ write.told write.left write.area in
     record { told = e.answered; written = e.written; area = e.area }

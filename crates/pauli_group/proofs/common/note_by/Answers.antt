@@ -6,22 +6,22 @@ use Rattle.pauli_group.proofs.common.SharedLaws.{group_solving, group_further, g
 use Rattle.pauli_group.proofs.common.note_by.Goals as goal
 
 pub group_of-group-requires : goal.group_of-group-requires
-group_of-group-requires c = (c.requires.0, c.requires.1)
+group_of-group-requires c = c.requires.0
 
 pub signs_of-signs-requires : goal.signs_of-signs-requires
-signs_of-signs-requires c = omega (arith, group_total _ _ c.requires.0 c.group_of-group.ensures.group, c.group_of-group.ensures.rest.size, c.requires.1)
+signs_of-signs-requires c = omega (arith, group_total _ _ c.args.roll.accepted c.group_of-group.ensures.group, c.group_of-group.ensures.rest.size, c.requires.0)
 
 pub note_exponents-requires : goal.note_exponents-requires
 note_exponents-requires c =
     let g = c.group_of-group.ensures in
-    let size = g.rest.size ∙ c.requires.1 in (
+    let size = g.rest.size ∙ c.requires.0 in (
       size,
-      c.requires.2,
-      group_solving _ _ c.requires.0 g.group size,
+      c.requires.1,
+      group_solving _ _ c.args.roll.accepted g.group size,
       rw c.qubits.ensures.list (places_known g.group),
-      c.requires.3,
-      group_further _ _ c.requires.0 g.group size g.rest c.args.joint.now _ _ c.requires.4,
-      rw c.qubits.ensures.list (group_movable _ _ c.requires.0 g.group size g.rest _ _ c.requires.5),
+      c.requires.2,
+      group_further _ _ c.args.roll.accepted g.group size g.rest c.args.joint.now _ _ c.requires.3,
+      rw c.qubits.ensures.list (group_movable _ _ c.args.roll.accepted g.group size g.rest _ _ c.requires.4),
     )
 
 pub shape_of-w : goal.shape_of-w
@@ -30,5 +30,5 @@ shape_of-w c = c.note_exponents.auto.w ∙ c.group_of-group.ensures.rest.size
 pub returns : goal.returns
 returns c =
     let g = c.group_of-group.ensures in
-    let size = g.rest.size ∙ c.requires.1 in
-    let signs = c.signs_of-signs.ensures in record { step = (described g.group _ _ _ _ signs.clash signs.step signs.stabilizer).step_is; list = group_noted _ _ c.requires.0 g.group size g.rest _ _ _ (rw c.qubits.ensures.list at c.note_exponents.ensures) }
+    let size = g.rest.size ∙ c.requires.0 in
+    let signs = c.signs_of-signs.ensures in record { step = (described g.group _ _ _ _ signs.clash signs.step signs.stabilizer).step_is; list = group_noted _ _ c.args.roll.accepted g.group size g.rest _ _ _ (rw c.qubits.ensures.list at c.note_exponents.ensures) }

@@ -6,12 +6,12 @@ use Rattle.pauli_group.proofs.common.PartLaws.{lesser_bytes}
 use Rattle.pauli_group.proofs.common.write_common.Goals as goal
 
 pub order_of-order-requires : goal.order_of-order-requires
-order_of-order-requires c = (c.requires.0, c.requires.1)
+order_of-order-requires c = c.requires
 
 pub write_lesser-wrote-requires : goal.write_lesser-wrote-requires
-write_lesser-wrote-requires c = (c.requires.0, c.order_of-order.auto.w ∙ c.requires.1)
+write_lesser-wrote-requires c = c.order_of-order.auto.w ∙ c.requires
 
 pub returns : goal.returns
 returns c =
     let wrote = c.write_lesser-wrote.ensures in
-    let roll = lesser_bytes _ _ _ _ _ c.order_of-order.ensures in record { told = wrote.told ∙ ap (λ (bs : List ℕ). told_bytes (answer bs) c.args.out.now) roll; left = wrote.left ∙ ap (λ (bs : List ℕ). left_in (answer bs) c.args.out.now) roll; area = c.clear_bits.ensures ∙ cleared_whole _ _ (c.write_lesser-wrote.auto.w ∙ c.order_of-order.auto.w ∙ c.requires.1) c.requires.1 }
+    let roll = lesser_bytes _ _ _ _ _ c.order_of-order.ensures in record { told = wrote.told ∙ ap (λ (bs : List ℕ). told_bytes (answer bs) c.args.out.now) roll; left = wrote.left ∙ ap (λ (bs : List ℕ). left_in (answer bs) c.args.out.now) roll; area = c.clear_bits.ensures ∙ cleared_whole _ _ (c.write_lesser-wrote.auto.w ∙ c.order_of-order.auto.w ∙ c.requires) c.requires }

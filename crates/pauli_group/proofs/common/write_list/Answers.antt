@@ -9,18 +9,18 @@ use Rattle.pauli_group.proofs.common.SharedLaws.{list_on, list_written}
 use Rattle.pauli_group.proofs.common.write_list.Goals as goal
 
 pub group_of-group-requires : goal.group_of-group-requires
-group_of-group-requires c = (c.requires.0, c.requires.1)
+group_of-group-requires c = c.requires
 
 pub write_roll-requires : goal.write_roll-requires
 unfolding most_paulis
 write_roll-requires c =
     let g = c.group_of-group.ensures in
-    let size = g.rest.size ∙ c.requires.1 in
-    let few = accepted_few c.args.b.now c.args.n c.requires.0 in
-    (omega (arith, few, size), omega (arith, few), rw (c.qubits.ensures.list, ← places_known g.group) (group_places _ _ c.requires.0 g.group), rw (c.qubits.ensures.list, ← places_known g.group) (list_on _ _ c.requires.0 g.group size))
+    let size = g.rest.size ∙ c.requires in
+    let few = accepted_few c.args.roll.bytes.now c.args.roll.count c.args.roll.accepted in
+    (omega (arith, few, size), omega (arith, few), rw (c.qubits.ensures.list, ← places_known g.group) (group_places _ _ c.args.roll.accepted g.group), rw (c.qubits.ensures.list, ← places_known g.group) (list_on _ _ c.args.roll.accepted g.group size))
 
 pub returns : goal.returns
 returns c =
     let g = c.group_of-group.ensures in
     let wrote = c.write_roll.ensures in
-    let roll = rw (← c.qubits.ensures.list) at (list_written _ _ c.requires.0 g.group (g.rest.size ∙ c.requires.1)) in record { told = wrote.told ∙ ap (λ (bs : List ℕ). told_bytes (answer bs) c.args.out.now) roll; left = wrote.left ∙ ap (λ (bs : List ℕ). left_in (answer bs) c.args.out.now) roll }
+    let roll = rw (← c.qubits.ensures.list) at (list_written _ _ c.args.roll.accepted g.group (g.rest.size ∙ c.requires)) in record { told = wrote.told ∙ ap (λ (bs : List ℕ). told_bytes (answer bs) c.args.out.now) roll; left = wrote.left ∙ ap (λ (bs : List ℕ). left_in (answer bs) c.args.out.now) roll }

@@ -5,23 +5,16 @@ use Rattle.pauli_group.proofs.basis.BasisLaws.{joint_is}
 use Rattle.pauli_group.proofs.common.PartLaws.{part_on, part_left, once_on, once_right, part_places_lem, part_written}
 use Rattle.pauli_group.proofs.common.write_part.Goals as goal
 
-pub invariant_of-first : goal.invariant_of-first
-invariant_of-first c = record { accepted = c.requires.0.left; low = λ i. (c.type_inv.left i).fits }
-
-pub invariant_of-second : goal.invariant_of-second
-invariant_of-second c = record { accepted = c.requires.0.right; low = λ i. (c.type_inv.right i).fits }
-
 pub common_basis-m-requires : goal.common_basis-m-requires
 common_basis-m-requires c =
-    let J = joint_is _ _ _ (rw (← c.qubits-joint.ensures.list) at c.join_support-support.ensures) c.requires.0.qubits in
-    (c.requires.0.left, c.requires.0.right, c.requires.0.few, c.requires.1, J)
+    let J = joint_is _ _ _ (rw (← c.qubits-joint.ensures.list) at c.join_support-support.ensures) c.args.pair.qubits in
+    (c.requires, J)
 
 pub note_by-first-requires : goal.note_by-first-requires
 note_by-first-requires c =
-    let J = joint_is _ _ _ (rw (← c.qubits-joint.ensures.list) at c.join_support-support.ensures) c.requires.0.qubits in
+    let J = joint_is _ _ _ (rw (← c.qubits-joint.ensures.list) at c.join_support-support.ensures) c.args.pair.qubits in
     let B = c.common_basis-m.ensures in (
-      c.requires.0.left,
-      c.common_basis-m.auto.w ∙ c.requires.1,
+      c.common_basis-m.auto.w ∙ c.requires,
       B.few,
       J.few,
       part_on _ _ _ J _ _ B.list,
@@ -30,11 +23,10 @@ note_by-first-requires c =
 
 pub note_by-second-requires : goal.note_by-second-requires
 note_by-second-requires c =
-    let J = joint_is _ _ _ (rw (← c.qubits-joint.ensures.list) at c.join_support-support.ensures) c.requires.0.qubits in
+    let J = joint_is _ _ _ (rw (← c.qubits-joint.ensures.list) at c.join_support-support.ensures) c.args.pair.qubits in
     let B = c.common_basis-m.ensures in
     let N = c.note_by-first.ensures in (
-      c.requires.0.right,
-      c.note_by-first.auto.w ∙ c.common_basis-m.auto.w ∙ c.requires.1,
+      c.note_by-first.auto.w ∙ c.common_basis-m.auto.w ∙ c.requires,
       B.few,
       J.few,
       once_on _ _ _ J _ _ B.list _ N.list,
@@ -43,23 +35,23 @@ note_by-second-requires c =
 
 pub keep_shared-kept-requires : goal.keep_shared-kept-requires
 keep_shared-kept-requires c = (
-  c.note_by-second.auto.w ∙ c.note_by-first.auto.w ∙ c.common_basis-m.auto.w ∙ c.requires.1,
+  c.note_by-second.auto.w ∙ c.note_by-first.auto.w ∙ c.common_basis-m.auto.w ∙ c.requires,
   c.common_basis-m.ensures.few,
 )
 
 pub append_phases-total-requires : goal.append_phases-total-requires
 append_phases-total-requires c = (
-  c.keep_shared-kept.auto.w ∙ c.note_by-second.auto.w ∙ c.note_by-first.auto.w ∙ c.common_basis-m.auto.w ∙ c.requires.1,
+  c.keep_shared-kept.auto.w ∙ c.note_by-second.auto.w ∙ c.note_by-first.auto.w ∙ c.common_basis-m.auto.w ∙ c.requires,
   omega (arith, c.keep_shared-kept.ensures.few, c.common_basis-m.ensures.few),
 )
 
 pub write_roll-requires : goal.write_roll-requires
 write_roll-requires c =
-    let J = joint_is _ _ _ (rw (← c.qubits-joint.ensures.list) at c.join_support-support.ensures) c.requires.0.qubits in
+    let J = joint_is _ _ _ (rw (← c.qubits-joint.ensures.list) at c.join_support-support.ensures) c.args.pair.qubits in
     let B = c.common_basis-m.ensures in
     let A = c.append_phases-total.ensures in
     let K = c.keep_shared-kept.ensures in
-    let size = c.append_phases-total.auto.w ∙ c.keep_shared-kept.auto.w ∙ c.note_by-second.auto.w ∙ c.note_by-first.auto.w ∙ c.common_basis-m.auto.w ∙ c.requires.1 in (
+    let size = c.append_phases-total.auto.w ∙ c.keep_shared-kept.auto.w ∙ c.note_by-second.auto.w ∙ c.note_by-first.auto.w ∙ c.common_basis-m.auto.w ∙ c.requires in (
       omega (arith, A.few, K.few, B.few, size),
       omega (arith, A.few, K.few, B.few),
       J.few,
@@ -68,7 +60,7 @@ write_roll-requires c =
 
 pub returns : goal.returns
 returns c =
-    let J = joint_is _ _ _ (rw (← c.qubits-joint.ensures.list) at c.join_support-support.ensures) c.requires.0.qubits in
+    let J = joint_is _ _ _ (rw (← c.qubits-joint.ensures.list) at c.join_support-support.ensures) c.args.pair.qubits in
     let B = c.common_basis-m.ensures in
     let wrote = c.write_roll.ensures in
     let roll = part_written _ _ _ J _ _ B.list _ c.note_by-first.ensures.list _ _ _ c.note_by-second.ensures.list _ _ c.note_by-first.ensures.step c.note_by-second.ensures.step _ _ c.keep_shared-kept.ensures.list _ _ c.append_phases-total.ensures.list in record { told = wrote.told ∙ ap (λ (bs : List ℕ). told_bytes (answer bs) c.args.out.now) roll; left = wrote.left ∙ ap (λ (bs : List ℕ). left_in (answer bs) c.args.out.now) roll }

@@ -7,25 +7,24 @@ use Rattle.pauli_group.proofs.factorization.factor_once.Goals as goal
 
 pub group_of-g-requires : goal.group_of-g-requires
 group_of-g-requires c =
-    (c.requires.0, c.requires.3)
+    c.requires.1
 
 pub signs_of-signs-requires : goal.signs_of-signs-requires
 signs_of-signs-requires c =
-    let total = group_total _ _ c.requires.0 c.group_of-g.ensures.group in
-    omega (arith, c.group_of-g.auto.w, c.requires.3)
+    let total = group_total _ _ c.args.rolls.generators.accepted c.group_of-g.ensures.group in
+    omega (arith, c.group_of-g.auto.w, c.requires.1)
 
 pub factor-factoring-requires : goal.factor-factoring-requires
 factor-factoring-requires c =
     let group = c.group_of-g in
     let signs = c.signs_of-signs.ensures in
-    let few = list_few _ c.args.n c.requires.0 in
-    let size = list_length _ c.args.n c.requires.0 in (
-      c.requires.1,
-      c.requires.2,
+    let few = list_few _ _ c.args.rolls.generators.accepted in
+    let size = list_length _ _ c.args.rolls.generators.accepted in (
+      c.requires.0,
       omega arith,
-      group.auto.w ∙ c.requires.3,
-      group_places _ _ c.requires.0 group.ensures.group,
-      rw c.qubits.ensures.list (asked_of _ _ c.requires.0 group.ensures.group _ signs.clash signs.step signs.stabilizer),
+      group.auto.w ∙ c.requires.1,
+      group_places _ _ c.args.rolls.generators.accepted group.ensures.group,
+      rw c.qubits.ensures.list (asked_of _ _ c.args.rolls.generators.accepted group.ensures.group _ signs.clash signs.step signs.stabilizer),
     )
 
 pub returns : goal.returns
@@ -33,4 +32,4 @@ unfolding asked_of
 returns c =
     let group = c.group_of-g in
     let signs = c.signs_of-signs.ensures in
-    let factor = c.factor-factoring.ensures in record { told = factor.told (asked_of _ _ c.requires.0 (rw (← c.qubits.ensures.list) at group.ensures.group) (promise_of c.args.promise) signs.clash signs.step signs.stabilizer); area = c.clear_bits.ensures ∙ cleared_whole _ _ (factor.rest.size ∙ group.auto.w ∙ c.requires.3) c.requires.3 }
+    let factor = c.factor-factoring.ensures in record { told = factor.told (asked_of _ _ c.args.rolls.generators.accepted (rw (← c.qubits.ensures.list) at group.ensures.group) (promise_of c.args.promise) signs.clash signs.step signs.stabilizer); area = c.clear_bits.ensures ∙ cleared_whole _ _ (factor.rest.size ∙ group.auto.w ∙ c.requires.1) c.requires.1 }

@@ -3,10 +3,10 @@ use Rattle.pauli_group.proofs.group.GroupLaws.{standards_few, two_few}
 use Rattle.pauli_group.proofs.group.describe_two.Goals as goal
 
 pub group_of_two-g-requires : goal.group_of_two-g-requires
-group_of_two-g-requires c = (c.requires.0, c.requires.1)
+group_of_two-g-requires c = c.requires
 
 pub describe_group-requires : goal.describe_group-requires
-describe_group-requires c = omega (arith, standards_few c.group_of_two-g.ensures (two_few c.args.left.now c.args.nl c.args.right.now c.args.nr c.requires.0.left c.requires.0.right c.requires.0.few), c.group_of_two-g.auto.w, c.requires.1)
+describe_group-requires c = omega (arith, standards_few c.group_of_two-g.ensures (two_few c.args.pair.left.bytes.now c.args.pair.left.count c.args.pair.right.bytes.now c.args.pair.right.count c.args.pair.left.accepted c.args.pair.right.accepted c.args.pair.few), c.group_of_two-g.auto.w, c.requires)
 
 pub shape_of-w : goal.shape_of-w
 shape_of-w c = c.group_of_two-g.auto.w

@@ -10,22 +10,22 @@ use Rattle.pauli_group.proofs.group.group_of.Goals as goal
 pub read_list-requires : goal.read_list-requires
 unfolding most_paulis
 read_list-requires c =
-    let g = own_gathered c.args.b.now _ (rw (c.new.ensures, ← c.qubits-qubits.ensures.list) at c.gather.ensures) in
-    let few = own_few c.args.b.now c.args.n c.requires.0 in (
-      part_readable _ _ g few c.args.b.now c.args.n c.requires.0 (λ p m. m),
+    let g = own_gathered c.args.roll.bytes.now _ (rw (c.new.ensures, ← c.qubits-qubits.ensures.list) at c.gather.ensures) in
+    let few = own_few c.args.roll.bytes.now c.args.roll.count c.args.roll.accepted in (
+      part_readable _ _ g few c.args.roll.bytes.now c.args.roll.count c.args.roll.accepted (λ p m. m),
       places_few _ _ g few,
-      omega (arith, c.requires.1, accepted_few c.args.b.now c.args.n c.requires.0),
+      omega (arith, c.requires, accepted_few c.args.roll.bytes.now c.args.roll.count c.args.roll.accepted),
     )
 
 pub build-requires : goal.build-requires
 unfolding most_paulis
 build-requires c =
-    let g = own_gathered c.args.b.now _ (rw (c.new.ensures, ← c.qubits-qubits.ensures.list) at c.gather.ensures) in
-    let few = own_few c.args.b.now c.args.n c.requires.0 in (
-      c.read_list.ensures.rest.size ∙ c.requires.1,
-      accepted_few c.args.b.now c.args.n c.requires.0,
+    let g = own_gathered c.args.roll.bytes.now _ (rw (c.new.ensures, ← c.qubits-qubits.ensures.list) at c.gather.ensures) in
+    let few = own_few c.args.roll.bytes.now c.args.roll.count c.args.roll.accepted in (
+      c.read_list.ensures.rest.size ∙ c.requires,
+      accepted_few c.args.roll.bytes.now c.args.roll.count c.args.roll.accepted,
       places_few _ _ g few,
-      on_places _ _ g few _ c.args.n c.read_list.ensures.list,
+      on_places _ _ g few _ c.args.roll.count c.read_list.ensures.list,
     )
 
 pub shape_of-w : goal.shape_of-w
@@ -34,8 +34,8 @@ shape_of-w c = c.build.auto.w ∙ c.read_list.ensures.rest.size
 pub returns : goal.returns
 unfolding most_paulis
 returns c =
-    let g = own_gathered c.args.b.now _ (rw (c.new.ensures, ← c.qubits-qubits.ensures.list) at c.gather.ensures) in
-    let few = own_few c.args.b.now c.args.n c.requires.0 in record {
-      group = rw (← c.qubits-qubits.ensures.list, c.build.ensures.places) (grouped _ _ g few _ c.args.n c.read_list.ensures.list _ _ _ (accepted c.args.b.now c.args.n c.requires.0).1 c.build.ensures.built);
-      rest = outside_join (outside_wider 0 further_at c.read_list.ensures.rest (omega arith) (omega (arith, accepted_few c.args.b.now c.args.n c.requires.0))) c.build.ensures.built.rest;
+    let g = own_gathered c.args.roll.bytes.now _ (rw (c.new.ensures, ← c.qubits-qubits.ensures.list) at c.gather.ensures) in
+    let few = own_few c.args.roll.bytes.now c.args.roll.count c.args.roll.accepted in record {
+      group = rw (← c.qubits-qubits.ensures.list, c.build.ensures.places) (grouped _ _ g few _ c.args.roll.count c.read_list.ensures.list _ _ _ (accepted c.args.roll.bytes.now c.args.roll.count c.args.roll.accepted).1 c.build.ensures.built);
+      rest = outside_join (outside_wider 0 further_at c.read_list.ensures.rest (omega arith) (omega (arith, accepted_few c.args.roll.bytes.now c.args.roll.count c.args.roll.accepted))) c.build.ensures.built.rest;
     }

@@ -3,19 +3,19 @@ use Rattle.std.proofs.Common.{ℕ, List, sym, ap, ◌∙◌, length-take-le}
 use Rattle.pauli.specs.Told.{Told}
 use Rattle.pauli.specs.Writing.{told_bytes, left_in}
 use Rattle.pauli_group.specs.Promises.{promise_of}
-use Rattle.pauli_group.proofs.checks.OneList.{list_given, list_none, area_cleared, area_kept}
+use Rattle.pauli_group.proofs.checks.OneList.{given, list_none, area_cleared, area_kept}
 use Rattle.pauli_group.proofs.listing.PageLaws.{call_refused, call_answered}
 use Rattle.pauli.proofs.refusal.HandedOn.{handed_on}
 use Rattle.pauli.specs.Refusals.{told_of}
 use Rattle.pauli_group.proofs.listing.elements.Goals as goal
 
-pub returns-in_err-n : goal.returns-in_err-n
+pub returns-in_err-roll : goal.returns-in_err-roll
 unfolding told_bytes left_in
-returns-in_err-n c =
+returns-in_err-roll c =
     let b = c.args.b.now in
     let work = c.args.work.now in
     let out = c.args.out.now in
-    let none = list_none _ _ c.check_list.ensures _ c.in_err-n.was in
+    let none = list_none _ _ c.in_err-roll.ensures.count in
     let same = sym (call_refused (promise_of c.args.promise) c.args.start c.args.count b _ _ _ none) in
     record {
       told = ap told_of (handed_on _ _ c.from_residual.ensures.1) ∙ ap (λ (t : Told (List ℕ)). told_bytes t out) same;
@@ -24,26 +24,26 @@ returns-in_err-n c =
     }
 
 pub slice_bounds-write_page-end : goal.slice_bounds-write_page-end
-slice_bounds-write_page-end c = (list_given _ _ c.check_list.ensures _ c.in_ok-n.was).room
+slice_bounds-write_page-end c = (given _ _ _ c.in_ok-roll.ensures.count).room
 
 pub slice_bounds-write_page-end-2 : goal.slice_bounds-write_page-end-2
 slice_bounds-write_page-end-2 c =
-    let given = list_given _ _ c.check_list.ensures _ c.in_ok-n.was in
+    let given = given _ _ _ c.in_ok-roll.ensures.count in
     sym (length-take-le 4096 c.args.work.now given.room)
 
 pub write_page-requires : goal.write_page-requires
 write_page-requires c =
-    let given = list_given _ _ c.check_list.ensures _ c.in_ok-n.was in
-    (given.count, length-take-le 4096 c.args.work.now given.room)
+    let given = given _ _ _ c.in_ok-roll.ensures.count in
+    length-take-le 4096 c.args.work.now given.room
 
 pub returns : goal.returns
 returns c =
     let b = c.args.b.now in
     let work = c.args.work.now in
     let out = c.args.out.now in
-    let given = list_given _ _ c.check_list.ensures _ c.in_ok-n.was in
+    let given = given _ _ _ c.in_ok-roll.ensures.count in
     let same = sym (call_answered (promise_of c.args.promise) c.args.start c.args.count b _ _ given.told) in
-    let written = c.write_page.ensures in
+    let written = rw c.in_ok-roll.ensures.bytes at c.write_page.ensures in
     record {
       told = written.told ∙ ap (λ (t : Told (List ℕ)). told_bytes t out) same;
       left = written.left ∙ ap (λ (t : Told (List ℕ)). left_in t out) same;

@@ -10,22 +10,22 @@ use Rattle.pauli_group.proofs.member.factor.Goals as goal
 
 pub is_supported-requires : goal.is_supported-requires
 is_supported-requires c =
-    (c.requires.0, c.requires.1, known_rises c.requires.5.grouped)
+    (c.requires.0, known_rises c.requires.4.grouped)
 
 pub returns-then-not-is_supported : goal.returns-then-not-is_supported
 returns-then-not-is_supported c = record { told = λ g. factored_off g _ (sym c.is_supported.ensures ∙ c.if-not-is_supported.true); rest = outside_refl _ _ _ }
 
 pub condense_from-p-requires : goal.condense_from-p-requires
 condense_from-p-requires c =
-    let group = c.requires.5.grouped in
+    let group = c.requires.4.grouped in
     let inside = sym c.is_supported.ensures ∙ c.if-not-is_supported.false in
-    (covered_readable _ _ c.requires.0 _ c.requires.1 _ (known_rises group) inside, rw (← places_known group) c.requires.4)
+    (covered_readable _ _ c.args.roll.accepted _ c.requires.0 _ (known_rises group) inside, rw (← places_known group) c.requires.3)
 
 pub solve-requires : goal.solve-requires
 solve-requires c =
     let inside = sym c.is_supported.ensures ∙ c.if-not-is_supported.false in
-    let on = asked_on c.requires.5 _ inside _ c.condense_from-p.ensures in
-    (c.requires.3, c.requires.2, c.requires.4, on.0, on.1, asked_solvable c.requires.5 c.requires.2 c.requires.4 c.requires.3)
+    let on = asked_on c.requires.4 _ inside _ c.condense_from-p.ensures in
+    (c.requires.2, c.requires.1, c.requires.3, on.0, on.1, asked_solvable c.requires.4 c.requires.1 c.requires.3 c.requires.2)
 
 pub returns-in_err-set : goal.returns-in_err-set
 returns-in_err-set c =
@@ -37,7 +37,7 @@ pub returns-then-left-step-ne0 : goal.returns-then-left-step-ne0
 returns-then-left-step-ne0 c =
     let inside = sym c.is_supported.ensures ∙ c.if-not-is_supported.false in
     let solved = c.in_ok-set.ensures in
-    let list = list_kept_after solved.rest list_at c.args.n (omega (arith, (form_room c.args.n c.requires.2).1)) in
+    let list = list_kept_after solved.rest list_at c.args.n (omega (arith, (form_room c.args.n c.requires.1).1)) in
     let over = rw c.step.ensures.0 at c.if-left-step-ne0.true in
     record {
       told = λ g. factored_phase g _ inside _ c.condense_from-p.ensures _ solved.told
@@ -50,7 +50,7 @@ pub returns : goal.returns
 returns c =
     let inside = sym c.is_supported.ensures ∙ c.if-not-is_supported.false in
     let solved = c.in_ok-set.ensures in
-    let list = list_kept_after solved.rest list_at c.args.n (omega (arith, (form_room c.args.n c.requires.2).1)) in
+    let list = list_kept_after solved.rest list_at c.args.n (omega (arith, (form_room c.args.n c.requires.1).1)) in
     let whole = rw c.step.ensures.0 at c.if-left-step-ne0.false in
     record {
       told = λ g. factored_found g _ inside _ c.condense_from-p.ensures _ solved.told

@@ -5,25 +5,19 @@ use Rattle.pauli_group.proofs.group.GroupedLaws.{cleared_whole}
 use Rattle.pauli_group.proofs.modulo.ModuloLaws.{joined_places, joined_support, joined_size, remainder_on, remainder_written}
 use Rattle.pauli_group.proofs.modulo.write_modulo.Goals as goal
 
-pub invariant_of-first : goal.invariant_of-first
-invariant_of-first c = record { accepted = c.requires.0.left; low = λ i. (c.type_inv.left i).fits }
-
-pub invariant_of-second : goal.invariant_of-second
-invariant_of-second c = record { accepted = c.requires.0.right; low = λ i. (c.type_inv.right i).fits }
-
 pub remainder-count-requires : goal.remainder-count-requires
 remainder-count-requires c =
     let g = rw (← c.qubits-joined.ensures.list) at c.join_support-support.ensures in
-    (c.requires.0.left, c.requires.0.right, joined_places c.args.left.now c.args.right.now _ c.requires.0.qubits g, joined_support c.args.left.now c.args.right.now _ c.requires.0.qubits g, c.requires.1)
+    (joined_places c.args.pair.left.bytes.now c.args.pair.right.bytes.now _ c.args.pair.qubits g, joined_support c.args.pair.left.bytes.now c.args.pair.right.bytes.now _ c.args.pair.qubits g, c.requires)
 
 pub write_roll-wrote-requires : goal.write_roll-wrote-requires
 write_roll-wrote-requires c =
     let g = rw (← c.qubits-joined.ensures.list) at c.join_support-support.ensures in
     let left = c.remainder-count.ensures in (
-      omega (arith, left.few, c.remainder-count.auto.w, c.requires.1),
+      omega (arith, left.few, c.remainder-count.auto.w, c.requires),
       omega (arith, left.few),
-      joined_places c.args.left.now c.args.right.now _ c.requires.0.qubits g,
-      remainder_on left _ (joined_size c.args.left.now c.args.right.now _ c.requires.0.qubits g),
+      joined_places c.args.pair.left.bytes.now c.args.pair.right.bytes.now _ c.args.pair.qubits g,
+      remainder_on left _ (joined_size c.args.pair.left.bytes.now c.args.pair.right.bytes.now _ c.args.pair.qubits g),
     )
 
 pub shape_of-w : goal.shape_of-w
@@ -34,6 +28,6 @@ shape_of-out c = c.write_roll-wrote.auto.out
 
 pub returns : goal.returns
 returns c =
-    let joint = joined_support c.args.left.now c.args.right.now _ c.requires.0.qubits (rw (← c.qubits-joined.ensures.list) at c.join_support-support.ensures) in
+    let joint = joined_support c.args.pair.left.bytes.now c.args.pair.right.bytes.now _ c.args.pair.qubits (rw (← c.qubits-joined.ensures.list) at c.join_support-support.ensures) in
     let roll = remainder_written c.remainder-count.ensures _ joint in
-    let write = c.write_roll-wrote.ensures in record { told = write.told ∙ ap (λ b. told_bytes (answer b) c.args.out.now) roll; left = write.left ∙ ap (λ b. left_in (answer b) c.args.out.now) roll; area = c.clear_bits.ensures ∙ cleared_whole _ c.args.w.now (c.remainder-count.auto.w ∙ c.requires.1) c.requires.1 }
+    let write = c.write_roll-wrote.ensures in record { told = write.told ∙ ap (λ b. told_bytes (answer b) c.args.out.now) roll; left = write.left ∙ ap (λ b. left_in (answer b) c.args.out.now) roll; area = c.clear_bits.ensures ∙ cleared_whole _ c.args.w.now (c.remainder-count.auto.w ∙ c.requires) c.requires }

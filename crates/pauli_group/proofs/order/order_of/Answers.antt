@@ -12,4 +12,4 @@ returns c =
     ∙ compared _ _ _ _ _ _ _ (ranks_are _ _ _ c.describe-a.ensures _ _ c.ranks_of.ensures.0 c.ranks_of.ensures.1)
     (ranks_are _ _ _ c.describe-b.ensures _ _ c.ranks_of-2.ensures.0 c.ranks_of-2.ensures.1)
     (ranks_are _ _ _ c.describe_two-both.ensures _ _ c.ranks_of-3.ensures.0 c.ranks_of-3.ensures.1
-    ∙ ap (ranks_of none) (paulis_append (list_of c.args.left.now) (list_of c.args.right.now)))
+    ∙ ap (ranks_of none) (paulis_append (list_of c.args.pair.left.bytes.now) (list_of c.args.pair.right.bytes.now)))

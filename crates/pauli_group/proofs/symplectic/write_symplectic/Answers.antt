@@ -11,30 +11,30 @@ use Rattle.pauli_group.proofs.symplectic.write_symplectic.Goals as goal
 
 pub read_list-requires : goal.read_list-requires
 unfolding most_paulis
-read_list-requires c = let g = own_gathered c.args.b.now _ (rw (c.new-known.ensures, ← c.qubits-qubits.ensures.list) at c.gather.ensures) in
-    let few = own_few c.args.b.now c.args.n c.requires.0 in (
-      part_readable _ _ g few c.args.b.now c.args.n c.requires.0 (λ p m. m),
+read_list-requires c = let g = own_gathered c.args.roll.bytes.now _ (rw (c.new-known.ensures, ← c.qubits-qubits.ensures.list) at c.gather.ensures) in
+    let few = own_few c.args.roll.bytes.now c.args.roll.count c.args.roll.accepted in (
+      part_readable _ _ g few c.args.roll.bytes.now c.args.roll.count c.args.roll.accepted (λ p m. m),
       places_few _ _ g few,
-      omega (arith, c.requires.1, accepted_few c.args.b.now c.args.n c.requires.0),
+      omega (arith, c.requires, accepted_few c.args.roll.bytes.now c.args.roll.count c.args.roll.accepted),
     )
 
 pub pair_up-requires : goal.pair_up-requires
 unfolding most_paulis
-pair_up-requires c = (c.read_list.ensures.rest.size ∙ c.requires.1, accepted_few c.args.b.now c.args.n c.requires.0)
+pair_up-requires c = (c.read_list.ensures.rest.size ∙ c.requires, accepted_few c.args.roll.bytes.now c.args.roll.count c.args.roll.accepted)
 
 pub write_roll-wrote-requires : goal.write_roll-wrote-requires
 unfolding most_paulis
-write_roll-wrote-requires c = let g = own_gathered c.args.b.now _ (rw (c.new-known.ensures, ← c.qubits-qubits.ensures.list) at c.gather.ensures) in
-    let few = own_few c.args.b.now c.args.n c.requires.0 in
-    let count = accepted_few c.args.b.now c.args.n c.requires.0 in (
-      omega (arith, count, c.pair_up.auto.w, c.read_list.ensures.rest.size, c.requires.1),
+write_roll-wrote-requires c = let g = own_gathered c.args.roll.bytes.now _ (rw (c.new-known.ensures, ← c.qubits-qubits.ensures.list) at c.gather.ensures) in
+    let few = own_few c.args.roll.bytes.now c.args.roll.count c.args.roll.accepted in
+    let count = accepted_few c.args.roll.bytes.now c.args.roll.count c.args.roll.accepted in (
+      omega (arith, count, c.pair_up.auto.w, c.read_list.ensures.rest.size, c.requires),
       omega (arith, count),
       places_few _ _ g few,
-      pairs_on c.args.b.now c.args.n c.requires.0 _ g _ c.read_list.ensures.list _ c.pair_up.ensures,
+      pairs_on c.args.roll.bytes.now c.args.roll.count c.args.roll.accepted _ g _ c.read_list.ensures.list _ c.pair_up.ensures,
     )
 
 pub returns : goal.returns
 returns c = let out = c.args.out.now in
-    let g = own_gathered c.args.b.now _ (rw (c.new-known.ensures, ← c.qubits-qubits.ensures.list) at c.gather.ensures) in
+    let g = own_gathered c.args.roll.bytes.now _ (rw (c.new-known.ensures, ← c.qubits-qubits.ensures.list) at c.gather.ensures) in
     let wrote = c.write_roll-wrote.ensures in
-    let roll = pairs_written c.args.b.now c.args.n c.requires.0 _ g _ c.read_list.ensures.list _ c.pair_up.ensures in record { told = wrote.told ∙ ap (λ (bs : List ℕ). told_bytes (answer bs) out) roll; left = wrote.left ∙ ap (λ (bs : List ℕ). left_in (answer bs) out) roll; area = c.clear_bits.ensures ∙ cleared_whole _ _ (c.pair_up.auto.w ∙ c.read_list.ensures.rest.size ∙ c.requires.1) c.requires.1 }
+    let roll = pairs_written c.args.roll.bytes.now c.args.roll.count c.args.roll.accepted _ g _ c.read_list.ensures.list _ c.pair_up.ensures in record { told = wrote.told ∙ ap (λ (bs : List ℕ). told_bytes (answer bs) out) roll; left = wrote.left ∙ ap (λ (bs : List ℕ). left_in (answer bs) out) roll; area = c.clear_bits.ensures ∙ cleared_whole _ _ (c.pair_up.auto.w ∙ c.read_list.ensures.rest.size ∙ c.requires) c.requires }

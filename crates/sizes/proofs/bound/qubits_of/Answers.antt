@@ -5,5 +5,5 @@ use Rattle.sizes.proofs.bound.qubits_of.Goals as goal
 
 pub returns : goal.returns
 returns c =
-    let g = own_gathered c.args.b.now _ (rw c.new-known.ensures at c.gather.ensures) in
-    c.len.ensures ∙ places_are _ _ g (own_few c.args.b.now c.args.n c.requires)
+    let g = own_gathered c.args.roll.bytes.now _ (rw c.new-known.ensures at c.gather.ensures) in
+    c.len.ensures ∙ places_are _ _ g (own_few c.args.roll.bytes.now c.args.roll.count c.args.roll.accepted)

@@ -1,15 +1,11 @@
 -- The generators' roll and the elements' roll: what their check tells.
-use Rattle.std.proofs.Common.{◌≡◌, ℕ, List, length, sym, refl, ap, ◌∙◌, Err, Ok, Result}
-use Rattle.pauli.specs.declared.joined.RollCounts.{RollCounts}
-use Rattle.pauli.specs.declared.refusal.Refusal.{Refusal}
-use Rattle.pauli.specs.Refusals.{told_refusal, told_by}
+use Rattle.std.proofs.Common.{◌≡◌, ℕ, List, length, sym, refl, ap, ◌∙◌}
 use Rattle.pauli.specs.JoinCalls.{read_both, Counts}
 use Rattle.pauli.specs.Roll.{read, count_of}
 use Rattle.pauli.specs.Told.{Told, answer, refused, and_then, map_told}
 use Rattle.pauli.proofs.joined.JoinLaws.{accepted}
 use Rattle.pauli.proofs.roll.Told.{refused_none, map_refused}
 use Rattle.pauli_group.specs.Calls.{roll_counts}
-use Rattle.pauli.specs.JoinAnswers.{counts_in}
 
 module _ (b e : List ℕ) where
   pub rolls_left : (m p : ℕ) → count_of b ≡ refused m p → refused m p ≡ roll_counts b e
@@ -47,11 +43,6 @@ module _ (b e : List ℕ) where
       left (refused i p) f = absurd (refused_none i p _ (rolls_left i p f ∙ sym h))
       left (answer k) f = right k f (count_of e) refl
 
-  -- by what check_rolls tells
-  module _ {r : Result RollCounts Refusal} (h : told_by counts_in r ≡ roll_counts b e) where
-    pub rolls_given : (c : RollCounts) → r ≡ Ok c → Accepted c.left c.right
-    rolls_given c k = both c.left c.right (sym (ap (told_by counts_in) k) ∙ h)
-
-    pub rolls_none : (q : Refusal) → r ≡ Err q → read_both b e ≡ told_refusal q
-    unfolding roll_counts
-    rolls_none q k = map_refused _ (read_both b e) _ _ (sym (sym (ap (told_by counts_in) k) ∙ h))
+  pub rolls_none : {m p : ℕ} → refused m p ≡ roll_counts b e → read_both b e ≡ refused m p
+  unfolding roll_counts
+  rolls_none h = map_refused _ (read_both b e) _ _ (sym h)
