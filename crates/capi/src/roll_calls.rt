@@ -8,11 +8,11 @@ ghost use Rattle.capi.specs.CallContracts.{Writing, Locating};
 
 use crate::answer::{Answer, code_looked, code_number, code_refusal, code_values};
 use pauli::join::join;
-use pauli::joined::joined_counts;
+use pauli::joined::Pair;
 use pauli::lookup::joined_entry;
 use pauli::product::product;
 use pauli::refusal::Reason;
-use pauli::roll::{check_roll, entry_at};
+use pauli::roll::{Roll, check_roll};
 
 // How many Paulis a roll has.
 #[unsafe(no_mangle)]
@@ -56,13 +56,17 @@ pub extern "C" fn howhiruke_joined_entry(left: &[u8], right: &[u8], n: usize) ->
     code_looked(found)
 }
 
-// Where the body of Pauli i of an accepted roll of n stands in it.
-fn stretch_in(roll: usize, b: &[u8], n: usize, i: usize) -> Answer
-    requires { (count_of b.now ≡ answer n) × (i < n) }
-    ensures { result ≡ code_body (answer (stretch_in_spec roll b.now i)) }
+// Where the body of Pauli i of a roll stands in it; side is 0 for the left roll and 1 for the right one.
+fn stretch_in(side: usize, roll: Roll, i: usize) -> Answer
+    requires { i < roll.count }
+    ensures { result ≡ code_body (answer (stretch_in_spec side roll.entry.bytes.now i)) }
 {
-    let e = entry_at(b, i);
-    code_values(roll, 2 + 10 * n + 4 * e.start, 4 * (e.xcount + e.zcount))
+    let e = roll.entry(i);
+    code_values(
+        side,
+        2 + 10 * roll.count + 4 * e.start,
+        4 * (e.xcount + e.zcount),
+    )
 }
 
 // Where the body of generator n of the joined list stands: in roll 0, the left one, or 1.
@@ -70,17 +74,17 @@ fn stretch_in(roll: usize, b: &[u8], n: usize, i: usize) -> Answer
 pub extern "C" fn howhiruke_joined_body(left: &[u8], right: &[u8], n: usize) -> Answer
     ensures { Locating left.now right.now n result }
 {
-    let counts = match joined_counts(left, right) {
-        Ok(counts) => counts,
+    let pair = match Pair::read(left, right) {
+        Ok(pair) => pair,
         Err(refusal) => return code_refusal(refusal),
     };
-    let nl = counts.left;
-    let nr = counts.right;
-    if n < nl {
-        return stretch_in(0, left, nl, n);
+    let l = pair.left;
+    let r = pair.right;
+    if n < l.count {
+        return stretch_in(0, l, n);
     }
-    if n - nl < nr {
-        return stretch_in(1, right, nr, n - nl);
+    if n - l.count < r.count {
+        return stretch_in(1, r, n - l.count);
     }
     code_refusal(Reason::Number.into())
 }
