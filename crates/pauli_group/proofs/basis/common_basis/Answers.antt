@@ -3,9 +3,6 @@ use Rattle.pauli_group.proofs.basis.BasisLaws.{stack_count, stack_first, stack_o
 use Rattle.pauli_group.proofs.common.PartLaws.{lists_few}
 use Rattle.pauli_group.proofs.basis.common_basis.Goals as goal
 
-pub stack_standard-stacked-requires : goal.stack_standard-stacked-requires
-stack_standard-stacked-requires c = (c.requires.0, c.requires.1)
-
 pub overflow_add-n : goal.overflow_add-n
 overflow_add-n c =
     let few = lists_few _ _ _ _ c.args.pair.left.accepted c.args.pair.right.accepted c.args.pair.few in

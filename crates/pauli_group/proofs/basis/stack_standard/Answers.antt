@@ -4,9 +4,6 @@ use Rattle.pauli_group.proofs.group.GroupedLaws.{group_total, group_places, grou
 use Rattle.pauli_group.proofs.basis.BasisLaws.{grouped_movable, joint_rises, joint_left, joint_right, stack_is}
 use Rattle.pauli_group.proofs.basis.stack_standard.Goals as goal
 
-pub group_of-a-requires : goal.group_of-a-requires
-group_of-a-requires c = c.requires.0
-
 pub move_list-requires : goal.move_list-requires
 move_list-requires c =
     let g = c.group_of-a.ensures in

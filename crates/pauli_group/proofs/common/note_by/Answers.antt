@@ -5,9 +5,6 @@ use Rattle.pauli_group.proofs.group.GroupedLaws.{group_total}
 use Rattle.pauli_group.proofs.common.SharedLaws.{group_solving, group_further, group_movable, group_noted}
 use Rattle.pauli_group.proofs.common.note_by.Goals as goal
 
-pub group_of-group-requires : goal.group_of-group-requires
-group_of-group-requires c = c.requires.0
-
 pub signs_of-signs-requires : goal.signs_of-signs-requires
 signs_of-signs-requires c = omega (arith, group_total _ _ c.args.roll.accepted c.group_of-group.ensures.group, c.group_of-group.ensures.rest.size, c.requires.0)
 

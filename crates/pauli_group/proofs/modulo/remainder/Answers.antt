@@ -10,9 +10,6 @@ use Rattle.pauli_group.proofs.member.FactorLaws.{places_known}
 use Rattle.pauli_group.proofs.modulo.ModuloLaws.{left_moves, moved_low, left_list, right_other, remainder_left}
 use Rattle.pauli_group.proofs.modulo.remainder.Goals as goal
 
-pub group_of-a-requires : goal.group_of-a-requires
-group_of-a-requires c = c.requires.2
-
 pub move_list-requires : goal.move_list-requires
 move_list-requires c =
     let group = c.group_of-a in
