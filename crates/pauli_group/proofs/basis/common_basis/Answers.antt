@@ -60,9 +60,6 @@ put_products-requires-2 c =
     let count = basis_count _ _ few _ _ _ S _ c.requires.1.count _ F.rank _ F.form F.rest _ c.put_products.ensures.list _ E.rank _ E.form E.rest in
     (size, omega (arith, zeros), omega (arith, count), zeros, omega arith, omega (arith, zeros, size), omega (arith, zeros, count, size), inl (omega (arith, zeros)))
 
-pub shape_of-w : goal.shape_of-w
-shape_of-w c = c.put_products-2.auto.w ∙ c.form_of-count.auto.w ∙ c.put_products.auto.w ∙ c.form_of-rank.auto.w ∙ c.stack_standard-stacked.auto.w
-
 pub returns : goal.returns
 returns c =
     let few = lists_few _ _ _ _ c.args.pair.left.accepted c.args.pair.right.accepted c.args.pair.few in

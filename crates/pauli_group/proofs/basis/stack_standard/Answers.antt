@@ -39,9 +39,6 @@ move_list-requires-2 c =
       rw c.qubits-2.ensures.list (grouped_movable g.group _ (joint_rises _ _ _ c.requires.1) (joint_right _ _ _ c.requires.1)),
     )
 
-pub shape_of-w : goal.shape_of-w
-shape_of-w c = c.move_list-2.ensures.rest.size ∙ c.group_of-b.ensures.rest.size ∙ c.move_list.ensures.rest.size ∙ c.group_of-a.ensures.rest.size
-
 pub returns : goal.returns
 returns c =
     stack_is _ _ _ c.requires.1 c.group_of-a.ensures.group _ (rw c.qubits.ensures.list at c.move_list.ensures.list) c.group_of-b.ensures.group c.group_of-b.ensures.rest _ (rw c.qubits-2.ensures.list at c.move_list-2.ensures.list) c.move_list-2.ensures.rest

@@ -21,9 +21,6 @@ note_exponents-requires c =
       rw c.qubits.ensures.list (group_movable _ _ c.args.roll.accepted g.group size g.rest _ _ c.requires.4),
     )
 
-pub shape_of-w : goal.shape_of-w
-shape_of-w c = c.note_exponents.auto.w ∙ c.group_of-group.ensures.rest.size
-
 pub returns : goal.returns
 returns c =
     let g = c.group_of-group.ensures in

@@ -53,9 +53,6 @@ take_mod-requires c = (
   c.step.ensures.1,
 )
 
-pub shape_of-w : goal.shape_of-w
-shape_of-w c = c.take_mod.auto.w ∙ c.multiply_all.auto.w ∙ c.group_of-b.auto.w ∙ c.move_list.auto.w ∙ c.group_of-a.auto.w
-
 pub returns : goal.returns
 returns c =
     let group = c.group_of-b in
