@@ -1,5 +1,5 @@
 // What is checked before a call works: its rolls, its numbers and the work area, in this order.
-ghost use Rattle.std.specs.Prelude.{◌≡◌, length, IfOk};
+ghost use Rattle.std.specs.Prelude.{◌≡◌, ◌≤◌, length, IfOk};
 ghost use Rattle.pauli.specs.Told.{map_told};
 ghost use Rattle.pauli_group.specs.Calls.{one_list, roll_counts, question_counts, pair_counts, two_lists};
 ghost use Rattle.pauli.specs.Refusals.{told_by};
@@ -13,6 +13,7 @@ use pauli::roll::Roll;
 pub(crate) fn check_list<'a>(b: &'a [u8], words: usize) -> Result<Roll<'a>, Refusal>
     ensures count { told_by (λ roll. roll.count) result ≡ map_told length (one_list b.now words) }
     ensures bytes { IfOk result (λ roll. roll.bytes ≡ b.entry) }
+    ensures room { IfOk result (λ roll. 4096 ≤ words) }
 {
     let roll = Roll::read(b)?;
     if words < WORK_WORDS {
@@ -50,6 +51,7 @@ pub(crate) fn check_question<'a>(
 ) -> Result<Rolls<'a>, Refusal>
     ensures counts { told_by (λ rolls. record { left = rolls.generators.count; right = rolls.elements.count }) result ≡ question_counts generators.now elements.now number words }
     ensures rolls { IfOk result (λ rolls. (rolls.generators.bytes ≡ generators.entry) × (rolls.elements.bytes ≡ elements.entry)) }
+    ensures room { IfOk result (λ rolls. 4096 ≤ words) }
 {
     let rolls = check_rolls(generators, elements)?;
     if number >= rolls.elements.count {
@@ -69,6 +71,7 @@ pub(crate) fn check_pair<'a>(
 ) -> Result<Pair<'a>, Refusal>
     ensures counts { told_by (λ pair. record { left = pair.left.count; right = pair.right.count }) result ≡ map_told pair_counts (two_lists left.now right.now words) }
     ensures rolls { IfOk result (λ pair. (pair.left.bytes ≡ left.entry) × (pair.right.bytes ≡ right.entry)) }
+    ensures room { IfOk result (λ pair. 4096 ≤ words) }
 {
     let pair = Pair::read(left, right)?;
     if words < WORK_WORDS {

@@ -3,9 +3,6 @@ use Rattle.pauli_group.proofs.basis.BasisLaws.{stack_count, stack_first, stack_o
 use Rattle.pauli_group.proofs.common.PartLaws.{lists_few}
 use Rattle.pauli_group.proofs.basis.common_basis.Goals as goal
 
-pub stack_standard-stacked-requires : goal.stack_standard-stacked-requires
-stack_standard-stacked-requires c = (c.requires.0, c.requires.1)
-
 pub overflow_add-n : goal.overflow_add-n
 overflow_add-n c =
     let few = lists_few _ _ _ _ c.args.pair.left.accepted c.args.pair.right.accepted c.args.pair.few in
@@ -62,9 +59,6 @@ put_products-requires-2 c =
     let zeros = stack_zeros _ _ few _ _ _ S _ c.requires.1.count _ F.rank _ F.form F.rest in
     let count = basis_count _ _ few _ _ _ S _ c.requires.1.count _ F.rank _ F.form F.rest _ c.put_products.ensures.list _ E.rank _ E.form E.rest in
     (size, omega (arith, zeros), omega (arith, count), zeros, omega arith, omega (arith, zeros, size), omega (arith, zeros, count, size), inl (omega (arith, zeros)))
-
-pub shape_of-w : goal.shape_of-w
-shape_of-w c = c.put_products-2.auto.w ∙ c.form_of-count.auto.w ∙ c.put_products.auto.w ∙ c.form_of-rank.auto.w ∙ c.stack_standard-stacked.auto.w
 
 pub returns : goal.returns
 returns c =

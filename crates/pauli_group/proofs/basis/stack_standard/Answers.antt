@@ -4,9 +4,6 @@ use Rattle.pauli_group.proofs.group.GroupedLaws.{group_total, group_places, grou
 use Rattle.pauli_group.proofs.basis.BasisLaws.{grouped_movable, joint_rises, joint_left, joint_right, stack_is}
 use Rattle.pauli_group.proofs.basis.stack_standard.Goals as goal
 
-pub group_of-a-requires : goal.group_of-a-requires
-group_of-a-requires c = c.requires.0
-
 pub move_list-requires : goal.move_list-requires
 move_list-requires c =
     let g = c.group_of-a.ensures in
@@ -41,9 +38,6 @@ move_list-requires-2 c =
       rw (c.qubits-2.ensures.list, ← places_known g.group) (group_on _ _ c.args.pair.right.accepted g.group),
       rw c.qubits-2.ensures.list (grouped_movable g.group _ (joint_rises _ _ _ c.requires.1) (joint_right _ _ _ c.requires.1)),
     )
-
-pub shape_of-w : goal.shape_of-w
-shape_of-w c = c.move_list-2.ensures.rest.size ∙ c.group_of-b.ensures.rest.size ∙ c.move_list.ensures.rest.size ∙ c.group_of-a.ensures.rest.size
 
 pub returns : goal.returns
 returns c =

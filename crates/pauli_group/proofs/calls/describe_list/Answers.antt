@@ -15,18 +15,11 @@ returns-in_err-roll c =
       area = area_kept c.args.b.now c.args.work.now none;
     }
 
-pub slice_bounds-describe_once-end : goal.slice_bounds-describe_once-end
-slice_bounds-describe_once-end c = (given _ _ _ c.in_ok-roll.ensures.count).room
-
 pub slice_bounds-describe_once-end-2 : goal.slice_bounds-describe_once-end-2
-slice_bounds-describe_once-end-2 c =
-    let given = given _ _ _ c.in_ok-roll.ensures.count in
-    sym (length-take-le 4096 c.args.work.now given.room)
+slice_bounds-describe_once-end-2 c = sym (length-take-le 4096 c.args.work.now c.in_ok-roll.ensures.room)
 
 pub describe_once-requires : goal.describe_once-requires
-describe_once-requires c =
-    let given = given _ _ _ c.in_ok-roll.ensures.count in
-    length-take-le 4096 c.args.work.now given.room
+describe_once-requires c = length-take-le 4096 c.args.work.now c.in_ok-roll.ensures.room
 
 pub returns : goal.returns
 returns c =

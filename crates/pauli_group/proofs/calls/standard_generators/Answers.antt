@@ -22,18 +22,11 @@ returns-in_err-roll c =
       area = area_kept b work none;
     }
 
-pub slice_bounds-write_standard-end : goal.slice_bounds-write_standard-end
-slice_bounds-write_standard-end c = (given _ _ _ c.in_ok-roll.ensures.count).room
-
 pub slice_bounds-write_standard-end-2 : goal.slice_bounds-write_standard-end-2
-slice_bounds-write_standard-end-2 c =
-    let given = given _ _ _ c.in_ok-roll.ensures.count in
-    sym (length-take-le 4096 c.args.work.now given.room)
+slice_bounds-write_standard-end-2 c = sym (length-take-le 4096 c.args.work.now c.in_ok-roll.ensures.room)
 
 pub write_standard-requires : goal.write_standard-requires
-write_standard-requires c =
-    let given = given _ _ _ c.in_ok-roll.ensures.count in
-    length-take-le 4096 c.args.work.now given.room
+write_standard-requires c = length-take-le 4096 c.args.work.now c.in_ok-roll.ensures.room
 
 pub returns : goal.returns
 unfolding standard_generators

@@ -7,9 +7,6 @@ use Rattle.pauli_group.proofs.member.FactorLaws.{places_known}
 use Rattle.pauli_group.proofs.calls.CallLaws.{group_written}
 use Rattle.pauli_group.proofs.calls.write_standard.Goals as goal
 
-pub group_of-g-requires : goal.group_of-g-requires
-group_of-g-requires c = c.requires
-
 pub write_roll-wrote-requires : goal.write_roll-wrote-requires
 write_roll-wrote-requires c =
     let count = c.args.roll.accepted in

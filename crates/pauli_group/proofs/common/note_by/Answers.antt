@@ -5,9 +5,6 @@ use Rattle.pauli_group.proofs.group.GroupedLaws.{group_total}
 use Rattle.pauli_group.proofs.common.SharedLaws.{group_solving, group_further, group_movable, group_noted}
 use Rattle.pauli_group.proofs.common.note_by.Goals as goal
 
-pub group_of-group-requires : goal.group_of-group-requires
-group_of-group-requires c = c.requires.0
-
 pub signs_of-signs-requires : goal.signs_of-signs-requires
 signs_of-signs-requires c = omega (arith, group_total _ _ c.args.roll.accepted c.group_of-group.ensures.group, c.group_of-group.ensures.rest.size, c.requires.0)
 
@@ -23,9 +20,6 @@ note_exponents-requires c =
       group_further _ _ c.args.roll.accepted g.group size g.rest c.args.joint.now _ _ c.requires.3,
       rw c.qubits.ensures.list (group_movable _ _ c.args.roll.accepted g.group size g.rest _ _ c.requires.4),
     )
-
-pub shape_of-w : goal.shape_of-w
-shape_of-w c = c.note_exponents.auto.w ∙ c.group_of-group.ensures.rest.size
 
 pub returns : goal.returns
 returns c =

@@ -5,9 +5,6 @@ use Rattle.pauli_group.proofs.group.GroupedLaws.{cleared_whole}
 use Rattle.pauli_group.proofs.common.PartLaws.{lesser_bytes}
 use Rattle.pauli_group.proofs.common.write_common.Goals as goal
 
-pub order_of-order-requires : goal.order_of-order-requires
-order_of-order-requires c = c.requires
-
 pub write_lesser-wrote-requires : goal.write_lesser-wrote-requires
 write_lesser-wrote-requires c = c.order_of-order.auto.w ∙ c.requires
 

@@ -8,9 +8,6 @@ use Rattle.pauli_group.proofs.group.GroupedLaws.{group_places}
 use Rattle.pauli_group.proofs.common.SharedLaws.{list_on, list_written}
 use Rattle.pauli_group.proofs.common.write_list.Goals as goal
 
-pub group_of-group-requires : goal.group_of-group-requires
-group_of-group-requires c = c.requires
-
 pub write_roll-requires : goal.write_roll-requires
 unfolding most_paulis
 write_roll-requires c =

@@ -5,10 +5,6 @@ use Rattle.pauli_group.specs.Promises.{promise_of}
 use Rattle.std.proofs.Common.{◌∙◌, arith}
 use Rattle.pauli_group.proofs.factorization.factor_once.Goals as goal
 
-pub group_of-g-requires : goal.group_of-g-requires
-group_of-g-requires c =
-    c.requires.1
-
 pub signs_of-signs-requires : goal.signs_of-signs-requires
 signs_of-signs-requires c =
     let total = group_total _ _ c.args.rolls.generators.accepted c.group_of-g.ensures.group in

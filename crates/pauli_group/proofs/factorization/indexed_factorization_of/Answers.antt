@@ -11,19 +11,11 @@ returns-in_err-rolls c =
     rw (handed_on _ _ c.from_residual.ensures.1)
     (call_refused _ _ _ _ _ _ _ (question_none _ _ _ _ _ _ (sym c.in_err-rolls.ensures.counts)))
 
-pub slice_bounds-factor_once-end : goal.slice_bounds-factor_once-end
-slice_bounds-factor_once-end c =
-    (asking _ _ _ _ _ _ c.in_ok-rolls.ensures.counts).room
-
 pub slice_bounds-factor_once-end-2 : goal.slice_bounds-factor_once-end-2
-slice_bounds-factor_once-end-2 c =
-    let asked = asking _ _ _ _ _ _ c.in_ok-rolls.ensures.counts in
-    sym (length-take-le 4096 c.args.work.now asked.room)
+slice_bounds-factor_once-end-2 c = sym (length-take-le 4096 c.args.work.now c.in_ok-rolls.ensures.room)
 
 pub factor_once-factoring-requires : goal.factor_once-factoring-requires
-factor_once-factoring-requires c =
-    let asked = asking _ _ _ _ _ _ c.in_ok-rolls.ensures.counts in
-    (asked.inside, length-take-le 4096 c.args.work.now asked.room)
+factor_once-factoring-requires c = ((asking _ _ _ _ _ _ c.in_ok-rolls.ensures.counts).inside, length-take-le 4096 c.args.work.now c.in_ok-rolls.ensures.room)
 
 pub returns-in-None : goal.returns-in-None
 returns-in-None c =

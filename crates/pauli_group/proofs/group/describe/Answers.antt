@@ -3,14 +3,8 @@ use Rattle.pauli_group.proofs.group.GroupLaws.{standards_few}
 use Rattle.pauli_group.proofs.group.GroupedLaws.{list_few}
 use Rattle.pauli_group.proofs.group.describe.Goals as goal
 
-pub group_of-g-requires : goal.group_of-g-requires
-group_of-g-requires c = c.requires
-
 pub describe_group-requires : goal.describe_group-requires
 describe_group-requires c = omega (arith, standards_few c.group_of-g.ensures.group (list_few c.args.roll.bytes.now c.args.roll.count c.args.roll.accepted), c.group_of-g.auto.w, c.requires)
-
-pub shape_of-w : goal.shape_of-w
-shape_of-w c = c.group_of-g.auto.w
 
 pub returns : goal.returns
 returns c = c.describe_group.ensures _ _ c.group_of-g.ensures.group

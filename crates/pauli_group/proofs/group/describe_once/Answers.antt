@@ -2,11 +2,5 @@ use Rattle.std.proofs.Common.{◌∙◌}
 use Rattle.pauli_group.proofs.group.GroupedLaws.{cleared_whole}
 use Rattle.pauli_group.proofs.group.describe_once.Goals as goal
 
-pub describe-d-requires : goal.describe-d-requires
-describe-d-requires c = c.requires
-
-pub shape_of-w : goal.shape_of-w
-shape_of-w c = c.clear_bits.auto.w ∙ c.describe-d.auto.w
-
 pub returns : goal.returns
 returns c = record { told = c.describe-d.ensures; area = c.clear_bits.ensures ∙ cleared_whole _ c.args.w.now (c.describe-d.auto.w ∙ c.requires) c.requires }

@@ -28,9 +28,6 @@ build-requires c =
       on_places _ _ g few _ c.args.roll.count c.read_list.ensures.list,
     )
 
-pub shape_of-w : goal.shape_of-w
-shape_of-w c = c.build.auto.w ∙ c.read_list.ensures.rest.size
-
 pub returns : goal.returns
 unfolding most_paulis
 returns c =

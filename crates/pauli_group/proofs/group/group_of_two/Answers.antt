@@ -30,9 +30,6 @@ build-requires c =
       on_places _ _ g c.args.pair.qubits _ (c.args.pair.left.count + c.args.pair.right.count) (two_listed _ (list_of c.args.pair.left.bytes.now) (list_of c.args.pair.right.bytes.now) c.args.pair.left.count c.args.pair.right.count _ _ c.read_list.ensures.list c.read_list-2.ensures.list c.read_list-2.ensures.rest),
     )
 
-pub shape_of-w : goal.shape_of-w
-shape_of-w c = c.build.auto.w ∙ c.read_list-2.ensures.rest.size ∙ c.read_list.ensures.rest.size
-
 pub returns : goal.returns
 returns c =
     let g = rw (← c.qubits-qubits.ensures.list) at c.join_support.ensures in

@@ -11,9 +11,6 @@ use Rattle.pauli_group.proofs.listing.PageLaws.{signs_step, page_places, page_wr
 use Rattle.pauli.specs.Refusals.{told_refusal}
 use Rattle.pauli_group.proofs.listing.write_page.Goals as goal
 
-pub group_of-g-requires : goal.group_of-g-requires
-group_of-g-requires c = c.requires
-
 pub returns-then-g-gt-MOST_LISTED : goal.returns-then-g-gt-MOST_LISTED
 unfolding told_bytes left_in
 returns-then-g-gt-MOST_LISTED c =

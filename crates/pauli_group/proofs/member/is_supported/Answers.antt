@@ -5,9 +5,6 @@ use Rattle.pauli_group.specs.Inner.Members.{covered}
 use Rattle.std.proofs.Common.{ap, ◌∙◌, arith}
 use Rattle.pauli_group.proofs.member.is_supported.Goals as goal
 
-pub entry-e-requires : goal.entry-e-requires
-entry-e-requires c = c.requires.0
-
 pub overflow_mul-roll : goal.overflow_mul-roll
 overflow_mul-roll c =
     omega (arith, accepted_room _ c.args.roll.count c.args.roll.accepted c.args.i c.requires.0 _ c.entry-e.ensures.0)

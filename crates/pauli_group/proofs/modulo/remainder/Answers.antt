@@ -10,9 +10,6 @@ use Rattle.pauli_group.proofs.member.FactorLaws.{places_known}
 use Rattle.pauli_group.proofs.modulo.ModuloLaws.{left_moves, moved_low, left_list, right_other, remainder_left}
 use Rattle.pauli_group.proofs.modulo.remainder.Goals as goal
 
-pub group_of-a-requires : goal.group_of-a-requires
-group_of-a-requires c = c.requires.2
-
 pub move_list-requires : goal.move_list-requires
 move_list-requires c =
     let group = c.group_of-a in
@@ -55,9 +52,6 @@ take_mod-requires c = (
   omega (arith, group_total _ _ c.args.pair.left.accepted c.group_of-a.ensures.group, c.multiply_all.auto.w, c.group_of-b.auto.w, c.move_list.auto.w, c.group_of-a.auto.w, c.requires.2),
   c.step.ensures.1,
 )
-
-pub shape_of-w : goal.shape_of-w
-shape_of-w c = c.take_mod.auto.w ∙ c.multiply_all.auto.w ∙ c.group_of-b.auto.w ∙ c.move_list.auto.w ∙ c.group_of-a.auto.w
 
 pub returns : goal.returns
 returns c =

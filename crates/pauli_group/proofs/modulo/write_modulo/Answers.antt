@@ -20,12 +20,6 @@ write_roll-wrote-requires c =
       remainder_on left _ (joined_size c.args.pair.left.bytes.now c.args.pair.right.bytes.now _ c.args.pair.qubits g),
     )
 
-pub shape_of-w : goal.shape_of-w
-shape_of-w c = c.clear_bits.auto.w ∙ c.remainder-count.auto.w
-
-pub shape_of-out : goal.shape_of-out
-shape_of-out c = c.write_roll-wrote.auto.out
-
 pub returns : goal.returns
 returns c =
     let joint = joined_support c.args.pair.left.bytes.now c.args.pair.right.bytes.now _ c.args.pair.qubits (rw (← c.qubits-joined.ensures.list) at c.join_support-support.ensures) in

@@ -15,18 +15,11 @@ returns-in_err-pair c =
       area = pair_kept c.args.left.now c.args.right.now c.args.work.now none;
     }
 
-pub slice_bounds-compare-end : goal.slice_bounds-compare-end
-slice_bounds-compare-end c = (paired _ _ _ _ c.in_ok-pair.ensures.counts).room
-
 pub slice_bounds-compare-end-2 : goal.slice_bounds-compare-end-2
-slice_bounds-compare-end-2 c =
-    let g = paired _ _ _ _ c.in_ok-pair.ensures.counts in
-    sym (length-take-le 4096 c.args.work.now g.room)
+slice_bounds-compare-end-2 c = sym (length-take-le 4096 c.args.work.now c.in_ok-pair.ensures.room)
 
 pub compare-order-requires : goal.compare-order-requires
-compare-order-requires c =
-    let g = paired _ _ _ _ c.in_ok-pair.ensures.counts in
-    length-take-le 4096 c.args.work.now g.room
+compare-order-requires c = length-take-le 4096 c.args.work.now c.in_ok-pair.ensures.room
 
 pub returns : goal.returns
 returns c =

@@ -16,18 +16,11 @@ returns-in_err-pair c =
     let e = ends_refused c.args.left.now c.args.right.now c.args.work.now c.args.out.now (λ t. and_then t λ b. quotient_bytes (try_quotient (promise_of c.args.left_promise) (promise_of c.args.right_promise) b.left b.right)) refl none in
     record { told = ap told_of (handed_on _ _ c.from_residual.ensures.1) ∙ e.answered; written = e.written; area = e.area }
 
-pub slice_bounds-write_quotient-end : goal.slice_bounds-write_quotient-end
-slice_bounds-write_quotient-end c = (paired _ _ _ _ c.in_ok-pair.ensures.counts).room
-
 pub slice_bounds-write_quotient-end-2 : goal.slice_bounds-write_quotient-end-2
-slice_bounds-write_quotient-end-2 c =
-    let g = paired _ _ _ _ c.in_ok-pair.ensures.counts in
-    sym (length-take-le 4096 c.args.work.now g.room)
+slice_bounds-write_quotient-end-2 c = sym (length-take-le 4096 c.args.work.now c.in_ok-pair.ensures.room)
 
 pub write_quotient-requires : goal.write_quotient-requires
-write_quotient-requires c =
-    let g = paired _ _ _ _ c.in_ok-pair.ensures.counts in
-    length-take-le 4096 c.args.work.now g.room
+write_quotient-requires c = length-take-le 4096 c.args.work.now c.in_ok-pair.ensures.room
 
 pub returns : goal.returns
 unfolding quotient_call and_then

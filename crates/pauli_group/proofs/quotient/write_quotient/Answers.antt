@@ -12,12 +12,6 @@ use Rattle.pauli_group.proofs.quotient.write_quotient.Goals as goal
 pub invariant_of-swapped : goal.invariant_of-swapped
 invariant_of-swapped c = record { few = omega (arith, c.args.pair.few); qubits = swapped_few (list_of c.args.pair.left.bytes.now) (list_of c.args.pair.right.bytes.now) most_qubits c.args.pair.qubits }
 
-pub order_of-order-requires : goal.order_of-order-requires
-order_of-order-requires c = c.requires
-
-pub shape_of-w-then-not-is_below : goal.shape_of-w-then-not-is_below
-shape_of-w-then-not-is_below c = c.clear_bits.auto.w ∙ c.order_of-order.auto.w
-
 pub returns-then-not-is_below : goal.returns-then-not-is_below
 unfolding told_bytes left_in
 returns-then-not-is_below c =
@@ -25,12 +19,6 @@ returns-then-not-is_below c =
 
 pub write_modulo-requires : goal.write_modulo-requires
 write_modulo-requires c = (c.order_of-order.auto.w ∙ c.requires)
-
-pub shape_of-w : goal.shape_of-w
-shape_of-w c = c.write_modulo.auto.w ∙ c.order_of-order.auto.w
-
-pub shape_of-out : goal.shape_of-out
-shape_of-out c = c.write_modulo.auto.out
 
 pub returns : goal.returns
 unfolding cleared
