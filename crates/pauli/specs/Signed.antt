@@ -24,3 +24,8 @@ pauli_words p = p.exponent % 4 ∷ p.x.low ∷ p.x.high ∷ p.z.low ∷ p.z.high
 unfoldable pub list_in : List ℕ → ℕ → ℕ → List Pauli
 list_in l i zero = []
 list_in l i (suc n) = pauli_in l i ∷ list_in l (i + 5) n
+
+-- the Paulis of a list of fives of words
+unfoldable pub paulis_in : List (List ℕ) → List Pauli
+paulis_in [] = []
+paulis_in (l ∷ ls) = pauli_in l 0 ∷ paulis_in ls

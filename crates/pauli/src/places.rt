@@ -1,7 +1,9 @@
 // Sets of places.
 ghost use Rattle.std.specs.Prelude.{◌≡◌, ◌+◌, ◌%◌, ◌^◌, ◌<◌, ◌≤◌, ◌==◌, bit_or};
+ghost use Rattle.std.specs.Iterator.{YieldsFirstBy, item_count};
 ghost use Rattle.binar.specs.Row.{◌⊕◌, bit, dot, weight as weight_of};
 ghost use Rattle.pauli.specs.PlaceSet.{set_in, first_from as first_from_spec};
+ghost use Rattle.pauli.specs.Sets.{members};
 
 use crate::support::Place;
 use std::ops::{BitOr, BitXor};
@@ -54,6 +56,13 @@ impl Places {
         Place(128)
     }
 
+    // The places of the set, rising.
+    pub fn iter(self) -> PlacesIter
+        ensures { result.left ≡ self }
+    {
+        PlacesIter { left: self }
+    }
+
     // 1 where the two sets share an odd number of places, else 0.
     pub fn dot(self, other: Places) -> u64
         ensures { (result ≡ dot (set_in self) (set_in other)) × (result < 2) }
@@ -100,5 +109,34 @@ impl BitOr for Places {
             low: self.low | other.low,
             high: self.high | other.high,
         }
+    }
+}
+
+// Hands out the places of a set, rising.
+#[derive(Drop)]
+pub struct PlacesIter {
+    // those that are still to come
+    left: Places,
+}
+
+impl Iterator for PlacesIter {
+    type Item = Place;
+
+    ghost next_gives = { YieldsFirstBy (λ p. p.0) (λ s. members (set_in s.left)) };
+
+    ghost remaining = { item_count (λ s. members (set_in s.left)) };
+
+    fn next(&mut self) -> Option<Place> {
+        let low = self.left.low;
+        if low != 0 {
+            self.left.low = low & (low - 1);
+            return Some(Place(u64::trailing_zeros(low) as usize));
+        }
+        let high = self.left.high;
+        if high != 0 {
+            self.left.high = high & (high - 1);
+            return Some(Place(64 + (u64::trailing_zeros(high) as usize)));
+        }
+        None
     }
 }

@@ -32,7 +32,7 @@ fn write_product(
     let product = p.times(q).pauli;
     let mut w = [0u64; 5];
     store(&mut w, 0, product);
-    write_roll(&w, 0, 1, support, out)
+    write_roll(&[w], support, out)
 }
 
 // Multiplies factor i of the one roll by factor j of the other, and writes the product as a roll.

@@ -1,12 +1,11 @@
 // Signed Paulis over the places of a support: i^exponent times X on the places of x, then Z on those of z.
-ghost use Rattle.std.specs.Prelude.{◌≡◌, ◌+◌, ◌*◌, ◌%◌, ◌<◌, ◌≤◌, length, ◌==◌};
+ghost use Rattle.std.specs.Prelude.{◌≡◌, ◌+◌, ◌*◌, ◌≤◌, length, ◌==◌};
 ghost use Rattle.std.proofs.lemmas.List.Edits.{sets};
 ghost use Rattle.pauli.specs.Pauli.{I, normal, times as times_of, anticommute, pauli_weight, order_four, is_identity as is_identity_spec, indexed_product as indexed_product_spec};
-ghost use Rattle.pauli.specs.Signed.{held, pauli_in, pauli_words, list_in};
+ghost use Rattle.pauli.specs.Signed.{held, pauli_in, pauli_words, list_in, paulis_in};
 ghost use Rattle.pauli.specs.PlaceSet.{set_in};
 
 use crate::places::Places;
-use crate::support::Place;
 
 // The exponent is eight bits and wraps; its value is its remainder by 4.
 #[derive(Clone, Copy)]
@@ -30,6 +29,23 @@ impl Pauli {
             exponent: 0,
             x: Places::none(),
             z: Places::none(),
+        }
+    }
+
+    // The Pauli whose five words these are.
+    pub fn from_words(words: &[u64; 5]) -> Pauli
+        ensures { normal (held result) ≡ normal (pauli_in words.now 0) }
+    {
+        Pauli {
+            exponent: (words[0] % 256) as u8,
+            x: Places {
+                low: words[1],
+                high: words[2],
+            },
+            z: Places {
+                low: words[3],
+                high: words[4],
+            },
         }
     }
 
@@ -100,17 +116,16 @@ pub fn load(w: &[u64], at: usize) -> Pauli
     requires { at + 5 ≤ length w.now }
     ensures { normal (held result) ≡ normal (pauli_in w.now at) }
 {
-    Pauli {
-        exponent: (w[at] % 256) as u8,
-        x: Places {
-            low: w[at + 1],
-            high: w[at + 2],
-        },
-        z: Places {
-            low: w[at + 3],
-            high: w[at + 4],
-        },
-    }
+    Pauli::from_words(w[at..].first_chunk::<5>().unwrap())
+}
+
+// The n Paulis from word base on, each as its five words.
+pub fn paulis_at(w: &[u64], base: usize, n: usize) -> &[[u64; 5]]
+    requires { base + 5 * n ≤ length w.now }
+    ensures list { paulis_in result.now ≡ list_in w.now base n }
+    ensures count { length result.now ≡ n }
+{
+    w[base..base + 5 * n].as_chunks::<5>().0
 }
 
 // Writes a Pauli, its exponent by value, to the five words from word at on.
@@ -127,17 +142,16 @@ pub fn store(w: &mut [u64], at: usize, p: Pauli)
     w[at + 4] = z.high;
 }
 
-// The product of those of the n Paulis from word base on whose numbers are in the set, in rising order. The numbers of an index set
-// are places too: places in the list of generators.
-pub fn indexed_product(w: &[u64], base: usize, n: usize, set: Places) -> Pauli
-    requires { (base + 5 * n ≤ length w.now) × (n ≤ 128) }
-    ensures { normal (held result) ≡ indexed_product_spec (set_in set) (list_in w.now base n) }
+// The product of those Paulis of the list whose numbers are in the set, in rising order. The numbers of an index set are places
+// too: places in the list of generators.
+pub fn indexed_product(list: &[[u64; 5]], set: Places) -> Pauli
+    ensures { normal (held result) ≡ indexed_product_spec (set_in set) (paulis_in list.now) }
 {
     let mut product = Pauli::identity();
-    let mut i = set.first_from(Place(0)).0;
-    while i < n {
-        product = product.times(load(w, base + 5 * i)).pauli;
-        i = set.first_from(Place(i + 1)).0;
+    for p in set.iter() {
+        if let Some(words) = list.get(p.0) {
+            product = product.times(Pauli::from_words(words)).pauli;
+        }
     }
     product
 }

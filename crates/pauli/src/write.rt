@@ -3,7 +3,7 @@ ghost use Rattle.std.specs.Prelude.{◌≡◌, ℕ, ◌+◌, ◌*◌, ◌%◌, �
 ghost use Rattle.pauli.specs.Bytes.{le16, le32, le32s};
 ghost use Rattle.pauli.specs.Pauli.{select};
 ghost use Rattle.pauli.specs.Roll.{numbers};
-ghost use Rattle.pauli.specs.Signed.{list_in};
+ghost use Rattle.pauli.specs.Signed.{paulis_in};
 ghost use Rattle.pauli.specs.PlaceSet.{set_in};
 ghost use Rattle.pauli.specs.Told.{answer};
 ghost use Rattle.pauli.specs.Writing.{put_bytes, entry_bytes, numbers_of, table_of, sparse_over, OnPlaces, roll_over, told_bytes, left_in};
@@ -11,8 +11,8 @@ ghost use Rattle.pauli.specs.Refusals.{told_of};
 
 use crate::places::Places;
 use crate::refusal::{Reason, Refusal};
-use crate::signed::load;
-use crate::support::{Place, qubit_at};
+use crate::signed::Pauli;
+use crate::support::qubit_at;
 
 // Writes a number as two bytes.
 pub fn put_u16(out: &mut [u8], at: usize, v: usize)
@@ -56,24 +56,23 @@ fn put_set(out: &mut [u8], at: usize, set: Places, support: &[u32]) -> usize
     ensures next { result ≡ at + 4 * length (select (set_in set) support.now) }
 {
     let mut next = at;
-    let mut p = set.first_from(Place(0)).0;
-    while p < support.len() {
-        let q = qubit_at(support, Place(p));
-        put_u32(out, next, q.0);
-        next += 4;
-        p = set.first_from(Place(p + 1)).0;
+    for p in set.iter() {
+        if p.0 < support.len() {
+            put_u32(out, next, qubit_at(support, p).0);
+            next += 4;
+        }
     }
     next
 }
 
-// How many qubit numbers the bodies of the n Paulis from word base on hold.
-fn numbers_in(w: &[u64], base: usize, n: usize) -> usize
-    requires { (base + 5 * n ≤ length w.now) × (n ≤ 256) }
-    ensures { (result ≡ numbers_of (list_in w.now base n)) × (result ≤ 256 * n) }
+// How many qubit numbers the bodies of the Paulis of a list hold.
+fn numbers_in(list: &[[u64; 5]]) -> usize
+    requires { length list.now ≤ 256 }
+    ensures { (result ≡ numbers_of (paulis_in list.now)) × (result ≤ 256 * length list.now) }
 {
     let mut total = 0;
-    for i in 0..n {
-        let p = load(w, base + 5 * i);
+    for words in list {
+        let p = Pauli::from_words(words);
         let x = p.x;
         let z = p.z;
         total += x.weight() + z.weight();
@@ -81,14 +80,14 @@ fn numbers_in(w: &[u64], base: usize, n: usize) -> usize
     total
 }
 
-// Writes the entries of the n Paulis from word base on, behind the count.
-fn put_table(out: &mut [u8], w: &[u64], base: usize, n: usize)
-    requires { (base + 5 * n ≤ length w.now) × (n ≤ 256) × (2 + 10 * n ≤ length out.old) }
-    ensures { out.new ≡ put_bytes out.old 2 (table_of 0 (list_in w.now base n)) }
+// Writes the entries of the Paulis of a list, behind the count.
+fn put_table(out: &mut [u8], list: &[[u64; 5]])
+    requires { (length list.now ≤ 256) × (2 + 10 * length list.now ≤ length out.old) }
+    ensures { out.new ≡ put_bytes out.old 2 (table_of 0 (paulis_in list.now)) }
 {
     let mut before = 0;
-    for i in 0..n {
-        let p = load(w, base + 5 * i);
+    for (i, words) in list.iter().enumerate() {
+        let p = Pauli::from_words(words);
         let x = p.x;
         let z = p.z;
         let xcount = x.weight();
@@ -98,14 +97,14 @@ fn put_table(out: &mut [u8], w: &[u64], base: usize, n: usize)
     }
 }
 
-// Writes the bodies of the n Paulis from word base on, from byte at on.
-fn put_bodies(out: &mut [u8], at: usize, w: &[u64], base: usize, n: usize, support: &[u32])
-    requires { (base + 5 * n ≤ length w.now) × (length support.now ≤ 128) × (at + 4 * length (numbers (map (sparse_over support.now) (list_in w.now base n))) ≤ length out.old) }
-    ensures { out.new ≡ put_bytes out.old at (le32s (numbers (map (sparse_over support.now) (list_in w.now base n)))) }
+// Writes the bodies of the Paulis of a list, from byte at on.
+fn put_bodies(out: &mut [u8], at: usize, list: &[[u64; 5]], support: &[u32])
+    requires { (length support.now ≤ 128) × (at + 4 * length (numbers (map (sparse_over support.now) (paulis_in list.now))) ≤ length out.old) }
+    ensures { out.new ≡ put_bytes out.old at (le32s (numbers (map (sparse_over support.now) (paulis_in list.now)))) }
 {
     let mut next = at;
-    for i in 0..n {
-        let p = load(w, base + 5 * i);
+    for words in list {
+        let p = Pauli::from_words(words);
         let x = p.x;
         let z = p.z;
         let middle = put_set(out, next, x, support);
@@ -113,25 +112,19 @@ fn put_bodies(out: &mut [u8], at: usize, w: &[u64], base: usize, n: usize, suppo
     }
 }
 
-// Writes the roll of the n Paulis from word base on, which stand over the places of a support, if the output has room.
-pub fn write_roll(
-    w: &[u64],
-    base: usize,
-    n: usize,
-    support: &[u32],
-    out: &mut [u8],
-) -> Result<usize, Refusal>
-    requires { (base + 5 * n ≤ length w.now) × (n ≤ 256) × (length support.now ≤ 128) × OnPlaces (length support.now) (list_in w.now base n) }
-    ensures told { told_of result ≡ told_bytes (answer (roll_over support.now (list_in w.now base n))) out.old }
-    ensures left { out.new ≡ left_in (answer (roll_over support.now (list_in w.now base n))) out.old }
+// Writes the roll of the Paulis of a list, which stand over the places of a support, if the output has room.
+pub fn write_roll(list: &[[u64; 5]], support: &[u32], out: &mut [u8]) -> Result<usize, Refusal>
+    requires { (length list.now ≤ 256) × (length support.now ≤ 128) × OnPlaces (length support.now) (paulis_in list.now) }
+    ensures told { told_of result ≡ told_bytes (answer (roll_over support.now (paulis_in list.now))) out.old }
+    ensures left { out.new ≡ left_in (answer (roll_over support.now (paulis_in list.now))) out.old }
 {
-    let table = 2 + 10 * n;
-    let size = table + 4 * numbers_in(w, base, n);
+    let table = 2 + 10 * list.len();
+    let size = table + 4 * numbers_in(list);
     if out.len() < size {
         return Err(Reason::Output.into());
     }
-    put_u16(out, 0, n);
-    put_table(out, w, base, n);
-    put_bodies(out, table, w, base, n, support);
+    put_u16(out, 0, list.len());
+    put_table(out, list);
+    put_bodies(out, table, list, support);
     Ok(size)
 }
