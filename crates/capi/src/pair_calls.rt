@@ -1,17 +1,26 @@
 // The calls on two lists. Each lends a work area.
-ghost use Rattle.std.specs.Prelude.{length};
-ghost use Rattle.pauli_group.specs.Calls.{common_call};
-ghost use Rattle.pauli_group.specs.Calls.{two_lists, order_call, modulo_call, quotient_call};
+ghost use Rattle.std.specs.Prelude.{◌≡◌, length};
+ghost use Rattle.pauli_group.specs.Calls.{common_call, two_lists, order_call, modulo_call, quotient_call};
 ghost use Rattle.capi.specs.Code.{code_order};
-ghost use Rattle.pauli_group.specs.Promises.{promise_numbered};
+ghost use Rattle.pauli_group.specs.Promises.{promise_of, promise_numbered};
 ghost use Rattle.capi.specs.CallContracts.{Telling, Listing};
 
 use crate::answer::{Answer, code_number, code_order};
 use pauli_group::common::bitand;
 use pauli_group::modulo::modulo;
 use pauli_group::order::partial_cmp;
-use pauli_group::promise::Promise;
+use pauli_group::promise::{Promise, Promises};
 use pauli_group::quotient::try_quotient;
+
+// The promises of two lists, by their numbers.
+fn promises_of(left: u64, right: u64) -> Promises
+    ensures { (promise_of result.left ≡ promise_numbered left) × (promise_of result.right ≡ promise_numbered right) }
+{
+    Promises {
+        left: Promise::from(left),
+        right: Promise::from(right),
+    }
+}
 
 // Compares the groups of two lists.
 #[unsafe(no_mangle)]
@@ -24,9 +33,8 @@ pub extern "C" fn howhiruke_partial_cmp(
 ) -> Answer
     ensures { Telling (code_order (order_call (promise_numbered left_promise) (promise_numbered right_promise) left.now right.now (length work.old))) (two_lists left.now right.now (length work.old)) work.old result work.new }
 {
-    let l = Promise::from(left_promise);
-    let r = Promise::from(right_promise);
-    let found = partial_cmp(left, right, l, r, work);
+    let promises = promises_of(left_promise, right_promise);
+    let found = partial_cmp(left, right, promises, work);
     code_order(found)
 }
 
@@ -42,9 +50,8 @@ pub extern "C" fn howhiruke_modulo(
 ) -> Answer
     ensures { Listing (modulo_call (promise_numbered right_promise) left.now right.now (length work.old)) (two_lists left.now right.now (length work.old)) work.old out.old result work.new out.new }
 {
-    let l = Promise::from(left_promise);
-    let r = Promise::from(right_promise);
-    let wrote = modulo(left, right, l, r, work, out);
+    let promises = promises_of(left_promise, right_promise);
+    let wrote = modulo(left, right, promises, work, out);
     code_number(wrote)
 }
 
@@ -60,9 +67,8 @@ pub extern "C" fn howhiruke_try_quotient(
 ) -> Answer
     ensures { Listing (quotient_call (promise_numbered left_promise) (promise_numbered right_promise) left.now right.now (length work.old)) (two_lists left.now right.now (length work.old)) work.old out.old result work.new out.new }
 {
-    let l = Promise::from(left_promise);
-    let r = Promise::from(right_promise);
-    let wrote = try_quotient(left, right, l, r, work, out);
+    let promises = promises_of(left_promise, right_promise);
+    let wrote = try_quotient(left, right, promises, work, out);
     code_number(wrote)
 }
 
@@ -78,8 +84,7 @@ pub extern "C" fn howhiruke_bitand(
 ) -> Answer
     ensures { Listing (common_call (promise_numbered left_promise) (promise_numbered right_promise) left.now right.now (length work.old)) (two_lists left.now right.now (length work.old)) work.old out.old result work.new out.new }
 {
-    let l = Promise::from(left_promise);
-    let r = Promise::from(right_promise);
-    let wrote = bitand(left, right, l, r, work, out);
+    let promises = promises_of(left_promise, right_promise);
+    let wrote = bitand(left, right, promises, work, out);
     code_number(wrote)
 }

@@ -13,7 +13,6 @@ ghost use Rattle.closing_report.specs.Lines.{phases_text, abelian_text, first_li
 use crate::text::{number_length, put_labelled, put_number, put_text};
 use pauli::places::Places;
 use pauli::refusal::{Refusal, number_of};
-use pauli::support::Place;
 use pauli_group::answers::Phases;
 use pauli_group::group::Description;
 use pauli_group::member::IndexSet;
@@ -68,16 +67,12 @@ pub(crate) fn put_first_line(out: &mut [u8], at: usize, group: Description) -> u
 
 // ---- the line of an element: the numbers of its index set are places in the list of generators
 
-// The length of the indexes and the indexes put are two walks over the set: a shared one would take a closure, with a contract longer
-// than the loop.
 fn indexes_length(set: Places) -> usize
     ensures { (result ≡ length (indexes_text (members (set_in set)))) × (result ≤ 2688) }
 {
     let mut total = 0;
-    let mut i = set.first_from(Place(0)).0;
-    while i < 128 {
-        total += 1 + number_length(i);
-        i = set.first_from(Place(i + 1)).0;
+    for p in set.iter() {
+        total += 1 + number_length(p.0);
     }
     total
 }
@@ -87,10 +82,8 @@ fn put_indexes(out: &mut [u8], at: usize, set: Places) -> usize
     ensures { Put out.old at (indexes_text (members (set_in set))) out.new result }
 {
     let mut next = at;
-    let mut i = set.first_from(Place(0)).0;
-    while i < 128 {
-        next = put_labelled(out, next, b" ", i);
-        i = set.first_from(Place(i + 1)).0;
+    for p in set.iter() {
+        next = put_labelled(out, next, b" ", p.0);
     }
     next
 }

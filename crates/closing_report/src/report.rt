@@ -1,5 +1,5 @@
 // The call for the closing listing.
-ghost use Rattle.std.specs.Prelude.{◌≡◌, length};
+ghost use Rattle.std.specs.Prelude.{◌≡◌};
 ghost use Rattle.pauli.specs.Told.{answer};
 ghost use Rattle.pauli.specs.Condense.{list_of};
 ghost use Rattle.pauli.specs.Writing.{told_bytes, left_in};
@@ -13,24 +13,23 @@ ghost use Rattle.pauli.specs.Refusals.{told_of};
 use crate::input::split_input;
 use crate::listing::{write_listing, write_refused};
 use binar::row::clear_bits;
-use factorizations::stored::factor_rolls;
+use factorizations::stored::{factor_rolls, results};
 use pauli::refusal::{Reason, Refusal};
 use pauli::roll::Roll;
-use pauli_group::area::{FURTHER, WORK_WORDS};
-use pauli_group::checks::Rolls;
+use pauli_group::area::{WORK_WORDS, area_of};
+use pauli_group::checks::{Rolls, check_area};
 use pauli_group::promise::Promise;
 
 // No text is longer.
 pub const MOST_TEXT: usize = 53924;
 
 // Writes the listing for two rolls.
-fn write_report(rolls: Rolls, w: &mut [u64], out: &mut [u8]) -> Result<usize, Refusal>
-    requires { length w.old ≡ 4096 }
+fn write_report(rolls: Rolls, w: &mut [u64; WORK_WORDS], out: &mut [u8]) -> Result<usize, Refusal>
     ensures told { told_of result ≡ told_bytes (answer (report (paulis (list_of rolls.entry.generators.bytes.now)) (paulis (list_of rolls.entry.elements.bytes.now)))) out.old }
     ensures left { out.new ≡ left_in (answer (report (paulis (list_of rolls.entry.generators.bytes.now)) (paulis (list_of rolls.entry.elements.bytes.now)))) out.old }
 {
     let group = factor_rolls(rolls, Promise::None, w);
-    write_listing(group, w, FURTHER, rolls.elements.count, out)
+    write_listing(group, results(w, rolls.elements.count), out)
 }
 
 // Writes the line for an input without a whole first roll.
@@ -42,8 +41,7 @@ fn write_cut(out: &mut [u8]) -> Result<usize, Refusal>
 }
 
 // Writes what is printed for an input: the listing of its two rolls, or the line of the first refusal.
-fn write_text(input: &[u8], w: &mut [u64], out: &mut [u8]) -> Result<usize, Refusal>
-    requires { length w.old ≡ 4096 }
+fn write_text(input: &[u8], w: &mut [u64; WORK_WORDS], out: &mut [u8]) -> Result<usize, Refusal>
     ensures told { told_of result ≡ told_bytes (answer (text_of input.now)) out.old }
     ensures left { out.new ≡ left_in (answer (text_of input.now)) out.old }
 {
@@ -69,8 +67,11 @@ fn write_text(input: &[u8], w: &mut [u64], out: &mut [u8]) -> Result<usize, Refu
 }
 
 // Writes the text of an input, and clears the work area.
-fn write_and_clear(input: &[u8], w: &mut [u64], out: &mut [u8]) -> Result<usize, Refusal>
-    requires { length w.old ≡ 4096 }
+fn write_and_clear(
+    input: &[u8],
+    w: &mut [u64; WORK_WORDS],
+    out: &mut [u8],
+) -> Result<usize, Refusal>
     ensures told { told_of result ≡ told_bytes (answer (text_of input.now)) out.old }
     ensures left { out.new ≡ left_in (answer (text_of input.now)) out.old }
     ensures area { w.new ≡ cleared w.old }
@@ -84,8 +85,6 @@ fn write_and_clear(input: &[u8], w: &mut [u64], out: &mut [u8]) -> Result<usize,
 pub fn closing_report(input: &[u8], work: &mut [u64], out: &mut [u8]) -> Result<usize, Refusal>
     ensures { ReportCall input.now work.old out.old result work.new out.new }
 {
-    if work.len() < WORK_WORDS {
-        return Err(Reason::Work.into());
-    }
-    write_and_clear(input, &mut work[..WORK_WORDS], out)
+    check_area(work.len())?;
+    write_and_clear(input, area_of(work), out)
 }

@@ -22,6 +22,11 @@ unfoldable pub stored_in : List ℕ → ℕ → ℕ → List (Option Factorizati
 stored_in l i zero = []
 stored_in l i (suc n) = result_in l i ∷ stored_in l (i + 5) n
 
+-- the results of a list of fives of words
+unfoldable pub results_in : List (List ℕ) → List (Option Factorization)
+results_in [] = []
+results_in (l ∷ ls) = result_in l 0 ∷ results_in ls
+
 -- five words can keep it: an exponent is below 4
 abbrev pub Storable : Option Factorization → Type 0
 Storable none = Unit {0}

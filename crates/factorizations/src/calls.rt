@@ -14,11 +14,11 @@ ghost use Rattle.pauli.specs.Refusals.{told_by, told_of};
 
 use crate::answers::Results;
 use crate::records::write_records;
-use crate::stored::factor_rolls;
+use crate::stored::{factor_rolls, results};
 use binar::row::clear_bits;
-use pauli::refusal::{Reason, Refusal};
-use pauli_group::area::{FURTHER, WORK_WORDS};
-use pauli_group::checks::{Rolls, check_rolls};
+use pauli::refusal::Refusal;
+use pauli_group::area::{WORK_WORDS, area_of};
+use pauli_group::checks::{Rolls, check_area, check_rolls};
 use pauli_group::promise::Promise;
 
 // Checks the generators' roll, the elements' roll and the work area of so many words.
@@ -31,9 +31,7 @@ fn check_questions<'a>(
     ensures rolls { IfOk result (λ rolls. (rolls.generators.bytes ≡ generators.entry) × (rolls.elements.bytes ≡ elements.entry)) }
 {
     let rolls = check_rolls(generators, elements)?;
-    if words < WORK_WORDS {
-        return Err(Reason::Work.into());
-    }
+    check_area(words)?;
     Ok(rolls)
 }
 
@@ -41,16 +39,15 @@ fn check_questions<'a>(
 fn write_factorizations(
     rolls: Rolls,
     promise: Promise,
-    w: &mut [u64],
+    w: &mut [u64; WORK_WORDS],
     out: &mut [u8],
 ) -> Result<usize, Refusal>
-    requires { length w.old ≡ 4096 }
     ensures told { told_of result ≡ told_bytes (answer (results_bytes (map (factorization_of (promise_of promise) (paulis (list_of rolls.entry.generators.bytes.now))) (paulis (list_of rolls.entry.elements.bytes.now))))) out.old }
     ensures left { out.new ≡ left_in (answer (results_bytes (map (factorization_of (promise_of promise) (paulis (list_of rolls.entry.generators.bytes.now))) (paulis (list_of rolls.entry.elements.bytes.now))))) out.old }
     ensures area { w.new ≡ cleared w.old }
 {
     factor_rolls(rolls, promise, w);
-    let wrote = write_records(w, FURTHER, rolls.elements.count, out);
+    let wrote = write_records(results(w, rolls.elements.count), out);
     clear_bits(w, 0, WORK_WORDS);
     wrote
 }
@@ -67,7 +64,7 @@ pub fn indexed_factorizations_of(
     ensures { FactorizationsCall (promise_of promise) generators.now elements.now work.old out.old result work.new out.new }
 {
     let rolls = check_questions(generators, elements, work.len())?;
-    let bytes = write_factorizations(rolls, promise, &mut work[..WORK_WORDS], out)?;
+    let bytes = write_factorizations(rolls, promise, area_of(work), out)?;
     Ok(Results {
         count: rolls.elements.count,
         bytes,

@@ -1,5 +1,6 @@
 -- The work area of a call: document 01, "Turned back".
-use Rattle.std.specs.Prelude.{ℕ, List, nat_lt}
+use Rattle.std.specs.Prelude.{ℕ, List, nat_lt, ◌++◌, drop}
+use Rattle.std.specs.Borrow.{Lends, MutBor, Fml, Array, u64}
 use Rattle.binar.specs.Words.{put_row}
 use Rattle.pauli.specs.Told.{Told, answer, refused, refuse_if}
 
@@ -19,3 +20,7 @@ cleared work = put_row work 0 work_words 0
 unfoldable pub area_after : {A : Type 0} → Told A → List ℕ → List ℕ
 area_after (answer a) work = cleared work
 area_after (refused n p) work = work
+
+-- an area whose first 4,096 words are lent: it ends as they are left, the others as they were
+abbrev pub LendsArea : MutBor (List ℕ) → MutBor (List ℕ) → Fml
+LendsArea work words = Lends (Array u64 0) (Array u64 0) work words (λ ws. ws ++ drop work_words work.now)

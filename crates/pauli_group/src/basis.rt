@@ -6,7 +6,7 @@ ghost use Rattle.pauli_group.specs.Inner.Area.{further_at};
 ghost use Rattle.pauli_group.specs.Calls.{paulis};
 ghost use Rattle.pauli_group.specs.Inner.Shared.{Joint, Stack, basis_over};
 
-use crate::area::{FURTHER, STANDARD};
+use crate::area::{FURTHER, STANDARD, Span, WORK_WORDS};
 use crate::form::{form_of, put_products};
 use crate::group::group_of;
 use crate::moved::move_list;
@@ -21,22 +21,16 @@ pub(crate) struct Stacked {
 }
 
 // Puts the standard generators of two rolls that can be joined over the places of the joint support, in the further list's place.
-fn stack_standard(pair: Pair, joint: &[u32], w: &mut [u64]) -> Stacked
-    requires { (length w.old ≡ 4096) × Joint (paulis (list_of pair.left.bytes.now)) (paulis (list_of pair.right.bytes.now)) joint.now }
+fn stack_standard(pair: Pair, joint: &[u32], w: &mut [u64; WORK_WORDS]) -> Stacked
+    requires { Joint (paulis (list_of pair.left.bytes.now)) (paulis (list_of pair.right.bytes.now)) joint.now }
     ensures { Stack (paulis (list_of pair.entry.left.bytes.now)) (paulis (list_of pair.entry.right.bytes.now)) w.new result.first result.second }
 {
     let mut known = Support::new();
     let a = group_of(pair.left, &mut known, w);
-    move_list(w, STANDARD, FURTHER, a.total, known.qubits(), joint);
+    move_list(w, a.standards(), FURTHER, known.qubits(), joint);
     let b = group_of(pair.right, &mut known, w);
-    move_list(
-        w,
-        STANDARD,
-        FURTHER + 5 * a.total,
-        b.total,
-        known.qubits(),
-        joint,
-    );
+    let behind = FURTHER + 5 * a.total;
+    move_list(w, b.standards(), behind, known.qubits(), joint);
     Stacked {
         first: a.total,
         second: b.total,
@@ -45,17 +39,20 @@ fn stack_standard(pair: Pair, joint: &[u32], w: &mut [u64]) -> Stacked
 
 // Leaves the common basis of the groups of two rolls that can be joined, over the places of the joint support, in the further list's
 // place; tells how many elements it has.
-pub(crate) fn common_basis(pair: Pair, joint: &[u32], w: &mut [u64]) -> usize
-    requires { (length w.old ≡ 4096) × Joint (paulis (list_of pair.left.bytes.now)) (paulis (list_of pair.right.bytes.now)) joint.now }
+pub(crate) fn common_basis(pair: Pair, joint: &[u32], w: &mut [u64; WORK_WORDS]) -> usize
+    requires { Joint (paulis (list_of pair.left.bytes.now)) (paulis (list_of pair.right.bytes.now)) joint.now }
     ensures few { result ≤ 128 }
     ensures list { list_in w.new further_at result ≡ basis_over (paulis (list_of pair.entry.left.bytes.now)) (paulis (list_of pair.entry.right.bytes.now)) }
 {
     let stacked = stack_standard(pair, joint, w);
     let n = stacked.first + stacked.second;
-    let rank = form_of(w, FURTHER, n, joint.len());
-    let zeros = n - rank;
-    put_products(w, n, rank, zeros, FURTHER, stacked.first, STANDARD);
-    let count = form_of(w, STANDARD, zeros, joint.len());
-    put_products(w, zeros, 0, count, STANDARD, zeros, FURTHER);
+    let both = Span::at(FURTHER, n);
+    let rank = form_of(w, both, joint.len());
+    let first = Span::at(FURTHER, stacked.first);
+    let zeros = Span::at(STANDARD, n - rank);
+    put_products(w, n, rank, first, zeros);
+    let count = form_of(w, zeros, joint.len());
+    let basis = Span::at(FURTHER, count);
+    put_products(w, zeros.count, 0, zeros, basis);
     count
 }

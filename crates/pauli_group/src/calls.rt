@@ -11,7 +11,7 @@ ghost use Rattle.pauli_group.specs.CallContracts.{StandardCall, RankCall, Phases
 ghost use Rattle.pauli.specs.Refusals.{told_of};
 
 use crate::answers::Phases;
-use crate::area::{STANDARD, WORK_WORDS};
+use crate::area::{WORK_WORDS, area_of};
 use crate::checks::check_list;
 use crate::group::{Description, describe_once, group_of};
 use crate::promise::Promise;
@@ -22,15 +22,14 @@ use pauli::support::Support;
 use pauli::write::write_roll;
 
 // Writes the standard generators of a roll, and clears the work area.
-fn write_standard(roll: Roll, w: &mut [u64], out: &mut [u8]) -> Result<usize, Refusal>
-    requires { length w.old ≡ 4096 }
+fn write_standard(roll: Roll, w: &mut [u64; WORK_WORDS], out: &mut [u8]) -> Result<usize, Refusal>
     ensures told { told_of result ≡ told_bytes (answer (standard_bytes (paulis (list_of roll.entry.bytes.now)))) out.old }
     ensures left { out.new ≡ left_in (answer (standard_bytes (paulis (list_of roll.entry.bytes.now)))) out.old }
     ensures area { w.new ≡ cleared w.old }
 {
     let mut known = Support::new();
     let g = group_of(roll, &mut known, w);
-    let wrote = write_roll(w, STANDARD, g.total, known.qubits(), out);
+    let wrote = write_roll(g.standards().paulis(w), known.qubits(), out);
     clear_bits(w, 0, WORK_WORDS);
     wrote
 }
@@ -40,7 +39,7 @@ pub fn standard_generators(b: &[u8], work: &mut [u64], out: &mut [u8]) -> Result
     ensures { StandardCall b.now work.old out.old result work.new out.new }
 {
     let roll = check_list(b, work.len())?;
-    write_standard(roll, &mut work[..WORK_WORDS], out)
+    write_standard(roll, area_of(work), out)
 }
 
 // Describes the group of a list, and clears the work area.
@@ -48,7 +47,7 @@ pub fn describe_list(b: &[u8], promise: Promise, work: &mut [u64]) -> Result<Des
     ensures { DescriptionCall (promise_of promise) b.now work.old result work.new }
 {
     let roll = check_list(b, work.len())?;
-    Ok(describe_once(roll, promise, &mut work[..WORK_WORDS]))
+    Ok(describe_once(roll, promise, area_of(work)))
 }
 
 // The rank of a list: the dimension of the space of its rows.

@@ -1,6 +1,7 @@
 // What is checked before a call works: its rolls, its numbers and the work area, in this order.
 ghost use Rattle.std.specs.Prelude.{◌≡◌, ◌≤◌, length, IfOk};
-ghost use Rattle.pauli.specs.Told.{map_told};
+ghost use Rattle.pauli.specs.Told.{answer, map_told};
+ghost use Rattle.pauli_group.specs.WorkArea.{enough};
 ghost use Rattle.pauli_group.specs.Calls.{one_list, roll_counts, question_counts, pair_counts, two_lists};
 ghost use Rattle.pauli.specs.Refusals.{told_by};
 
@@ -9,6 +10,17 @@ use pauli::joined::Pair;
 use pauli::refusal::{Reason, Refusal};
 use pauli::roll::Roll;
 
+// Checks that a work area has enough words.
+pub fn check_area(words: usize) -> Result<(), Refusal>
+    ensures told { told_by (λ done. 0) result ≡ enough words (answer 0) }
+    ensures room { IfOk result (λ done. 4096 ≤ words) }
+{
+    if words < WORK_WORDS {
+        return Err(Reason::Work.into());
+    }
+    Ok(())
+}
+
 // Checks the roll, then the work area of so many words.
 pub(crate) fn check_list<'a>(b: &'a [u8], words: usize) -> Result<Roll<'a>, Refusal>
     ensures count { told_by (λ roll. roll.count) result ≡ map_told length (one_list b.now words) }
@@ -16,9 +28,7 @@ pub(crate) fn check_list<'a>(b: &'a [u8], words: usize) -> Result<Roll<'a>, Refu
     ensures room { IfOk result (λ roll. 4096 ≤ words) }
 {
     let roll = Roll::read(b)?;
-    if words < WORK_WORDS {
-        return Err(Reason::Work.into());
-    }
+    check_area(words)?;
     Ok(roll)
 }
 
@@ -57,9 +67,7 @@ pub(crate) fn check_question<'a>(
     if number >= rolls.elements.count {
         return Err(Reason::Number.into());
     }
-    if words < WORK_WORDS {
-        return Err(Reason::Work.into());
-    }
+    check_area(words)?;
     Ok(rolls)
 }
 
@@ -74,8 +82,6 @@ pub(crate) fn check_pair<'a>(
     ensures room { IfOk result (λ pair. 4096 ≤ words) }
 {
     let pair = Pair::read(left, right)?;
-    if words < WORK_WORDS {
-        return Err(Reason::Work.into());
-    }
+    check_area(words)?;
     Ok(pair)
 }

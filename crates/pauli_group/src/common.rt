@@ -6,8 +6,8 @@ ghost use Rattle.pauli.specs.Condense.{list_of};
 ghost use Rattle.pauli.specs.Signed.{held, pauli_in, list_in};
 ghost use Rattle.pauli.specs.Writing.{OnPlaces, told_bytes, left_in};
 ghost use Rattle.pauli_theory.specs.Standard.{support_of, phase_step};
-ghost use Rattle.pauli_theory.specs.Common.{with_exponent as with_exponent_spec, phases_from, common_part, lesser};
-ghost use Rattle.pauli_theory.specs.Inner.CommonPlaces.{shared_exponent as shared_exponent_spec, shared_with};
+ghost use Rattle.pauli_theory.specs.Common.{with_exponent, phases_from, common_part, lesser};
+ghost use Rattle.pauli_theory.specs.Inner.CommonPlaces.{shared_exponent, shared_with};
 ghost use Rattle.pauli_group.specs.Inner.Area.{target_at, further_at, stride_of, Outside};
 ghost use Rattle.pauli_group.specs.WorkArea.{cleared};
 ghost use Rattle.pauli_group.specs.Inner.Lists.{step_told, found};
@@ -20,14 +20,14 @@ ghost use Rattle.pauli_group.specs.Inner.Shared.{Solving, exponent_over, exponen
 ghost use Rattle.pauli.specs.Refusals.{told_of};
 
 use crate::answers::Phases;
-use crate::area::{FURTHER, LIST, WORK_WORDS};
+use crate::area::{FURTHER, Span, WORK_WORDS, area_of};
 use crate::basis::common_basis;
 use crate::checks::check_pair;
 use crate::group::{Group, group_of};
 use crate::member::solve;
 use crate::moved::move_pauli;
 use crate::order::order_of;
-use crate::promise::Promise;
+use crate::promise::{Promise, Promises};
 use crate::scan::put_phase;
 use crate::standard::signs_of;
 use binar::row::clear_bits;
@@ -39,47 +39,58 @@ use pauli::support::Support;
 use pauli::write::write_roll;
 use std::cmp::Ordering;
 
-// The exponent of the product of those of the n generators that solve for the Pauli at word at, by their group over the places of
-// own; the Pauli is over the places of joint.
-fn exponent_of(w: &mut [u64], at: usize, n: usize, group: Group, own: &[u32], joint: &[u32]) -> u64
-    requires { (length w.old ≡ 4096) × (at + 5 ≤ 4096) × Solving w.old n group.places group.rank × (group.places ≡ length own.now) × (length joint.now ≤ 128) × ((pauli_in w.old at).x < 2 ^ length joint.now) × ((pauli_in w.old at).z < 2 ^ length joint.now) × MovablePauli joint.now own.now (pauli_in w.old at) }
-    ensures told { result ≡ exponent_over joint.now own.now n group.places w.old (pauli_in w.old at) }
+// The exponent of the product of those generators of a group that solve for the Pauli at word at; the group is over the places of
+// own, the Pauli over those of joint.
+fn exponent_of(
+    w: &mut [u64; WORK_WORDS],
+    at: usize,
+    group: Group,
+    own: &[u32],
+    joint: &[u32],
+) -> u64
+    requires { (at + 5 ≤ 4096) × Solving w.old group.count group.places group.rank × (group.places ≡ length own.now) × (length joint.now ≤ 128) × ((pauli_in w.old at).x < 2 ^ length joint.now) × ((pauli_in w.old at).z < 2 ^ length joint.now) × MovablePauli joint.now own.now (pauli_in w.old at) }
+    ensures told { result ≡ exponent_over joint.now own.now group.count group.places w.old (pauli_in w.old at) }
     ensures low { result < 4 }
-    ensures rest { Outside target_at (stride_of n) w.old w.new }
+    ensures rest { Outside target_at (stride_of group.count) w.old w.new }
 {
-    let places = group.places;
     let p = move_pauli(load(w, at), joint, own);
-    match solve(w, n, places, group.rank, p) {
+    match solve(w, group, p) {
         None => 0,
         Some(set) => {
-            let product = indexed_product(w, LIST, n, set);
+            let product = indexed_product(group.generators().paulis(w), set);
             (product.exponent % 4) as u64
         }
     }
 }
 
 // Notes with each of the m Paulis of the further list the exponent of the product that solves for it.
-fn note_exponents(w: &mut [u64], m: usize, n: usize, group: Group, own: &[u32], joint: &[u32])
-    requires { (length w.old ≡ 4096) × (m ≤ 128) × Solving w.old n group.places group.rank × (group.places ≡ length own.now) × (length joint.now ≤ 128) × OnPlaces (length joint.now) (list_in w.old further_at m) × All (MovablePauli joint.now own.now) (list_in w.old further_at m) }
-    ensures { list_in w.new further_at m ≡ map (λ p. noted (exponent_over joint.now own.now n group.places w.old p) p) (list_in w.old further_at m) }
+fn note_exponents(w: &mut [u64; WORK_WORDS], m: usize, group: Group, own: &[u32], joint: &[u32])
+    requires { (m ≤ 128) × Solving w.old group.count group.places group.rank × (group.places ≡ length own.now) × (length joint.now ≤ 128) × OnPlaces (length joint.now) (list_in w.old further_at m) × All (MovablePauli joint.now own.now) (list_in w.old further_at m) }
+    ensures { list_in w.new further_at m ≡ map (λ p. noted (exponent_over joint.now own.now group.count group.places w.old p) p) (list_in w.old further_at m) }
 {
     for i in 0..m {
         let at = FURTHER + 5 * i;
-        let e = exponent_of(w, at, n, group, own, joint);
+        let e = exponent_of(w, at, group, own, joint);
         w[at] = w[at] % 4 * 4 + e;
     }
 }
 
 // Notes with each of the m Paulis of the further list the exponent by the group of a roll; tells its phases.
-fn note_by(roll: Roll, promise: Promise, joint: &[u32], w: &mut [u64], m: usize) -> Phases
-    requires { (length w.old ≡ 4096) × (m ≤ 128) × (length joint.now ≤ 128) × OnPlaces (length joint.now) (list_in w.old further_at m) × All (MovablePauli joint.now (support_of (paulis (list_of roll.bytes.now)))) (list_in w.old further_at m) }
+fn note_by(
+    roll: Roll,
+    promise: Promise,
+    joint: &[u32],
+    w: &mut [u64; WORK_WORDS],
+    m: usize,
+) -> Phases
+    requires { (m ≤ 128) × (length joint.now ≤ 128) × OnPlaces (length joint.now) (list_in w.old further_at m) × All (MovablePauli joint.now (support_of (paulis (list_of roll.bytes.now)))) (list_in w.old further_at m) }
     ensures step { step_told result ≡ phase_step (promise_of promise) (paulis (list_of roll.entry.bytes.now)) }
     ensures list { list_in w.new further_at m ≡ map (λ p. noted (exponent_for joint.now (paulis (list_of roll.entry.bytes.now)) p) p) (list_in w.old further_at m) }
 {
     let mut known = Support::new();
     let group = group_of(roll, &mut known, w);
-    let signs = signs_of(w, group.total, promise);
-    note_exponents(w, m, roll.count, group, known.qubits(), joint);
+    let signs = signs_of(group.standards().paulis(w), promise);
+    note_exponents(w, m, group, known.qubits(), joint);
     signs.phases
 }
 
@@ -87,7 +98,7 @@ fn note_by(roll: Roll, promise: Promise, joint: &[u32], w: &mut [u64], m: usize)
 fn shared_exponent(first: Phases, second: Phases, u: u64, v: u64) -> Option<u8>
     requires { (u < 4) × (v < 4) }
     ensures below { IfSome result (λ e. e < 4) }
-    ensures first { found result ≡ shared_exponent_spec (step_told first) (step_told second) u v }
+    ensures first { found result ≡ shared_exponent (step_told first) (step_told second) u v }
 {
     let a = first.step();
     let b = second.step();
@@ -101,14 +112,14 @@ fn shared_exponent(first: Phases, second: Phases, u: u64, v: u64) -> Option<u8>
 
 // p with this exponent.
 fn with_exponent(e: u8, p: Pauli) -> Pauli
-    ensures { held result ≡ with_exponent_spec e (held p) }
+    ensures { held result ≡ with_exponent e (held p) }
 {
     Pauli { exponent: e, ..p }
 }
 
 // Keeps those of the m Paulis of the further list that have a shared exponent, with it; tells how many.
-fn keep_shared(w: &mut [u64], m: usize, first: Phases, second: Phases) -> usize
-    requires { (length w.old ≡ 4096) × (m ≤ 128) }
+fn keep_shared(w: &mut [u64; WORK_WORDS], m: usize, first: Phases, second: Phases) -> usize
+    requires { m ≤ 128 }
     ensures few { result ≤ m }
     ensures list { list_in w.new further_at result ≡ shared_with (shared_noted (step_told first) (step_told second)) (list_in w.old further_at m) }
 {
@@ -125,8 +136,8 @@ fn keep_shared(w: &mut [u64], m: usize, first: Phases, second: Phases) -> usize
 }
 
 // Appends to the n Paulis of the further list the powers of i that are phases of both groups; tells how many there are then.
-fn append_phases(w: &mut [u64], n: usize, first: Phases, second: Phases) -> usize
-    requires { (length w.old ≡ 4096) × (n ≤ 128) }
+fn append_phases(w: &mut [u64; WORK_WORDS], n: usize, first: Phases, second: Phases) -> usize
+    requires { n ≤ 128 }
     ensures few { result ≤ n + 4 }
     ensures list { list_in w.new further_at result ≡ list_in w.old further_at n ++ phases_from (step_told first) (step_told second) 4 0 }
 {
@@ -145,73 +156,66 @@ fn append_phases(w: &mut [u64], n: usize, first: Phases, second: Phases) -> usiz
 // Writes the common part of the groups of two rolls that can be joined.
 fn write_part(
     pair: Pair,
-    left_promise: Promise,
-    right_promise: Promise,
-    w: &mut [u64],
+    promises: Promises,
+    w: &mut [u64; WORK_WORDS],
     out: &mut [u8],
 ) -> Result<usize, Refusal>
-    requires { length w.old ≡ 4096 }
-    ensures told { told_of result ≡ told_bytes (answer (list_bytes (common_part (promise_of left_promise) (promise_of right_promise) (paulis (list_of pair.entry.left.bytes.now)) (paulis (list_of pair.entry.right.bytes.now))))) out.old }
-    ensures left { out.new ≡ left_in (answer (list_bytes (common_part (promise_of left_promise) (promise_of right_promise) (paulis (list_of pair.entry.left.bytes.now)) (paulis (list_of pair.entry.right.bytes.now))))) out.old }
+    ensures told { told_of result ≡ told_bytes (answer (list_bytes (common_part (promise_of promises.left) (promise_of promises.right) (paulis (list_of pair.entry.left.bytes.now)) (paulis (list_of pair.entry.right.bytes.now))))) out.old }
+    ensures left { out.new ≡ left_in (answer (list_bytes (common_part (promise_of promises.left) (promise_of promises.right) (paulis (list_of pair.entry.left.bytes.now)) (paulis (list_of pair.entry.right.bytes.now))))) out.old }
 {
     let support = join_support(pair.left, pair.right);
     let joint = support.qubits();
     let m = common_basis(pair, joint, w);
-    let first = note_by(pair.left, left_promise, joint, w, m);
-    let second = note_by(pair.right, right_promise, joint, w, m);
+    let first = note_by(pair.left, promises.left, joint, w, m);
+    let second = note_by(pair.right, promises.right, joint, w, m);
     let kept = keep_shared(w, m, first, second);
     let total = append_phases(w, kept, first, second);
-    write_roll(w, FURTHER, total, joint, out)
+    write_roll(Span::at(FURTHER, total).paulis(w), joint, out)
 }
 
 // Writes the Paulis of a roll.
-fn write_list(roll: Roll, w: &mut [u64], out: &mut [u8]) -> Result<usize, Refusal>
-    requires { length w.old ≡ 4096 }
+fn write_list(roll: Roll, w: &mut [u64; WORK_WORDS], out: &mut [u8]) -> Result<usize, Refusal>
     ensures told { told_of result ≡ told_bytes (answer (list_bytes (paulis (list_of roll.entry.bytes.now)))) out.old }
     ensures left { out.new ≡ left_in (answer (list_bytes (paulis (list_of roll.entry.bytes.now)))) out.old }
 {
     let mut known = Support::new();
     let group = group_of(roll, &mut known, w);
-    write_roll(w, LIST, roll.count, known.qubits(), out)
+    write_roll(group.generators().paulis(w), known.qubits(), out)
 }
 
 // Writes the lesser list where the order says one, else the common part.
 fn write_lesser(
     order: Option<Ordering>,
     pair: Pair,
-    left_promise: Promise,
-    right_promise: Promise,
-    w: &mut [u64],
+    promises: Promises,
+    w: &mut [u64; WORK_WORDS],
     out: &mut [u8],
 ) -> Result<usize, Refusal>
-    requires { length w.old ≡ 4096 }
-    ensures told { told_of result ≡ told_bytes (answer (list_bytes (lesser (order_of order) (paulis (list_of pair.entry.left.bytes.now)) (paulis (list_of pair.entry.right.bytes.now)) (common_part (promise_of left_promise) (promise_of right_promise) (paulis (list_of pair.entry.left.bytes.now)) (paulis (list_of pair.entry.right.bytes.now)))))) out.old }
-    ensures left { out.new ≡ left_in (answer (list_bytes (lesser (order_of order) (paulis (list_of pair.entry.left.bytes.now)) (paulis (list_of pair.entry.right.bytes.now)) (common_part (promise_of left_promise) (promise_of right_promise) (paulis (list_of pair.entry.left.bytes.now)) (paulis (list_of pair.entry.right.bytes.now)))))) out.old }
+    ensures told { told_of result ≡ told_bytes (answer (list_bytes (lesser (order_of order) (paulis (list_of pair.entry.left.bytes.now)) (paulis (list_of pair.entry.right.bytes.now)) (common_part (promise_of promises.left) (promise_of promises.right) (paulis (list_of pair.entry.left.bytes.now)) (paulis (list_of pair.entry.right.bytes.now)))))) out.old }
+    ensures left { out.new ≡ left_in (answer (list_bytes (lesser (order_of order) (paulis (list_of pair.entry.left.bytes.now)) (paulis (list_of pair.entry.right.bytes.now)) (common_part (promise_of promises.left) (promise_of promises.right) (paulis (list_of pair.entry.left.bytes.now)) (paulis (list_of pair.entry.right.bytes.now)))))) out.old }
 {
     match order {
         Some(lesser) => match lesser {
             Ordering::Equal | Ordering::Less => write_list(pair.left, w, out),
             Ordering::Greater => write_list(pair.right, w, out),
         },
-        None => write_part(pair, left_promise, right_promise, w, out),
+        None => write_part(pair, promises, w, out),
     }
 }
 
 // Writes the common part of two rolls that can be joined, and clears the work area.
 fn write_common(
     pair: Pair,
-    left_promise: Promise,
-    right_promise: Promise,
-    w: &mut [u64],
+    promises: Promises,
+    w: &mut [u64; WORK_WORDS],
     out: &mut [u8],
 ) -> Result<usize, Refusal>
-    requires { length w.old ≡ 4096 }
-    ensures told { told_of result ≡ told_bytes (answer (common_bytes (promise_of left_promise) (promise_of right_promise) (record { left = paulis (list_of pair.entry.left.bytes.now); right = paulis (list_of pair.entry.right.bytes.now) }))) out.old }
-    ensures left { out.new ≡ left_in (answer (common_bytes (promise_of left_promise) (promise_of right_promise) (record { left = paulis (list_of pair.entry.left.bytes.now); right = paulis (list_of pair.entry.right.bytes.now) }))) out.old }
+    ensures told { told_of result ≡ told_bytes (answer (common_bytes (promise_of promises.left) (promise_of promises.right) (record { left = paulis (list_of pair.entry.left.bytes.now); right = paulis (list_of pair.entry.right.bytes.now) }))) out.old }
+    ensures left { out.new ≡ left_in (answer (common_bytes (promise_of promises.left) (promise_of promises.right) (record { left = paulis (list_of pair.entry.left.bytes.now); right = paulis (list_of pair.entry.right.bytes.now) }))) out.old }
     ensures area { w.new ≡ cleared w.old }
 {
-    let order = order_of(pair, left_promise, right_promise, w);
-    let wrote = write_lesser(order, pair, left_promise, right_promise, w, out);
+    let order = order_of(pair, promises, w);
+    let wrote = write_lesser(order, pair, promises, w, out);
     clear_bits(w, 0, WORK_WORDS);
     wrote
 }
@@ -220,19 +224,12 @@ fn write_common(
 pub fn bitand(
     left: &[u8],
     right: &[u8],
-    left_promise: Promise,
-    right_promise: Promise,
+    promises: Promises,
     work: &mut [u64],
     out: &mut [u8],
 ) -> Result<usize, Refusal>
-    ensures { CommonCall (promise_of left_promise) (promise_of right_promise) left.now right.now work.old out.old result work.new out.new }
+    ensures { CommonCall (promise_of promises.left) (promise_of promises.right) left.now right.now work.old out.old result work.new out.new }
 {
     let pair = check_pair(left, right, work.len())?;
-    write_common(
-        pair,
-        left_promise,
-        right_promise,
-        &mut work[..WORK_WORDS],
-        out,
-    )
+    write_common(pair, promises, area_of(work), out)
 }

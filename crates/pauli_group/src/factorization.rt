@@ -10,7 +10,7 @@ ghost use Rattle.pauli_group.specs.CallContracts.{MemberCall};
 ghost use Rattle.pauli_group.specs.Inner.Members.{factoring_told};
 
 use crate::answers::Factors;
-use crate::area::WORK_WORDS;
+use crate::area::{WORK_WORDS, area_of};
 use crate::checks::{Rolls, check_question};
 use crate::group::group_of;
 use crate::member::{IndexSet, factor, put_indexes};
@@ -21,23 +21,20 @@ use pauli::refusal::{Reason, Refusal};
 use pauli::support::Support;
 
 // Factors one element by the group of the generators, and clears the work area.
-fn factor_once(rolls: Rolls, number: usize, promise: Promise, w: &mut [u64]) -> Option<IndexSet>
-    requires { (number < rolls.elements.count) × (length w.old ≡ 4096) }
+fn factor_once(
+    rolls: Rolls,
+    number: usize,
+    promise: Promise,
+    w: &mut [u64; WORK_WORDS],
+) -> Option<IndexSet>
+    requires { number < rolls.elements.count }
     ensures told { factoring_told result ≡ factorization_of (promise_of promise) (paulis (list_of rolls.entry.generators.bytes.now)) (pauli_of (slice_index_or (list_of rolls.entry.elements.bytes.now) number nothing)) }
     ensures area { w.new ≡ cleared w.old }
 {
     let mut known = Support::new();
     let g = group_of(rolls.generators, &mut known, w);
-    let signs = signs_of(w, g.total, promise);
-    let factoring = factor(
-        rolls.elements,
-        number,
-        known.qubits(),
-        rolls.generators.count,
-        g,
-        signs.phases,
-        w,
-    );
+    let signs = signs_of(g.standards().paulis(w), promise);
+    let factoring = factor(rolls.elements, number, known.qubits(), g, signs.phases, w);
     clear_bits(w, 0, WORK_WORDS);
     factoring
 }
@@ -55,7 +52,7 @@ pub fn indexed_factorization_of(
     ensures { MemberCall (promise_of promise) b.now elements.now number work.old out.old result work.new out.new }
 {
     let rolls = check_question(b, elements, number, work.len())?;
-    let factoring = factor_once(rolls, number, promise, &mut work[..WORK_WORDS]);
+    let factoring = factor_once(rolls, number, promise, area_of(work));
     let found = match factoring {
         None => {
             return Ok(None);
@@ -67,7 +64,7 @@ pub fn indexed_factorization_of(
     if out.len() < 2 * count {
         return Err(Reason::Output.into());
     }
-    put_indexes(out, set, rolls.generators.count);
+    put_indexes(out, 0, set);
     Ok(Some(Factors {
         count,
         exponent: found.exponent,

@@ -9,7 +9,7 @@ ghost use Rattle.pauli.specs.Writing.{OnPlaces};
 ghost use Rattle.pauli_group.specs.Inner.Area.{target_at, row_words, stride_of, Outside};
 ghost use Rattle.pauli_group.specs.Inner.Lists.{form_over, products_by};
 
-use crate::area::ROW_WORDS;
+use crate::area::{ROW_WORDS, Span, WORK_WORDS};
 use crate::rows::put_rows;
 use binar::matrix_form::echelon_form;
 use pauli::places::Places;
@@ -43,35 +43,28 @@ pub(crate) fn named_by(w: &[u64], at: usize, n: usize) -> Places
     }
 }
 
-// Makes the echelon form of the n Paulis over s places from word base on; tells its rank.
-pub(crate) fn form_of(w: &mut [u64], base: usize, n: usize, s: usize) -> usize
-    requires { (length w.old ≡ 4096) × (n ≤ 129) × (target_at ≤ base) × (base + 5 * n ≤ length w.old) × (s ≤ 128) × OnPlaces s (list_in w.old base n) }
-    ensures rank { result ≡ echelon_rank (form_over s (list_in w.old base n)) }
-    ensures form { form_in (stride_of n) n row_words (2 * s) result w.new ≡ form_over s (list_in w.old base n) }
-    ensures rest { Outside 0 (n * stride_of n + n) w.old w.new }
+// Makes the echelon form of the Paulis of a list, over s places; tells its rank.
+pub(crate) fn form_of(w: &mut [u64; WORK_WORDS], list: Span, s: usize) -> usize
+    requires { (list.count ≤ 129) × (target_at ≤ list.base) × (s ≤ 128) × OnPlaces s (list_in w.old list.base list.count) }
+    ensures rank { result ≡ echelon_rank (form_over s (list_in w.old list.base list.count)) }
+    ensures form { form_in (stride_of list.count) list.count row_words (2 * s) result w.new ≡ form_over s (list_in w.old list.base list.count) }
+    ensures rest { Outside 0 (list.count * stride_of list.count + list.count) w.old w.new }
 {
-    put_rows(w, base, n, s, stride_of(n));
-    echelon_form(w, ROW_WORDS, n, 2 * s).unwrap()
+    put_rows(w, list, s, stride_of(list.count));
+    echelon_form(w, ROW_WORDS, list.count, 2 * s).unwrap()
 }
 
-// Writes to the words from word to on the products that T names in count rows of a form of n rows, from row first on: those of the
-// m Paulis from word base on, in rising index.
-pub(crate) fn put_products(
-    w: &mut [u64],
-    n: usize,
-    first: usize,
-    count: usize,
-    base: usize,
-    m: usize,
-    to: usize,
-)
-    requires { (length w.old ≡ 4096) × (n ≤ 129) × (first + count ≤ n) × (m ≤ 128) × (target_at ≤ to) × (base + 5 * m ≤ length w.old) × (to + 5 * count ≤ length w.old) × ((base + 5 * m ≤ to) ⊎ (to + 5 * count ≤ base)) }
-    ensures list { list_in w.new to count ≡ products_by n first count w.old (list_in w.old base m) }
-    ensures rest { Outside to (5 * count) w.old w.new }
+// Writes in place of the list `to` the products that T names in as many rows of a form of n rows, from row first on: those of the
+// Paulis of the list `from`, in rising index.
+pub(crate) fn put_products(w: &mut [u64; WORK_WORDS], n: usize, first: usize, from: Span, to: Span)
+    requires { (n ≤ 129) × (first + to.count ≤ n) × (from.count ≤ 128) × (target_at ≤ to.base) × ((from.base + 5 * from.count ≤ to.base) ⊎ (to.base + 5 * to.count ≤ from.base)) }
+    ensures list { list_in w.new to.base to.count ≡ products_by n first to.count w.old (list_in w.old from.base from.count) }
+    ensures rest { Outside to.base (5 * to.count) w.old w.new }
 {
     let stride = stride_of(n);
-    for i in 0..count {
+    for i in 0..to.count {
         let set = named_by(w, (first + i) * stride, n);
-        store(w, to + 5 * i, indexed_product(w, base, m, set));
+        let product = indexed_product(from.paulis(w), set);
+        store(w, to.base + 5 * i, product);
     }
 }

@@ -1,5 +1,5 @@
 // The group of a list: its form and its standard generators in the work area.
-ghost use Rattle.std.specs.Prelude.{◌≡◌, ℕ, ◌+◌, ◌*◌, ◌≤◌, List, ◌++◌, length};
+ghost use Rattle.std.specs.Prelude.{◌≡◌, ℕ, ◌≤◌, List, ◌++◌};
 ghost use Rattle.pauli.specs.Condense.{list_of};
 ghost use Rattle.pauli.specs.Pauli.{Pauli};
 ghost use Rattle.pauli.specs.Signed.{list_in};
@@ -11,7 +11,7 @@ ghost use Rattle.pauli_group.specs.WorkArea.{cleared};
 ghost use Rattle.pauli_group.specs.Inner.Groups.{Built, Grouped, facts_in, facts_of};
 ghost use Rattle.pauli_group.specs.Calls.{paulis};
 
-use crate::area::{LIST, STANDARD, WORK_WORDS};
+use crate::area::{LIST, STANDARD, Span, WORK_WORDS};
 use crate::form::{form_of, put_products};
 use crate::list::read_list;
 use crate::promise::Promise;
@@ -21,12 +21,31 @@ use pauli::joined::{Pair, join_support};
 use pauli::roll::Roll;
 use pauli::support::Support;
 
-// The places of the support, the rank, and the number of standard generators.
+// The numbers of a group whose list is in the work area: how many generators, the places of the support, the rank, and how many
+// standard generators.
 #[derive(Clone, Copy)]
 pub struct Group {
+    pub count: usize,
     pub places: usize,
     pub rank: usize,
     pub total: usize,
+    pub ghost few: { (count ≤ 128) × (places ≤ 128) × (total ≤ 129) },
+}
+
+impl Group {
+    // Where the generators stand.
+    pub fn generators(self) -> Span
+        ensures { (result.base ≡ list_at) × (result.count ≡ self.count) }
+    {
+        Span::at(LIST, self.count)
+    }
+
+    // Where the standard generators stand.
+    pub fn standards(self) -> Span
+        ensures { (result.base ≡ standard_at) × (result.count ≡ self.total) }
+    {
+        Span::at(STANDARD, self.total)
+    }
 }
 
 // What the calls tell of a group: its rank, and what its standard generators tell.
@@ -37,24 +56,28 @@ pub struct Description {
 }
 
 // Makes the form and the standard generators of the n generators over s places.
-fn build(w: &mut [u64], n: usize, s: usize) -> Group
-    requires { (length w.old ≡ 4096) × (n ≤ 128) × (s ≤ 128) × OnPlaces s (list_in w.old list_at n) }
+fn build(w: &mut [u64; WORK_WORDS], n: usize, s: usize) -> Group
+    requires { (n ≤ 128) × (s ≤ 128) × OnPlaces s (list_in w.old list_at n) }
     ensures built { Built w.old n s w.new result.rank result.total }
+    ensures count { result.count ≡ n }
     ensures places { result.places ≡ s }
 {
-    let rank = form_of(w, LIST, n, s);
-    put_products(w, n, 0, n, LIST, n, STANDARD);
+    let list = Span::at(LIST, n);
+    let products = Span::at(STANDARD, n);
+    let rank = form_of(w, list, s);
+    put_products(w, n, 0, list, products);
     let total = standardize(w, n, rank);
     Group {
+        count: n,
         places: s,
-        rank: rank,
-        total: total,
+        rank,
+        total,
     }
 }
 
 // Reads a roll, and builds its group.
-pub fn group_of(roll: Roll, known: &mut Support, w: &mut [u64]) -> Group
-    requires { length w.old ≡ 4096 }
+pub fn group_of(roll: Roll, known: &mut Support, w: &mut [u64; WORK_WORDS]) -> Group
+    ensures count { result.count ≡ roll.entry.count }
     ensures group { Grouped (paulis (list_of roll.entry.bytes.now)) known.new w.new result.places result.rank result.total }
     ensures rest { Outside 0 further_at w.old w.new }
 {
@@ -66,8 +89,7 @@ pub fn group_of(roll: Roll, known: &mut Support, w: &mut [u64]) -> Group
 }
 
 // Reads two rolls that can be joined, one after the other, and builds the group of the joined list.
-fn group_of_two(pair: Pair, known: &mut Support, w: &mut [u64]) -> Group
-    requires { length w.old ≡ 4096 }
+fn group_of_two(pair: Pair, known: &mut Support, w: &mut [u64; WORK_WORDS]) -> Group
     ensures { Grouped (paulis (list_of pair.entry.left.bytes.now ++ list_of pair.entry.right.bytes.now)) known.new w.new result.places result.rank result.total }
 {
     *known = join_support(pair.left, pair.right);
@@ -78,19 +100,17 @@ fn group_of_two(pair: Pair, known: &mut Support, w: &mut [u64]) -> Group
 }
 
 // What the calls tell of the group of a list, which is in the work area.
-fn describe_group(group: Group, promise: Promise, w: &[u64]) -> Description
-    requires { standard_at + 5 * group.total ≤ length w.now }
+fn describe_group(group: Group, promise: Promise, w: &[u64; WORK_WORDS]) -> Description
     ensures { (gs : List Pauli) (known : List ℕ) → Grouped gs known w.now group.places group.rank group.total → facts_in result ≡ facts_of (promise_of promise) gs }
 {
     Description {
         rank: group.rank,
-        signs: signs_of(w, group.total, promise),
+        signs: signs_of(group.standards().paulis(w), promise),
     }
 }
 
 // What the calls tell of the group of a roll.
-pub(crate) fn describe(roll: Roll, promise: Promise, w: &mut [u64]) -> Description
-    requires { length w.old ≡ 4096 }
+pub(crate) fn describe(roll: Roll, promise: Promise, w: &mut [u64; WORK_WORDS]) -> Description
     ensures { facts_in result ≡ facts_of (promise_of promise) (paulis (list_of roll.entry.bytes.now)) }
 {
     let mut known = Support::new();
@@ -99,8 +119,7 @@ pub(crate) fn describe(roll: Roll, promise: Promise, w: &mut [u64]) -> Descripti
 }
 
 // What the calls tell of the group of two rolls joined, without promise.
-pub(crate) fn describe_two(pair: Pair, w: &mut [u64]) -> Description
-    requires { length w.old ≡ 4096 }
+pub(crate) fn describe_two(pair: Pair, w: &mut [u64; WORK_WORDS]) -> Description
     ensures { facts_in result ≡ facts_of none (paulis (list_of pair.entry.left.bytes.now ++ list_of pair.entry.right.bytes.now)) }
 {
     let mut known = Support::new();
@@ -109,8 +128,7 @@ pub(crate) fn describe_two(pair: Pair, w: &mut [u64]) -> Description
 }
 
 // Describes the group, and clears the work area.
-pub(crate) fn describe_once(roll: Roll, promise: Promise, w: &mut [u64]) -> Description
-    requires { length w.old ≡ 4096 }
+pub(crate) fn describe_once(roll: Roll, promise: Promise, w: &mut [u64; WORK_WORDS]) -> Description
     ensures told { facts_in result ≡ facts_of (promise_of promise) (paulis (list_of roll.entry.bytes.now)) }
     ensures area { w.new ≡ cleared w.old }
 {

@@ -17,7 +17,7 @@ ghost use Rattle.pauli_group.specs.Inner.Lists.{step_told};
 ghost use Rattle.pauli.specs.Refusals.{told_of};
 
 use crate::answers::Phases;
-use crate::area::{FURTHER, STANDARD, WORK_WORDS};
+use crate::area::{FURTHER, STANDARD, Span, WORK_WORDS, area_of};
 use crate::checks::check_list;
 use crate::group::group_of;
 use crate::promise::Promise;
@@ -131,17 +131,18 @@ fn subset_at(n: usize, i: u64) -> Places
 }
 
 // Writes the n elements from number `start` on of the group whose standard generators are in the area, to the further list's place.
-fn put_elements(w: &mut [u64], rank: usize, phases: Phases, start: u64, n: usize)
-    requires { (length w.old ≡ 4096) × (rank ≤ 16) × (n ≤ 128) × (start < 2 ^ 32) }
+fn put_elements(w: &mut [u64; WORK_WORDS], rank: usize, phases: Phases, start: u64, n: usize)
+    requires { (rank ≤ 16) × (n ≤ 128) × (start < 2 ^ 32) }
     ensures list { list_in w.new further_at n ≡ elements_from rank (4 / step_told phases) (step_told phases) (list_in w.old standard_at rank) start n }
     ensures rest { Outside further_at (5 * n) w.old w.new }
 {
     let count = phases.count();
     let step = phases.step();
+    let generators = Span::at(STANDARD, rank);
     for i in 0..n {
         let number = start + (i as u64);
         let set = subset_at(rank, number / count);
-        let product = indexed_product(w, STANDARD, rank, set);
+        let product = indexed_product(generators.paulis(w), set);
         let turn = (step * (number % count)) as u8;
         let exponent = product.exponent.wrapping_add(turn);
         store(
@@ -182,8 +183,8 @@ fn page_length(total: u64, start: u64, size: usize) -> usize
     size
 }
 
-// How many elements a page holds of a group of this rank, whose phases have this step. The step is a number here, as it was
-// before `Phases`: the function is public, and the enum has no case for 3.
+// How many elements a page holds of a group of this rank, whose phases have this step. The step is a number: the function is public,
+// and `Phases` has no case for a step of 3.
 pub fn page_elements(rank: usize, step: u64, start: u32, count: u32) -> usize
     requires { (rank ≤ 16) × (0 < step) × (step ≤ 4) }
     ensures { (result ≡ min (page_size_spec count) (2 ^ rank * (4 / step) - start)) × (result ≤ 128) }
@@ -198,10 +199,9 @@ fn write_page(
     promise: Promise,
     start: u32,
     count: u32,
-    w: &mut [u64],
+    w: &mut [u64; WORK_WORDS],
     out: &mut [u8],
 ) -> Result<usize, Refusal>
-    requires { length w.old ≡ 4096 }
     ensures told { told_of result ≡ told_bytes (refuse_if (nat_lt most_listed (rank (paulis (list_of roll.entry.bytes.now)))) 10 0 (answer (page_bytes (promise_of promise) start count (paulis (list_of roll.entry.bytes.now))))) out.old }
     ensures left { out.new ≡ left_in (refuse_if (nat_lt most_listed (rank (paulis (list_of roll.entry.bytes.now)))) 10 0 (answer (page_bytes (promise_of promise) start count (paulis (list_of roll.entry.bytes.now))))) out.old }
     ensures area { w.new ≡ cleared w.old }
@@ -212,11 +212,12 @@ fn write_page(
         clear_bits(w, 0, WORK_WORDS);
         return Err(Reason::Listing.into());
     }
-    let signs = signs_of(w, g.total, promise);
+    let signs = signs_of(g.standards().paulis(w), promise);
     let step = signs.phases.step();
     let length = page_elements(g.rank, step, start, count);
     put_elements(w, g.rank, signs.phases, start as u64, length);
-    let wrote = write_roll(w, FURTHER, length, known.qubits(), out);
+    let page = Span::at(FURTHER, length);
+    let wrote = write_roll(page.paulis(w), known.qubits(), out);
     clear_bits(w, 0, WORK_WORDS);
     wrote
 }
@@ -233,5 +234,5 @@ pub fn elements(
     ensures { ElementsCall (promise_of promise) start count b.now work.old out.old result work.new out.new }
 {
     let roll = check_list(b, work.len())?;
-    write_page(roll, promise, start, count, &mut work[..WORK_WORDS], out)
+    write_page(roll, promise, start, count, area_of(work), out)
 }

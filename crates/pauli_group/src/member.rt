@@ -2,7 +2,7 @@
 ghost use Rattle.std.specs.Prelude.{◌≡◌, ◌+◌, ◌*◌, ◌^◌, ◌<◌, ◌≤◌, ◌++◌, length, get_or, slice_index_or};
 ghost use Rattle.binar.specs.Layout.{form_in, FormLeft};
 ghost use Rattle.binar.specs.Row.{weight};
-ghost use Rattle.binar.specs.Solve.{transpose_solve as transpose_solve_spec};
+ghost use Rattle.binar.specs.Solve.{transpose_solve};
 ghost use Rattle.pauli.specs.Bytes.{numbers_at};
 ghost use Rattle.pauli.specs.Condense.{list_of, nothing};
 ghost use Rattle.pauli.specs.Support.{Rising};
@@ -17,7 +17,7 @@ ghost use Rattle.pauli_group.specs.Calls.{le16s};
 ghost use Rattle.pauli_group.specs.Inner.Lists.{row_over, step_told};
 
 use crate::answers::Phases;
-use crate::area::{LIST, ROW_WORDS, TARGET};
+use crate::area::{ROW_WORDS, TARGET, WORK_WORDS};
 use crate::form::{named_by, stride_of};
 use crate::group::Group;
 use crate::rows::put_row;
@@ -77,48 +77,46 @@ fn is_supported(roll: Roll, i: usize, support: &[u32]) -> bool
     )
 }
 
-// Finds the generators whose rows add up to that of p, by the form of n rows over s places.
-pub(crate) fn solve(w: &mut [u64], n: usize, s: usize, rank: usize, p: Pauli) -> Option<Places>
-    requires { (length w.old ≡ 4096) × (n ≤ 128) × (s ≤ 128) × ((held p).x < 2 ^ s) × ((held p).z < 2 ^ s) × FormLeft w.old (stride_of n) n (2 * s) rank target_at }
-    ensures told { set_told result ≡ transpose_solve_spec (2 * s) (form_in (stride_of n) n row_words (2 * s) rank w.old) (row_over s (held p)) }
-    ensures rest { Outside target_at (stride_of n) w.old w.new }
+// Finds the generators whose rows add up to that of p, by the form of their group.
+pub(crate) fn solve(w: &mut [u64; WORK_WORDS], group: Group, p: Pauli) -> Option<Places>
+    requires { ((held p).x < 2 ^ group.places) × ((held p).z < 2 ^ group.places) × FormLeft w.old (stride_of group.count) group.count (2 * group.places) group.rank target_at }
+    ensures told { set_told result ≡ transpose_solve (2 * group.places) (form_in (stride_of group.count) group.count row_words (2 * group.places) group.rank w.old) (row_over group.places (held p)) }
+    ensures rest { Outside target_at (stride_of group.count) w.old w.new }
 {
-    let stride = stride_of(n);
+    let stride = stride_of(group.count);
     clear_bits(w, TARGET + ROW_WORDS, stride - ROW_WORDS);
-    put_row(w, TARGET, p, s);
+    put_row(w, TARGET, p, group.places);
     let shape = Layout {
         stride,
-        rows: n,
-        cols: 2 * s,
+        rows: group.count,
+        cols: 2 * group.places,
     };
-    if transpose_solve(w, shape, rank, TARGET) {
-        Some(named_by(w, TARGET, n))
+    if transpose_solve(w, shape, group.rank, TARGET) {
+        Some(named_by(w, TARGET, group.count))
     } else {
         None
     }
 }
 
-// Factors Pauli i of a roll by the group of a list of n that is in the work area, which has these phases.
+// Factors Pauli i of a roll by a group that is in the work area, which has these phases.
 pub fn factor(
     roll: Roll,
     i: usize,
     known: &[u32],
-    n: usize,
     group: Group,
     phases: Phases,
-    w: &mut [u64],
+    w: &mut [u64; WORK_WORDS],
 ) -> Option<IndexSet>
-    requires { (i < roll.count) × (n ≤ 128) × (length w.old ≡ 4096) × (group.places ≤ 128) × Asked known.now w.old n group.places group.rank group.total (step_told phases) }
-    ensures told { (g : Asked known.now w.old n group.places group.rank group.total (step_told phases)) → factoring_told result ≡ factorization_of g.promise g.list (pauli_of (slice_index_or (list_of roll.entry.bytes.now) i nothing)) }
-    ensures rest { Outside target_at (stride_of n) w.old w.new }
+    requires { (i < roll.count) × Asked known.now w.old group.count group.places group.rank group.total (step_told phases) }
+    ensures told { (g : Asked known.now w.old group.count group.places group.rank group.total (step_told phases)) → factoring_told result ≡ factorization_of g.promise g.list (pauli_of (slice_index_or (list_of roll.entry.bytes.now) i nothing)) }
+    ensures rest { Outside target_at (stride_of group.count) w.old w.new }
 {
-    let places = group.places;
     if !is_supported(roll, i, known) {
         return None;
     }
     let p = condense_from(roll, i, known);
-    let set = solve(w, n, places, group.rank, p)?;
-    let product = indexed_product(w, LIST, n, set);
+    let set = solve(w, group, p)?;
+    let product = indexed_product(group.generators().paulis(w), set);
     let left = p.exponent.wrapping_sub(product.exponent) % 4;
     if (left as u64) % phases.step() != 0 {
         return None;
@@ -129,16 +127,14 @@ pub fn factor(
     })
 }
 
-// Writes the numbers below n in the set, rising, two bytes each: places in the list of generators.
-pub(crate) fn put_indexes(out: &mut [u8], set: Places, n: usize)
-    requires { (n ≤ 128) × (set_in set < 2 ^ n) × (2 * weight (set_in set) ≤ length out.old) }
-    ensures { out.new ≡ put_bytes out.old 0 (le16s (members (set_in set))) }
+// Writes the numbers in the set from byte at on, rising, two bytes each: places in the list of generators.
+pub fn put_indexes(out: &mut [u8], at: usize, set: Places)
+    requires { at + 2 * weight (set_in set) ≤ length out.old }
+    ensures { out.new ≡ put_bytes out.old at (le16s (members (set_in set))) }
 {
-    let mut next = 0;
-    let mut i = set.first_from(Place(0)).0;
-    while i < n {
-        put_u16(out, next, i);
+    let mut next = at;
+    for p in set.iter() {
+        put_u16(out, next, p.0);
         next += 2;
-        i = set.first_from(Place(i + 1)).0;
     }
 }

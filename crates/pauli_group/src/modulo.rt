@@ -17,12 +17,12 @@ ghost use Rattle.pauli_group.specs.CallContracts.{ModuloCall};
 ghost use Rattle.pauli_group.specs.Inner.Remainder.{Other, remainder_by, Remainder};
 ghost use Rattle.pauli.specs.Refusals.{told_of};
 
-use crate::area::{FURTHER, STANDARD, WORK_WORDS};
+use crate::area::{FURTHER, STANDARD, Span, WORK_WORDS, area_of};
 use crate::checks::check_pair;
 use crate::form::stride_of;
 use crate::group::{Group, group_of};
 use crate::moved::{move_list, move_pauli};
-use crate::promise::Promise;
+use crate::promise::{Promise, Promises};
 use crate::scan::take_mod;
 use crate::standard::signs_of;
 use binar::row::clear_bits;
@@ -47,50 +47,51 @@ fn multiplied(p: Pauli, is_x: bool, place: Place, other: Pauli) -> Pauli
     p
 }
 
-// Multiplies those of the n Paulis from word base on that have a one at the place by other.
-fn multiply_at(w: &mut [u64], base: usize, n: usize, is_x: bool, place: Place, other: Pauli)
-    requires { (base + 5 * n ≤ length w.old) × (place.0 < 128) }
-    ensures list { list_in w.new base n ≡ map (λ p. normal (multiplied_at is_x place.0 (held other) p)) (list_in w.old base n) }
-    ensures rest { Outside base (5 * n) w.old w.new }
+// Multiplies those Paulis of a list that have a one at the place by other.
+fn multiply_at(w: &mut [u64; WORK_WORDS], list: Span, is_x: bool, place: Place, other: Pauli)
+    requires { place.0 < 128 }
+    ensures list { list_in w.new list.base list.count ≡ map (λ p. normal (multiplied_at is_x place.0 (held other) p)) (list_in w.old list.base list.count) }
+    ensures rest { Outside list.base (5 * list.count) w.old w.new }
 {
-    for i in 0..n {
-        let p = load(w, base + 5 * i);
-        store(w, base + 5 * i, multiplied(p, is_x, place, other));
+    for i in 0..list.count {
+        let p = load(w, list.base + 5 * i);
+        store(w, list.base + 5 * i, multiplied(p, is_x, place, other));
     }
 }
 
-// Multiplies the m Paulis of the further list by the standard generators of the group of a list of n, each at its pivot. The group
-// is over the places of own, the further list over those of joined.
-fn multiply_all(w: &mut [u64], m: usize, n: usize, group: Group, own: &[u32], joined: &[u32])
-    requires { (length w.old ≡ 4096) × (m ≤ 128) × (group.places ≡ length own.now) × (group.places ≤ 128) × (length joined.now ≤ 128) × Other own.now joined.now w.old n group.rank group.total × All (λ p. p.e < 4) (list_in w.old further_at m) }
-    ensures list { list_in w.new further_at m ≡ remainder_by own.now joined.now w.old n group.rank group.total (list_in w.old further_at m) }
+// Multiplies the m Paulis of the further list by the standard generators of a group, each at its pivot. The group is over the places
+// of own, the further list over those of joined.
+fn multiply_all(w: &mut [u64; WORK_WORDS], m: usize, group: Group, own: &[u32], joined: &[u32])
+    requires { (m ≤ 128) × (group.places ≡ length own.now) × (length joined.now ≤ 128) × Other own.now joined.now w.old group.count group.rank group.total × All (λ p. p.e < 4) (list_in w.old further_at m) }
+    ensures list { list_in w.new further_at m ≡ remainder_by own.now joined.now w.old group.count group.rank group.total (list_in w.old further_at m) }
     ensures rest { Outside further_at (5 * m) w.old w.new }
 {
+    let list = Span::at(FURTHER, m);
     let places = group.places;
-    let at = n * stride_of(n);
+    let at = group.count * stride_of(group.count);
     for k in 0..group.rank {
         let pivot = w[at + k] as usize;
         let other = load(w, STANDARD + 5 * k);
         let moved = move_pauli(other, own, joined);
         let place = place_of(joined, qubit_at(own, Place(pivot % places)));
-        multiply_at(w, FURTHER, m, pivot < places, place, moved);
+        multiply_at(w, list, pivot < places, place, moved);
     }
 }
 
 // Leaves the remainder of the left list by the right one in the further list, over the places of the joined support; tells how many
 // Paulis it has.
-fn remainder(pair: Pair, promise: Promise, joined: &[u32], w: &mut [u64]) -> usize
-    requires { (length joined.now ≤ 128) × (joined.now ≡ support_of (paulis (list_of pair.left.bytes.now) ++ paulis (list_of pair.right.bytes.now))) × (length w.old ≡ 4096) }
+fn remainder(pair: Pair, promise: Promise, joined: &[u32], w: &mut [u64; WORK_WORDS]) -> usize
+    requires { (length joined.now ≤ 128) × (joined.now ≡ support_of (paulis (list_of pair.left.bytes.now) ++ paulis (list_of pair.right.bytes.now))) }
     ensures { Remainder (promise_of promise) (paulis (list_of pair.entry.left.bytes.now)) (paulis (list_of pair.entry.right.bytes.now)) w.new result }
 {
     let mut own = Support::new();
     let a = group_of(pair.left, &mut own, w);
-    move_list(w, STANDARD, FURTHER, a.total, own.qubits(), joined);
+    move_list(w, a.standards(), FURTHER, own.qubits(), joined);
     let mut other = Support::new();
     let b = group_of(pair.right, &mut other, w);
-    let signs = signs_of(w, b.total, promise);
-    multiply_all(w, a.total, pair.right.count, b, other.qubits(), joined);
-    take_mod(w, FURTHER, a.total, signs.phases.step());
+    let signs = signs_of(b.standards().paulis(w), promise);
+    multiply_all(w, a.total, b, other.qubits(), joined);
+    take_mod(w, Span::at(FURTHER, a.total), signs.phases.step());
     a.total
 }
 
@@ -98,10 +99,9 @@ fn remainder(pair: Pair, promise: Promise, joined: &[u32], w: &mut [u64]) -> usi
 pub(crate) fn write_modulo(
     pair: Pair,
     promise: Promise,
-    w: &mut [u64],
+    w: &mut [u64; WORK_WORDS],
     out: &mut [u8],
 ) -> Result<usize, Refusal>
-    requires { length w.old ≡ 4096 }
     ensures told { told_of result ≡ told_bytes (answer (list_bytes (modulo (promise_of promise) (paulis (list_of pair.entry.left.bytes.now)) (paulis (list_of pair.entry.right.bytes.now))))) out.old }
     ensures left { out.new ≡ left_in (answer (list_bytes (modulo (promise_of promise) (paulis (list_of pair.entry.left.bytes.now)) (paulis (list_of pair.entry.right.bytes.now))))) out.old }
     ensures area { w.new ≡ cleared w.old }
@@ -109,7 +109,8 @@ pub(crate) fn write_modulo(
     let support = join_support(pair.left, pair.right);
     let joined = support.qubits();
     let count = remainder(pair, promise, joined, w);
-    let wrote = write_roll(w, FURTHER, count, joined, out);
+    let list = Span::at(FURTHER, count);
+    let wrote = write_roll(list.paulis(w), joined, out);
     clear_bits(w, 0, WORK_WORDS);
     wrote
 }
@@ -118,13 +119,12 @@ pub(crate) fn write_modulo(
 pub fn modulo(
     left: &[u8],
     right: &[u8],
-    left_promise: Promise,
-    right_promise: Promise,
+    promises: Promises,
     work: &mut [u64],
     out: &mut [u8],
 ) -> Result<usize, Refusal>
-    ensures { ModuloCall (promise_of right_promise) left.now right.now work.old out.old result work.new out.new }
+    ensures { ModuloCall (promise_of promises.right) left.now right.now work.old out.old result work.new out.new }
 {
     let pair = check_pair(left, right, work.len())?;
-    write_modulo(pair, right_promise, &mut work[..WORK_WORDS], out)
+    write_modulo(pair, promises.right, area_of(work), out)
 }

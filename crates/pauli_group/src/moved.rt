@@ -9,6 +9,7 @@ ghost use Rattle.pauli_theory.specs.Inner.ModuloPlaces.{moved_set, moved_pauli};
 ghost use Rattle.pauli_group.specs.Inner.Area.{Outside};
 ghost use Rattle.pauli_group.specs.Inner.Moved.{Movable, MovablePauli};
 
+use crate::area::{Span, WORK_WORDS};
 use pauli::condense::with_place;
 use pauli::places::Places;
 use pauli::signed::{Pauli, load, store};
@@ -21,12 +22,10 @@ fn move_set(set: Places, own: &[u32], joined: &[u32]) -> Places
 {
     let mut moved = Places::none();
     let mut from = Place(0);
-    let mut i = set.first_from(Place(0)).0;
-    while i < own.len() {
-        let place = place_from(joined, from, qubit_at(own, Place(i)));
+    for p in set.iter() {
+        let place = place_from(joined, from, qubit_at(own, p));
         moved = with_place(moved, place);
         from = place;
-        i = set.first_from(Place(i + 1)).0;
     }
     moved
 }
@@ -43,21 +42,20 @@ pub(crate) fn move_pauli(p: Pauli, own: &[u32], joined: &[u32]) -> Pauli
     }
 }
 
-// The n Paulis from word base on, moved to the words from word to on, behind them or before.
+// The Paulis of a list, moved to the words from word to on, behind them.
 pub(crate) fn move_list(
-    w: &mut [u64],
-    base: usize,
+    w: &mut [u64; WORK_WORDS],
+    from: Span,
     to: usize,
-    n: usize,
     own: &[u32],
     joined: &[u32],
 )
-    requires { (base + 5 * n ≤ to) × (to + 5 * n ≤ length w.old) × (length own.now ≤ 128) × (length joined.now ≤ 128) × OnPlaces (length own.now) (list_in w.old base n) × All (MovablePauli own.now joined.now) (list_in w.old base n) }
-    ensures list { list_in w.new to n ≡ map (λ p. normal (moved_pauli own.now joined.now p)) (list_in w.old base n) }
-    ensures rest { Outside to (5 * n) w.old w.new }
+    requires { (from.base + 5 * from.count ≤ to) × (to + 5 * from.count ≤ 4096) × (length own.now ≤ 128) × (length joined.now ≤ 128) × OnPlaces (length own.now) (list_in w.old from.base from.count) × All (MovablePauli own.now joined.now) (list_in w.old from.base from.count) }
+    ensures list { list_in w.new to from.count ≡ map (λ p. normal (moved_pauli own.now joined.now p)) (list_in w.old from.base from.count) }
+    ensures rest { Outside to (5 * from.count) w.old w.new }
 {
-    for i in 0..n {
-        let p = load(w, base + 5 * i);
+    for i in 0..from.count {
+        let p = load(w, from.base + 5 * i);
         store(w, to + 5 * i, move_pauli(p, own, joined));
     }
 }

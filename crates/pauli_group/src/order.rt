@@ -1,5 +1,5 @@
 // The call for comparison.
-ghost use Rattle.std.specs.Prelude.{◌≡◌, ◌/◌, ◌<◌, length};
+ghost use Rattle.std.specs.Prelude.{◌≡◌, ◌/◌};
 ghost use Rattle.pauli.specs.Condense.{list_of};
 ghost use Rattle.pauli_theory.specs.Order.{partial_cmp, no_more};
 ghost use Rattle.pauli_group.specs.Promises.{promise_of};
@@ -10,10 +10,10 @@ ghost use Rattle.pauli_group.specs.Calls.{paulis};
 ghost use Rattle.pauli_group.specs.Inner.Compare.{ranks_in, order_by};
 ghost use Rattle.pauli_group.specs.CallContracts.{OrderCall};
 
-use crate::area::WORK_WORDS;
+use crate::area::{WORK_WORDS, area_of};
 use crate::checks::check_pair;
 use crate::group::{Description, describe, describe_two};
-use crate::promise::Promise;
+use crate::promise::Promises;
 use binar::row::clear_bits;
 use pauli::joined::Pair;
 use pauli::refusal::Refusal;
@@ -63,31 +63,23 @@ fn order_by(a: GroupRanks, b: GroupRanks, both: GroupRanks) -> Option<Ordering>
 // How the groups of two rolls that can be joined compare.
 pub(crate) fn order_of(
     pair: Pair,
-    left_promise: Promise,
-    right_promise: Promise,
-    w: &mut [u64],
+    promises: Promises,
+    w: &mut [u64; WORK_WORDS],
 ) -> Option<Ordering>
-    requires { length w.old ≡ 4096 }
-    ensures { order_of result ≡ partial_cmp (promise_of left_promise) (promise_of right_promise) (paulis (list_of pair.entry.left.bytes.now)) (paulis (list_of pair.entry.right.bytes.now)) }
+    ensures { order_of result ≡ partial_cmp (promise_of promises.left) (promise_of promises.right) (paulis (list_of pair.entry.left.bytes.now)) (paulis (list_of pair.entry.right.bytes.now)) }
 {
-    let a = describe(pair.left, left_promise, w);
-    let b = describe(pair.right, right_promise, w);
+    let a = describe(pair.left, promises.left, w);
+    let b = describe(pair.right, promises.right, w);
     let both = describe_two(pair, w);
     order_by(ranks_of(a), ranks_of(b), ranks_of(both))
 }
 
 // Compares the groups of two rolls that can be joined, and clears the work area.
-fn compare(
-    pair: Pair,
-    left_promise: Promise,
-    right_promise: Promise,
-    w: &mut [u64],
-) -> Option<Ordering>
-    requires { length w.old ≡ 4096 }
-    ensures told { order_of result ≡ partial_cmp (promise_of left_promise) (promise_of right_promise) (paulis (list_of pair.entry.left.bytes.now)) (paulis (list_of pair.entry.right.bytes.now)) }
+fn compare(pair: Pair, promises: Promises, w: &mut [u64; WORK_WORDS]) -> Option<Ordering>
+    ensures told { order_of result ≡ partial_cmp (promise_of promises.left) (promise_of promises.right) (paulis (list_of pair.entry.left.bytes.now)) (paulis (list_of pair.entry.right.bytes.now)) }
     ensures area { w.new ≡ cleared w.old }
 {
-    let order = order_of(pair, left_promise, right_promise, w);
+    let order = order_of(pair, promises, w);
     clear_bits(w, 0, WORK_WORDS);
     order
 }
@@ -96,13 +88,12 @@ fn compare(
 pub fn partial_cmp(
     left: &[u8],
     right: &[u8],
-    left_promise: Promise,
-    right_promise: Promise,
+    promises: Promises,
     work: &mut [u64],
 ) -> Result<Option<Ordering>, Refusal>
-    ensures { OrderCall (promise_of left_promise) (promise_of right_promise) left.now right.now work.old result work.new }
+    ensures { OrderCall (promise_of promises.left) (promise_of promises.right) left.now right.now work.old result work.new }
 {
     let pair = check_pair(left, right, work.len())?;
-    let order = compare(pair, left_promise, right_promise, &mut work[..WORK_WORDS]);
+    let order = compare(pair, promises, area_of(work));
     Ok(order)
 }

@@ -6,6 +6,13 @@ pub enum Promise {
     NotAbelian,
 }
 
+// What the caller promises of two lists.
+#[derive(Clone, Copy)]
+pub struct Promises {
+    pub left: Promise,
+    pub right: Promise,
+}
+
 impl From<u64> for Promise {
     ghost use Rattle.std.specs.Prelude.{◌≡◌};
     ghost use Rattle.pauli_group.specs.Promises.{promise_of, promise_numbered};

@@ -1,21 +1,21 @@
 // The call for the quotient of a list by another.
-ghost use Rattle.std.specs.Prelude.{◌≡◌, length};
+ghost use Rattle.std.specs.Prelude.{◌≡◌};
 ghost use Rattle.pauli.specs.Condense.{list_of};
 ghost use Rattle.pauli.specs.Writing.{told_bytes, left_in};
-ghost use Rattle.pauli_theory.specs.Modulo.{try_quotient as try_quotient_spec};
+ghost use Rattle.pauli_theory.specs.Modulo.{try_quotient};
 ghost use Rattle.pauli_group.specs.WorkArea.{cleared};
 ghost use Rattle.pauli_group.specs.Calls.{paulis, quotient_bytes};
 ghost use Rattle.pauli_group.specs.Promises.{promise_of};
 ghost use Rattle.pauli_group.specs.Answers.{order_of};
-ghost use Rattle.pauli_group.specs.Inner.Compare.{is_below as is_below_spec};
+ghost use Rattle.pauli_group.specs.Inner.Compare.{is_below};
 ghost use Rattle.pauli_group.specs.CallContracts.{QuotientCall};
 ghost use Rattle.pauli.specs.Refusals.{told_of};
 
-use crate::area::WORK_WORDS;
+use crate::area::{WORK_WORDS, area_of};
 use crate::checks::check_pair;
 use crate::modulo::write_modulo;
 use crate::order::order_of;
-use crate::promise::Promise;
+use crate::promise::Promises;
 use binar::row::clear_bits;
 use pauli::joined::Pair;
 use pauli::refusal::{Reason, Refusal};
@@ -23,7 +23,7 @@ use std::cmp::Ordering;
 
 // Whether the left group is inside the right one.
 fn is_below(order: Option<Ordering>) -> bool
-    ensures { result ≡ is_below_spec (order_of order) }
+    ensures { result ≡ is_below (order_of order) }
 {
     matches!(order, Some(Ordering::Equal | Ordering::Less))
 }
@@ -31,45 +31,40 @@ fn is_below(order: Option<Ordering>) -> bool
 // Writes the quotient of two rolls that can be joined, if the right group is inside the left one, and clears the work area.
 fn write_quotient(
     pair: Pair,
-    left_promise: Promise,
-    right_promise: Promise,
-    w: &mut [u64],
+    promises: Promises,
+    w: &mut [u64; WORK_WORDS],
     out: &mut [u8],
 ) -> Result<usize, Refusal>
-    requires { length w.old ≡ 4096 }
-    ensures told { told_of result ≡ told_bytes (quotient_bytes (try_quotient_spec (promise_of left_promise) (promise_of right_promise) (paulis (list_of pair.entry.left.bytes.now)) (paulis (list_of pair.entry.right.bytes.now)))) out.old }
-    ensures left { out.new ≡ left_in (quotient_bytes (try_quotient_spec (promise_of left_promise) (promise_of right_promise) (paulis (list_of pair.entry.left.bytes.now)) (paulis (list_of pair.entry.right.bytes.now)))) out.old }
+    ensures told { told_of result ≡ told_bytes (quotient_bytes (try_quotient (promise_of promises.left) (promise_of promises.right) (paulis (list_of pair.entry.left.bytes.now)) (paulis (list_of pair.entry.right.bytes.now)))) out.old }
+    ensures left { out.new ≡ left_in (quotient_bytes (try_quotient (promise_of promises.left) (promise_of promises.right) (paulis (list_of pair.entry.left.bytes.now)) (paulis (list_of pair.entry.right.bytes.now)))) out.old }
     ensures area { w.new ≡ cleared w.old }
 {
     let swapped = Pair {
         left: pair.right,
         right: pair.left,
     };
-    let order = order_of(swapped, right_promise, left_promise, w);
+    let exchanged = Promises {
+        left: promises.right,
+        right: promises.left,
+    };
+    let order = order_of(swapped, exchanged, w);
     if !is_below(order) {
         clear_bits(w, 0, WORK_WORDS);
         return Err(Reason::Subgroup.into());
     }
-    write_modulo(pair, right_promise, w, out)
+    write_modulo(pair, promises.right, w, out)
 }
 
 // The quotient of the left list by the right one, the divisor. Each list may have a promise.
 pub fn try_quotient(
     left: &[u8],
     right: &[u8],
-    left_promise: Promise,
-    right_promise: Promise,
+    promises: Promises,
     work: &mut [u64],
     out: &mut [u8],
 ) -> Result<usize, Refusal>
-    ensures { QuotientCall (promise_of left_promise) (promise_of right_promise) left.now right.now work.old out.old result work.new out.new }
+    ensures { QuotientCall (promise_of promises.left) (promise_of promises.right) left.now right.now work.old out.old result work.new out.new }
 {
     let pair = check_pair(left, right, work.len())?;
-    write_quotient(
-        pair,
-        left_promise,
-        right_promise,
-        &mut work[..WORK_WORDS],
-        out,
-    )
+    write_quotient(pair, promises, area_of(work), out)
 }

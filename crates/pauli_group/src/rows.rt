@@ -5,7 +5,7 @@ ghost use Rattle.pauli.specs.Signed.{held, list_in};
 ghost use Rattle.pauli.specs.Writing.{OnPlaces};
 ghost use Rattle.pauli_group.specs.Inner.Lists.{row_over};
 
-use crate::area::ROW_WORDS;
+use crate::area::{ROW_WORDS, Span, WORK_WORDS};
 use binar::row::clear_bits;
 use pauli::signed::{Pauli, load};
 
@@ -56,15 +56,16 @@ pub(crate) fn put_row(w: &mut [u64], at: usize, p: Pauli, s: usize)
     w[at + 3] = b.high;
 }
 
-// Writes the rows of the n Paulis from word base on, over s places, to the front of the slice: rows of stride words, whose words
-// past the first four are zero.
-pub(crate) fn put_rows(w: &mut [u64], base: usize, n: usize, s: usize, stride: usize)
-    requires { (base + 5 * n ≤ length w.old) × (n * stride ≤ base) × (4 ≤ stride) × (s ≤ 128) × OnPlaces s (list_in w.old base n) }
-    ensures { w.new ≡ image stride (map (row_over s) (list_in w.old base n)) (drop (n * stride) w.old) }
+// Writes the rows of the Paulis of a list, over s places, to the front of the area: rows of stride words, whose words past the first
+// four are zero.
+pub(crate) fn put_rows(w: &mut [u64; WORK_WORDS], list: Span, s: usize, stride: usize)
+    requires { (list.count * stride ≤ list.base) × (4 ≤ stride) × (s ≤ 128) × OnPlaces s (list_in w.old list.base list.count) }
+    ensures { w.new ≡ image stride (map (row_over s) (list_in w.old list.base list.count)) (drop (list.count * stride) w.old) }
 {
-    for i in 0..n {
+    for i in 0..list.count {
         let at = i * stride;
         clear_bits(w, at + ROW_WORDS, stride - ROW_WORDS);
-        put_row(w, at, load(w, base + 5 * i), s);
+        let p = load(w, list.base + 5 * i);
+        put_row(w, at, p, s);
     }
 }

@@ -1,23 +1,23 @@
 // Tests and changes of the phases of the Paulis in the work area.
 ghost use Rattle.std.specs.Prelude.{◌≡◌, ℕ, ◌+◌, ◌*◌, ◌<◌, ◌≤◌, [], ◌∷◌, ◌++◌, map, length};
-ghost use Rattle.pauli.specs.Signed.{held, list_in};
+ghost use Rattle.pauli.specs.Signed.{held, list_in, paulis_in};
 ghost use Rattle.pauli.specs.Pauli.{Pauli as PauliOf, phase};
-ghost use Rattle.pauli_theory.specs.Standard.{modulus_of as modulus_of_spec, exponent_mod, some_order_four as some_order_four_spec, anticommutes_with_some as anticommutes_with_some_spec, some_anticommute as some_anticommute_spec, appended, some_imaginary as some_imaginary_spec, some_minus as some_minus_spec};
+ghost use Rattle.pauli_theory.specs.Standard.{modulus_of, exponent_mod, some_order_four, anticommutes_with_some, some_anticommute, appended, some_imaginary, some_minus};
 ghost use Rattle.pauli_group.specs.Inner.Area.{Outside};
 ghost use Rattle.pauli_group.specs.Inner.Lists.{SomeTested};
 ghost use Rattle.pauli_group.specs.Answers.{yes_number};
 
+use crate::area::{Span, WORK_WORDS};
 use pauli::places::Places;
-use pauli::signed::{Pauli, load, store};
+use pauli::signed::{Pauli, store};
 
-// The modulus of the n Paulis from word base on, which are powers of i: 4; 2 if one is -I; 1 if one is odd.
-pub(crate) fn modulus_of(w: &[u64], base: usize, n: usize) -> u64
-    requires { base + 5 * n ≤ length w.now }
-    ensures { result ≡ modulus_of_spec (map (λ (p : PauliOf). p.e) (list_in w.now base n)) }
+// The modulus of the Paulis of a list, which are powers of i: 4; 2 if one is -I; 1 if one is odd.
+pub(crate) fn modulus_of(list: &[[u64; 5]]) -> u64
+    ensures { result ≡ modulus_of (map (λ (p : PauliOf). p.e) (paulis_in list.now)) }
 {
     let mut m = 4;
-    for i in 0..n {
-        let e = w[base + 5 * i];
+    for words in list {
+        let e = words[0];
         if e % 2 == 1 {
             return 1;
         }
@@ -28,71 +28,70 @@ pub(crate) fn modulus_of(w: &[u64], base: usize, n: usize) -> u64
     m
 }
 
-// Takes the exponents of the n Paulis from word base on mod m.
-pub(crate) fn take_mod(w: &mut [u64], base: usize, n: usize, m: u64)
-    requires { (base + 5 * n ≤ length w.old) × (0 < m) }
-    ensures list { list_in w.new base n ≡ map (exponent_mod m) (list_in w.old base n) }
-    ensures rest { Outside base (5 * n) w.old w.new }
+// Takes the exponents of the Paulis of a list mod m.
+pub(crate) fn take_mod(w: &mut [u64; WORK_WORDS], list: Span, m: u64)
+    requires { 0 < m }
+    ensures list { list_in w.new list.base list.count ≡ map (exponent_mod m) (list_in w.old list.base list.count) }
+    ensures rest { Outside list.base (5 * list.count) w.old w.new }
 {
-    for i in 0..n {
-        w[base + 5 * i] = w[base + 5 * i] % m;
+    for i in 0..list.count {
+        w[list.base + 5 * i] = w[list.base + 5 * i] % m;
     }
 }
 
-// Whether a test holds of one of the n Paulis from word base on.
-fn some<F: Fn(Pauli) -> bool>(w: &[u64], base: usize, n: usize, test: F) -> bool
-    requires { (base + 5 * n ≤ length w.now) × F.IsAlwaysCallable test }
-    ensures { SomeTested (F.post test) w.now base n result }
+// Whether a test holds of one of the Paulis of a list.
+fn some<F: Fn(Pauli) -> bool>(list: &[[u64; 5]], test: F) -> bool
+    requires { F.IsAlwaysCallable test }
+    ensures { SomeTested (F.post test) list.now result }
 {
-    (0..n).any(|i| test(load(w, base + 5 * i)))
+    list.iter().any(|words| test(Pauli::from_words(words)))
 }
 
-// Whether one of the n Paulis from word base on is of order four.
-pub(crate) fn some_order_four(w: &[u64], base: usize, n: usize) -> bool
-    requires { base + 5 * n ≤ length w.now }
-    ensures { yes_number result ≡ some_order_four_spec (list_in w.now base n) }
+// Whether one of the Paulis of a list is of order four.
+pub(crate) fn some_order_four(list: &[[u64; 5]]) -> bool
+    ensures { yes_number result ≡ some_order_four (paulis_in list.now) }
 {
-    some(w, base, n, |p| !p.is_order_two())
+    some(list, |p| !p.is_order_two())
 }
 
-// Whether one of the n Paulis from word base on anticommutes with p.
-fn anticommutes_with_some(w: &[u64], base: usize, n: usize, p: Pauli) -> bool
-    requires { base + 5 * n ≤ length w.now }
-    ensures { yes_number result ≡ anticommutes_with_some_spec (held p) (list_in w.now base n) }
+// Whether one of the Paulis of a list anticommutes with p.
+fn anticommutes_with_some(list: &[[u64; 5]], p: Pauli) -> bool
+    ensures { yes_number result ≡ anticommutes_with_some (held p) (paulis_in list.now) }
 {
-    some(w, base, n, |q| p.anticommutes(q))
+    some(list, |q| p.anticommutes(q))
 }
 
-// Whether two of the n Paulis from word base on anticommute.
-pub(crate) fn some_anticommute(w: &[u64], base: usize, n: usize) -> bool
-    requires { base + 5 * n ≤ length w.now }
-    ensures { yes_number result ≡ some_anticommute_spec (list_in w.now base n) }
+// Whether two of the Paulis of a list anticommute.
+pub(crate) fn some_anticommute(list: &[[u64; 5]]) -> bool
+    ensures { yes_number result ≡ some_anticommute (paulis_in list.now) }
 {
-    (0..n).any(|i| {
-        let at = base + 5 * i;
-        anticommutes_with_some(w, at + 5, n - i - 1, load(w, at))
-    })
+    let mut rest = list;
+    while let Some((words, others)) = rest.split_first() {
+        if anticommutes_with_some(others, Pauli::from_words(words)) {
+            return true;
+        }
+        rest = others;
+    }
+    false
 }
 
-// Whether one of the n Paulis from word base on is of weight 0 and has an odd phase.
-pub(crate) fn some_imaginary(w: &[u64], base: usize, n: usize) -> bool
-    requires { base + 5 * n ≤ length w.now }
-    ensures { yes_number result ≡ some_imaginary_spec (list_in w.now base n) }
+// Whether one of the Paulis of a list is of weight 0 and has an odd phase.
+pub(crate) fn some_imaginary(list: &[[u64; 5]]) -> bool
+    ensures { yes_number result ≡ some_imaginary (paulis_in list.now) }
 {
-    some(w, base, n, |p| p.weight() == 0 && p.exponent % 2 == 1)
+    some(list, |p| p.weight() == 0 && p.exponent % 2 == 1)
 }
 
-// Whether one of the n Paulis from word base on is -I.
-pub(crate) fn some_minus(w: &[u64], base: usize, n: usize) -> bool
-    requires { base + 5 * n ≤ length w.now }
-    ensures { yes_number result ≡ some_minus_spec (list_in w.now base n) }
+// Whether one of the Paulis of a list is -I.
+pub(crate) fn some_minus(list: &[[u64; 5]]) -> bool
+    ensures { yes_number result ≡ some_minus (paulis_in list.now) }
 {
-    some(w, base, n, |p| p.weight() == 0 && p.exponent % 4 == 2)
+    some(list, |p| p.weight() == 0 && p.exponent % 4 == 2)
 }
 
 // Writes i^k to the five words from word at on.
-pub(crate) fn put_phase(w: &mut [u64], at: usize, k: u8)
-    requires { (at + 5 ≤ length w.old) × (k < 4) }
+pub(crate) fn put_phase(w: &mut [u64; WORK_WORDS], at: usize, k: u8)
+    requires { (at + 5 ≤ 4096) × (k < 4) }
     ensures list { list_in w.new at 1 ≡ phase k ∷ [] }
     ensures rest { Outside at 5 w.old w.new }
 {
@@ -107,23 +106,23 @@ pub(crate) fn put_phase(w: &mut [u64], at: usize, k: u8)
     );
 }
 
-// Appends to the n Paulis from word base on what the modulus asks for; tells how many there are then.
-pub(crate) fn append_phase(w: &mut [u64], base: usize, n: usize, m: u64) -> usize
-    requires { (base + 5 * n + 5 ≤ length w.old) × (m ≤ 4) }
-    ensures count { result ≡ length (list_in w.old base n ++ appended m (list_in w.old base n)) }
-    ensures list { list_in w.new base result ≡ list_in w.old base n ++ appended m (list_in w.old base n) }
-    ensures rest { Outside (base + 5 * n) 5 w.old w.new }
+// Appends to the Paulis of a list what the modulus asks for; tells how many there are then.
+pub(crate) fn append_phase(w: &mut [u64; WORK_WORDS], list: Span, m: u64) -> usize
+    requires { (list.base + 5 * list.count + 5 ≤ 4096) × (m ≤ 4) }
+    ensures count { result ≡ length (list_in w.old list.base list.count ++ appended m (list_in w.old list.base list.count)) }
+    ensures list { list_in w.new list.base result ≡ list_in w.old list.base list.count ++ appended m (list_in w.old list.base list.count) }
+    ensures rest { Outside (list.base + 5 * list.count) 5 w.old w.new }
 {
     if m == 0 {
-        return n;
+        return list.count;
     }
     if m < 3 {
-        put_phase(w, base + 5 * n, m as u8);
-        return n + 1;
+        put_phase(w, list.base + 5 * list.count, m as u8);
+        return list.count + 1;
     }
-    if n == 0 {
-        put_phase(w, base, 0);
+    if list.count == 0 {
+        put_phase(w, list.base, 0);
         return 1;
     }
-    n
+    list.count
 }

@@ -1,14 +1,14 @@
 // Standard generators in the work area, and what they tell of the group.
 ghost use Rattle.std.specs.Prelude.{◌≡◌, ◌+◌, ◌*◌, ◌/◌, ◌^◌, ◌<◌, ◌≤◌, length};
-ghost use Rattle.pauli.specs.Signed.{list_in};
+ghost use Rattle.pauli.specs.Signed.{list_in, paulis_in};
 ghost use Rattle.pauli_theory.specs.Standard.{if_zero, step_of};
 ghost use Rattle.pauli_group.specs.Inner.Area.{standard_at, Outside};
 ghost use Rattle.pauli_group.specs.Promises.{promise_of};
-ghost use Rattle.pauli_group.specs.Inner.Lists.{step_told, from_products, clash_of as clash_of_spec, stabilizer_of};
+ghost use Rattle.pauli_group.specs.Inner.Lists.{step_told, from_products, clash_of, stabilizer_of};
 ghost use Rattle.pauli_group.specs.Answers.{yes_number};
 
 use crate::answers::Phases;
-use crate::area::STANDARD;
+use crate::area::{STANDARD, Span, WORK_WORDS};
 use crate::promise::Promise;
 use crate::scan::{
     append_phase, modulus_of, some_anticommute, some_imaginary, some_minus, some_order_four,
@@ -25,30 +25,31 @@ pub struct Signs {
 
 // Makes the standard generators of the n products that stand in their place, the first rank of them of nonzero rows; tells how
 // many there are.
-pub(crate) fn standardize(w: &mut [u64], n: usize, rank: usize) -> usize
-    requires { (length w.old ≡ 4096) × (n ≤ 128) × (rank ≤ n) }
+pub(crate) fn standardize(w: &mut [u64; WORK_WORDS], n: usize, rank: usize) -> usize
+    requires { (n ≤ 128) × (rank ≤ n) }
     ensures count { result ≡ length (from_products rank (list_in w.old standard_at n)) }
     ensures list { list_in w.new standard_at result ≡ from_products rank (list_in w.old standard_at n) }
     ensures rest { Outside standard_at (5 * n + 5) w.old w.new }
 {
-    let m = modulus_of(w, STANDARD + 5 * rank, n - rank);
-    take_mod(w, STANDARD, rank, m);
-    if some_order_four(w, STANDARD, rank) || some_anticommute(w, STANDARD, rank) {
-        take_mod(w, STANDARD, rank, 2);
-        return append_phase(w, STANDARD, rank, m % 2);
+    let powers = Span::at(STANDARD + 5 * rank, n - rank);
+    let m = modulus_of(powers.paulis(w));
+    let list = Span::at(STANDARD, rank);
+    take_mod(w, list, m);
+    if some_order_four(list.paulis(w)) || some_anticommute(list.paulis(w)) {
+        take_mod(w, list, 2);
+        return append_phase(w, list, m % 2);
     }
-    append_phase(w, STANDARD, rank, m)
+    append_phase(w, list, m)
 }
 
-// Whether the group of the n standard generators is not abelian, or is promised not to be.
-fn clash_of(w: &[u64], n: usize, promise: Promise) -> bool
-    requires { standard_at + 5 * n ≤ length w.now }
-    ensures { yes_number result ≡ clash_of_spec (promise_of promise) (list_in w.now standard_at n) }
+// Whether the group of these standard generators is not abelian, or is promised not to be.
+fn clash_of(list: &[[u64; 5]], promise: Promise) -> bool
+    ensures { yes_number result ≡ clash_of (promise_of promise) (paulis_in list.now) }
 {
     match promise {
         Promise::Abelian => false,
         Promise::NotAbelian => true,
-        Promise::None => some_anticommute(w, STANDARD, n),
+        Promise::None => some_anticommute(list),
     }
 }
 
@@ -66,19 +67,18 @@ fn phases_for(imaginary: bool, stabilizer: bool) -> Phases
     }
 }
 
-// What the n standard generators tell.
-pub fn signs_of(w: &[u64], n: usize, promise: Promise) -> Signs
-    requires { standard_at + 5 * n ≤ length w.now }
-    ensures clash { yes_number result.clash ≡ clash_of_spec (promise_of promise) (list_in w.now standard_at n) }
-    ensures step { step_told result.phases ≡ step_of (clash_of_spec (promise_of promise) (list_in w.now standard_at n)) (list_in w.now standard_at n) }
-    ensures stabilizer { yes_number result.stabilizer ≡ stabilizer_of (clash_of_spec (promise_of promise) (list_in w.now standard_at n)) (list_in w.now standard_at n) }
+// What standard generators tell.
+pub fn signs_of(list: &[[u64; 5]], promise: Promise) -> Signs
+    ensures clash { yes_number result.clash ≡ clash_of (promise_of promise) (paulis_in list.now) }
+    ensures step { step_told result.phases ≡ step_of (clash_of (promise_of promise) (paulis_in list.now)) (paulis_in list.now) }
+    ensures stabilizer { yes_number result.stabilizer ≡ stabilizer_of (clash_of (promise_of promise) (paulis_in list.now)) (paulis_in list.now) }
 {
-    let clash = clash_of(w, n, promise);
-    let order_four = some_order_four(w, STANDARD, n);
-    let minus = some_minus(w, STANDARD, n);
+    let clash = clash_of(list, promise);
+    let order_four = some_order_four(list);
+    let minus = some_minus(list);
     let stabilizer = !clash && !order_four && !minus;
     Signs {
-        phases: phases_for(some_imaginary(w, STANDARD, n), stabilizer),
+        phases: phases_for(some_imaginary(list), stabilizer),
         clash,
         stabilizer,
     }

@@ -2,7 +2,7 @@
 ghost use Rattle.std.specs.Prelude.{◌≡◌, IfSome, ◌+◌, ◌-◌, ◌*◌, ◌<◌, ◌≤◌, map, length};
 ghost use Rattle.pauli.specs.Condense.{list_of};
 ghost use Rattle.pauli.specs.Pauli.{normal};
-ghost use Rattle.pauli.specs.Signed.{held, list_in};
+ghost use Rattle.pauli.specs.Signed.{held, list_in, paulis_in};
 ghost use Rattle.pauli.specs.Told.{answer};
 ghost use Rattle.pauli.specs.Writing.{told_bytes, left_in};
 ghost use Rattle.pauli_theory.specs.Symplectic.{position, times_if as times_if_spec, cleared as cleared_by, symplectic_form};
@@ -14,7 +14,7 @@ ghost use Rattle.pauli_group.specs.Inner.Lists.{found};
 ghost use Rattle.pauli_group.specs.Inner.Pairs.{PairedTo};
 ghost use Rattle.pauli.specs.Refusals.{told_of};
 
-use crate::area::{FURTHER, LIST, STANDARD, WORK_WORDS};
+use crate::area::{FURTHER, LIST, STANDARD, Span, WORK_WORDS, area_of};
 use crate::checks::check_list;
 use crate::list::read_list;
 use binar::row::clear_bits;
@@ -33,18 +33,13 @@ pub(crate) struct Pairing {
     pub commuting: usize,
 }
 
-// The number of the first of the n Paulis from word base on that anticommutes with x.
-fn first_anticommuting(w: &[u64], base: usize, n: usize, x: Pauli) -> Option<usize>
-    requires { base + 5 * n ≤ length w.now }
-    ensures position { found result ≡ position (held x) 0 (list_in w.now base n) }
-    ensures below { IfSome result (λ k. k < n) }
+// The number of the first Pauli of a list that anticommutes with x.
+fn first_anticommuting(list: &[[u64; 5]], x: Pauli) -> Option<usize>
+    ensures position { found result ≡ position (held x) 0 (paulis_in list.now) }
+    ensures below { IfSome result (λ k. k < length list.now) }
 {
-    for i in 0..n {
-        if x.anticommutes(load(w, base + 5 * i)) {
-            return Some(i);
-        }
-    }
-    None
+    list.iter()
+        .position(|words| x.anticommutes(Pauli::from_words(words)))
 }
 
 // g times q, if g anticommutes with p.
@@ -57,31 +52,32 @@ fn times_if(p: Pauli, q: Pauli, g: Pauli) -> Pauli
     g
 }
 
-// Makes the n Paulis from word base on commute with x and z, a pair that anticommutes: those from number k on may anticommute with
-// both, those before it only with z.
-fn clear_pair(w: &mut [u64], base: usize, n: usize, k: usize, x: Pauli, z: Pauli)
-    requires { (base + 5 * n ≤ length w.old) × (k ≤ n) }
-    ensures list { list_in w.new base n ≡ map normal (cleared_by k (held x) (held z) (list_in w.old base n)) }
-    ensures rest { Outside base (5 * n) w.old w.new }
+// Makes the Paulis of a list commute with x and z, a pair that anticommutes: those from number k on may anticommute with both, those
+// before it only with z.
+fn clear_pair(w: &mut [u64; WORK_WORDS], list: Span, k: usize, x: Pauli, z: Pauli)
+    requires { k ≤ list.count }
+    ensures list { list_in w.new list.base list.count ≡ map normal (cleared_by k (held x) (held z) (list_in w.old list.base list.count)) }
+    ensures rest { Outside list.base (5 * list.count) w.old w.new }
 {
-    for i in 0..n {
-        let mut g = load(w, base + 5 * i);
+    for i in 0..list.count {
+        let mut g = load(w, list.base + 5 * i);
         if i >= k {
             g = times_if(x, z, g);
         }
-        store(w, base + 5 * i, times_if(z, x, g));
+        store(w, list.base + 5 * i, times_if(z, x, g));
     }
 }
 
 // Takes the last Pauli of the list out: with the first one that anticommutes with it, as a pair of conjugate elements, or alone, as a
 // commuting one.
-fn pair_last(w: &mut [u64], p: Pairing) -> Pairing
-    requires { (length w.old ≡ 4096) × (0 < p.left) × (p.left + p.conjugate + p.commuting ≤ 128) }
+fn pair_last(w: &mut [u64; WORK_WORDS], p: Pairing) -> Pairing
+    requires { (0 < p.left) × (p.left + p.conjugate + p.commuting ≤ 128) }
     ensures { PairedTo w.old p w.new result }
 {
     let m = p.left - 1;
+    let others = Span::at(LIST, m);
     let x = load(w, LIST + 5 * m);
-    let k = match first_anticommuting(w, LIST, m, x) {
+    let k = match first_anticommuting(others.paulis(w), x) {
         Some(k) => k,
         None => {
             store(w, FURTHER + 5 * p.commuting, x);
@@ -93,8 +89,10 @@ fn pair_last(w: &mut [u64], p: Pairing) -> Pairing
         }
     };
     let z = load(w, LIST + 5 * k);
-    store(w, LIST + 5 * k, load(w, LIST + 5 * (m - 1)));
-    clear_pair(w, LIST, m - 1, k, x, z);
+    let last = load(w, LIST + 5 * (m - 1));
+    store(w, LIST + 5 * k, last);
+    let rest = Span::at(LIST, m - 1);
+    clear_pair(w, rest, k, x, z);
     store(w, STANDARD + 5 * p.conjugate, x);
     store(w, STANDARD + 5 * (p.conjugate + 1), z);
     Pairing {
@@ -104,20 +102,21 @@ fn pair_last(w: &mut [u64], p: Pairing) -> Pairing
     }
 }
 
-// Copies the n Paulis from word from on to word to, each by its value: a copy of the words would keep their exponents as they stand.
-fn copy_list(w: &mut [u64], from: usize, n: usize, to: usize)
-    requires { (to + 5 * n ≤ from) × (from + 5 * n ≤ length w.old) }
-    ensures list { list_in w.new to n ≡ map normal (list_in w.old from n) }
-    ensures rest { Outside to (5 * n) w.old w.new }
+// Copies the Paulis of a list to word to, each by its value: a copy of the words would keep their exponents as they stand.
+fn copy_list(w: &mut [u64; WORK_WORDS], from: Span, to: usize)
+    requires { to + 5 * from.count ≤ from.base }
+    ensures list { list_in w.new to from.count ≡ map normal (list_in w.old from.base from.count) }
+    ensures rest { Outside to (5 * from.count) w.old w.new }
 {
-    for i in 0..n {
-        store(w, to + 5 * i, load(w, from + 5 * i));
+    for i in 0..from.count {
+        let p = load(w, from.base + 5 * i);
+        store(w, to + 5 * i, p);
     }
 }
 
 // Pairs the n Paulis of the list; the result stands at the standard generators' place.
-fn pair_up(w: &mut [u64], n: usize)
-    requires { (length w.old ≡ 4096) × (n ≤ 128) }
+fn pair_up(w: &mut [u64; WORK_WORDS], n: usize)
+    requires { n ≤ 128 }
     ensures { list_in w.new standard_at n ≡ map normal (symplectic_form (list_in w.old list_at n)) }
 {
     let mut p = Pairing {
@@ -128,12 +127,12 @@ fn pair_up(w: &mut [u64], n: usize)
     while p.left > 0 {
         p = pair_last(w, p);
     }
-    copy_list(w, FURTHER, p.commuting, STANDARD + 5 * p.conjugate);
+    let commuting = Span::at(FURTHER, p.commuting);
+    copy_list(w, commuting, STANDARD + 5 * p.conjugate);
 }
 
 // Writes the paired list of a roll, and clears the work area.
-fn write_symplectic(roll: Roll, w: &mut [u64], out: &mut [u8]) -> Result<usize, Refusal>
-    requires { length w.old ≡ 4096 }
+fn write_symplectic(roll: Roll, w: &mut [u64; WORK_WORDS], out: &mut [u8]) -> Result<usize, Refusal>
     ensures told { told_of result ≡ told_bytes (answer (symplectic_bytes (paulis (list_of roll.entry.bytes.now)))) out.old }
     ensures left { out.new ≡ left_in (answer (symplectic_bytes (paulis (list_of roll.entry.bytes.now)))) out.old }
     ensures area { w.new ≡ cleared w.old }
@@ -143,7 +142,8 @@ fn write_symplectic(roll: Roll, w: &mut [u64], out: &mut [u8]) -> Result<usize, 
     let qubits = known.qubits();
     read_list(roll, qubits, w, LIST);
     pair_up(w, roll.count);
-    let wrote = write_roll(w, STANDARD, roll.count, qubits, out);
+    let paired = Span::at(STANDARD, roll.count);
+    let wrote = write_roll(paired.paulis(w), qubits, out);
     clear_bits(w, 0, WORK_WORDS);
     wrote
 }
@@ -153,5 +153,5 @@ pub fn symplectic_form_of(b: &[u8], work: &mut [u64], out: &mut [u8]) -> Result<
     ensures { SymplecticCall b.now work.old out.old result work.new out.new }
 {
     let roll = check_list(b, work.len())?;
-    write_symplectic(roll, &mut work[..WORK_WORDS], out)
+    write_symplectic(roll, area_of(work), out)
 }

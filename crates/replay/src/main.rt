@@ -10,7 +10,7 @@ ghost use Rattle.std.specs.Prelude.{◌≤◌, IfOk, length};
 
 use crate::runs::{run_group, run_rolls};
 use pauli::bytes::u32_at;
-use pauli_group::promise::Promise;
+use pauli_group::promise::{Promise, Promises};
 use std::io;
 use std::io::{Read, Write};
 
@@ -77,8 +77,10 @@ fn run<'a, W: Write>(
         a,
         u32_at(request, 4),
         u32_at(request, 8),
-        Promise::from(u64::from(request[1])),
-        Promise::from(u64::from(request[2])),
+        Promises {
+            left: Promise::from(u64::from(request[1])),
+            right: Promise::from(u64::from(request[2])),
+        },
         first,
         second,
         work,

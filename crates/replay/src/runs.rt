@@ -17,7 +17,7 @@ use pauli_group::factorization::indexed_factorization_of;
 use pauli_group::listing::elements;
 use pauli_group::modulo::modulo;
 use pauli_group::order::partial_cmp;
-use pauli_group::promise::Promise;
+use pauli_group::promise::{Promise, Promises};
 use pauli_group::quotient::try_quotient;
 use pauli_group::symplectic::symplectic_form_of;
 use std::io;
@@ -94,17 +94,16 @@ fn run_written<W: Write>(
 fn run_two<W: Write>(
     to: &mut W,
     op: u8,
-    p: Promise,
-    q: Promise,
+    promises: Promises,
     first: &[u8],
     second: &[u8],
     work: &mut [u64],
     out: &mut [u8],
 ) -> io::Result<usize> {
     let wrote = match op {
-        15 => modulo(first, second, p, q, work, out),
-        16 => try_quotient(first, second, p, q, work, out),
-        _ => bitand(first, second, p, q, work, out),
+        15 => modulo(first, second, promises, work, out),
+        16 => try_quotient(first, second, promises, work, out),
+        _ => bitand(first, second, promises, work, out),
     };
     print_wrote(to, wrote)
 }
@@ -121,8 +120,7 @@ pub(crate) fn run_group<W: Write>(
     a: usize,
     start: u32,
     count: u32,
-    p: Promise,
-    q: Promise,
+    promises: Promises,
     first: &[u8],
     second: &[u8],
     work: &mut [u64],
@@ -130,18 +128,18 @@ pub(crate) fn run_group<W: Write>(
     f: u8,
 ) -> io::Result<bool> {
     if writes_one(op) {
-        let n = run_written(to, op, start, count, p, first, work, out)?;
+        let n = run_written(to, op, start, count, promises.left, first, work, out)?;
         end_work_line(to, out, n, work, f)?;
         return Ok(true);
     }
     match op {
         0..=6 => {
-            run_list(to, op, first, p, work)?;
+            run_list(to, op, first, promises.left, work)?;
             end_work_line(to, out, 0, work, f)?;
         }
-        7 => run_member(to, first, second, a, p, work, out, f)?,
+        7 => run_member(to, first, second, a, promises.left, work, out, f)?,
         14 => {
-            print_compared(to, partial_cmp(first, second, p, q, work))?;
+            print_compared(to, partial_cmp(first, second, promises, work))?;
             end_work_line(to, out, 0, work, f)?;
         }
         18 => {
@@ -149,7 +147,7 @@ pub(crate) fn run_group<W: Write>(
             end_line(to, out, n, f)?;
         }
         8..=17 => {
-            let n = run_two(to, op, p, q, first, second, work, out)?;
+            let n = run_two(to, op, promises, first, second, work, out)?;
             end_work_line(to, out, n, work, f)?;
         }
         _ => return Ok(false),
