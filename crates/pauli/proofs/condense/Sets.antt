@@ -88,6 +88,19 @@ members_set qs h =
     rising_ext 0 0 (members (set_of qs)) qs (members_rise (set_of qs)) h
     (λ q m. set_only qs q (members_only (set_of qs) q m)) (λ q m. members_has (set_of qs) q (set_has qs q m))
 
+members_above : (m p : ℕ) → members (m * 2 ^ p) ≡ members_from m p m
+members_above m p =
+    ap members (sym (set_members_from m p m (le_refl m))) ∙ members_set (members_from m p m) (rising_from 0 p _ (omega arith) (members_from_rises m p m))
+
+-- the members of a number whose lowest digit is of weight 2^p
+pub members_lowest : (m p : ℕ) → members ((1 + 2 * m) * 2 ^ p) ≡ p ∷ members (2 * m * 2 ^ p)
+unfolding set_of cons_if
+members_lowest m p =
+    let more = members_from m (suc p) m in
+    let all = set_cons_if 1 p m more (omega arith) (set_members_from m (suc p) m (le_refl m)) in
+    let rest : 2 * m * 2 ^ p ≡ m * 2 ^ suc p = omega (arith, digits_from 0 m p) in
+    ap members (sym all) ∙ members_set (p ∷ more) (omega arith, members_from_rises m (suc p) m) ∙ ap (p ∷◌) (sym (members_above m (suc p)) ∙ ap members (sym rest))
+
 count_members_from : (n q v : ℕ) → v ≤ n → length (members_from n q v) ≡ ones v
 unfolding members_from
 count_members_from zero q zero h = sym ones_zero

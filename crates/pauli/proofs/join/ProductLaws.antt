@@ -12,7 +12,7 @@ use Rattle.pauli.specs.Support.{most_qubits}
 use Rattle.pauli.specs.RollTheorems.{AllowedSet}
 use Rattle.pauli.specs.declared.signed.Pauli.{Pauli as Held}
 use Rattle.pauli.specs.Pauli.{Pauli, times, normal}
-use Rattle.pauli.specs.Signed.{held, pauli_in, pauli_words, list_in}
+use Rattle.pauli.specs.Signed.{held, pauli_in, pauli_words, paulis_in}
 use Rattle.pauli.specs.PlaceSet.{set_in}
 use Rattle.pauli.specs.Sets.{pauli_of, sparse_of}
 use Rattle.pauli.specs.PauliTheorems.{PauliOn}
@@ -115,22 +115,22 @@ readable b n a i h ps inside =
 
 -- ---- a product over places, as it is stored and written
 
-stored : (m : Held) (w : List ℕ) → w ≡ sets (0 ∷ 0 ∷ 0 ∷ 0 ∷ 0 ∷ []) 0 (pauli_words m) → list_in w 0 1 ≡ normal (held m) ∷ []
-unfolding list_in pauli_in pauli_words held set_in normal
+stored : (m : Held) (w : List ℕ) → w ≡ sets (0 ∷ 0 ∷ 0 ∷ 0 ∷ 0 ∷ []) 0 (pauli_words m) → paulis_in (w ∷ []) ≡ normal (held m) ∷ []
+unfolding paulis_in pauli_in pauli_words held set_in normal
 stored m w e = rw e refl
 
 module _ (qs : List ℕ) (ps : List Sparse) (i : ℕ) (rs : List Sparse) (j : ℕ) (p q m : Held) (w : List ℕ)
     (hp : held p ≡ condensed qs (pauli_of (get_or ps i nothing))) (hq : held q ≡ condensed qs (pauli_of (get_or rs j nothing)))
     (hm : normal (held m) ≡ times (held p) (held q)) (hw : w ≡ sets (0 ∷ 0 ∷ 0 ∷ 0 ∷ 0 ∷ []) 0 (pauli_words m)) where
-  written_list : list_in w 0 1 ≡ product_over qs ps i rs j ∷ []
+  written_list : paulis_in (w ∷ []) ≡ product_over qs ps i rs j ∷ []
   unfolding product_over
   written_list = stored m w hw ∙ ap (λ (u : Pauli). u ∷ []) (hm ∙ ap₂ times hp hq)
 
-  pub written_roll : roll_over qs (list_in w 0 1) ≡ product_bytes qs ps i rs j
+  pub written_roll : roll_over qs (paulis_in (w ∷ [])) ≡ product_bytes qs ps i rs j
   unfolding product_bytes
   written_roll = ap (roll_over qs) written_list
 
-  pub written_places : (n : ℕ) → length qs ≡ n → OnPlaces n (list_in w 0 1)
+  pub written_places : (n : ℕ) → length qs ≡ n → OnPlaces n (paulis_in (w ∷ []))
   unfolding OnPlaces product_over times condensed
   written_places n e =
       let P = pauli_of (get_or ps i nothing) in

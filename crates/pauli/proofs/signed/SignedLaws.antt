@@ -1,14 +1,16 @@
 -- Laws of signed Paulis as the code holds them: exponents that wrap, and lists of Paulis in words.
-use Rattle.std.proofs.Common.{◌≡◌, ℕ, zero, suc, ◌+◌, ◌-◌, ◌*◌, ◌/◌, ◌%◌, ◌^◌, ◌<◌, ◌≤◌, false, eqb, List, [], ◌∷◌, set, sym, refl, ap, ◌∙◌, ap₂, add-one, arith, shr-shr, ne_eqb}
+use Rattle.std.proofs.Common.{◌≡◌, ℕ, zero, suc, ◌+◌, ◌*◌, ◌/◌, ◌%◌, ◌^◌, ◌<◌, ◌≤◌, false, eqb, List, [], ◌∷◌, set, sym, refl, ap, ◌∙◌, ap₂, add-zero, add-one, arith, drop-drop, length-drop, length-take-le, length, get_or, take, drop, ne_eqb}
 use native.Mathlib.Nat.{add-mod}
-use native.Mathlib.Decide.{dec_lt}
 use lib.Pow.{mod-mod-pow}
 use lib.Seq.{sets}
-use Rattle.binar.specs.Row.{bit}
-use Rattle.pauli.specs.Pauli.{Pauli, I, normal, times, product_from, product, cons_if, select, indexed_product}
-use Rattle.pauli.specs.Signed.{pauli_in, list_in}
-use Rattle.pauli.proofs.signed.Algebra.{times_normal_l}
-use Rattle.pauli.proofs.places.Firsts.{First, skip}
+use Rattle.pauli.specs.Pauli.{Pauli, I, normal, times, product_from, product, select, indexed_product}
+use Rattle.pauli.specs.Signed.{pauli_in, list_in, paulis_in}
+use Rattle.pauli.proofs.signed.Algebra.{times_normal_l, times_normal_r, normal_times}
+use Rattle.pauli.proofs.places.Members.{at_indexes, at_hit, at_past, select_members}
+use Rattle.pauli.specs.Sets.{members}
+use Rattle.std.specs.Simd.{first_chunks}
+use Rattle.std.specs.Prelude.{slice_index}
+use Rattle.std.proofs.lemmas.List.{get_or-take, get_or-drop, drop-take}
 use Rattle.pauli.proofs.signed.Products.{product_normal}
 
 -- ---- exponents
@@ -39,58 +41,79 @@ five l i a b c d e =
     let four : i + 4 ≡ suc (suc (suc (suc i))) = omega arith in
     rw (add-one i, two, three, four)
 
--- ---- the product of a list by its indexes
-
 pub zero_bit : (b : ℕ) → b < 2 → (b ≡ 1 → ⊥) → b ≡ 0
 zero_bit zero h n = refl
 zero_bit (suc b) h n = absurd (n (omega arith))
+
+-- ---- lists of Paulis
+
+pub length_paulis : (ls : List (List ℕ)) → length (paulis_in ls) ≡ length ls
+unfolding paulis_in
+length_paulis [] = refl
+length_paulis (l ∷ ls) = ap suc (length_paulis ls)
+
+pauli_at : (ls : List (List ℕ)) (i : ℕ) (d : List ℕ) → i < length ls → get_or (paulis_in ls) i I ≡ pauli_in (get_or ls i d) 0
+unfolding paulis_in
+pauli_at [] i d h = absurd (omega arith)
+pauli_at (l ∷ ls) zero d h = refl
+pauli_at (l ∷ ls) (suc i) d h = pauli_at ls i d (omega arith)
+
+-- five words that stand from word i of w on
+pub pauli_shifted : (w l : List ℕ) (i : ℕ) → ((k : ℕ) → k < 5 → slice_index l k ≡ slice_index w (i + k)) → pauli_in l 0 ≡ pauli_in w i
+unfolding pauli_in
+pauli_shifted w l i same =
+    let e : slice_index l 0 ≡ slice_index w i = same 0 (omega arith) ∙ ap (slice_index w) (add-zero i) in
+    rw (e, same 1 (omega arith), same 2 (omega arith), same 3 (omega arith), same 4 (omega arith)) refl
+
+-- the first five of n fives from word i of w on
+pub five_first : (w : List ℕ) (i m k : ℕ) → 5 ≤ m → k < 5 → slice_index (take 5 (take m (drop i w))) k ≡ slice_index w (i + k)
+five_first w i m k h l = get_or-take 5 _ k 0 l ∙ get_or-take m (drop i w) k 0 (omega arith) ∙ get_or-drop i w k 0
+
+five_rest : (w : List ℕ) (i m k : ℕ) → m ≡ 5 + k → drop 5 (take m (drop i w)) ≡ take k (drop (i + 5) w)
+five_rest w i m k e = ap (λ (j : ℕ). drop 5 (take j (drop i w))) e ∙ drop-take 5 k (drop i w) ∙ ap (take k) (drop-drop 5 i w)
+
+chunk_lists : (w : List ℕ) (i n m : ℕ) → m ≡ 5 * n → paulis_in (first_chunks 5 n (take m (drop i w))) ≡ list_in w i n
+unfolding paulis_in list_in
+chunk_lists w i zero m e = refl
+chunk_lists w i (suc n) m e =
+    ap₂ ◌∷◌ (pauli_shifted w _ i (λ k l. five_first w i m k (omega arith) l))
+    (ap (λ (l : List ℕ). paulis_in (first_chunks 5 n l)) (five_rest w i m (5 * n) (omega arith)) ∙ chunk_lists w (i + 5) n (5 * n) refl)
+
+pub count_fives : (w : List ℕ) (i n m : ℕ) → i + m ≤ length w → m ≡ 5 * n → length (take m (drop i w)) / 5 ≡ n
+count_fives w i n m h e = let l : length (take m (drop i w)) ≡ m = length-take-le m (drop i w) (rw (length-drop i w) (omega arith)) in omega (arith, l)
+
+pub chunk_paulis : (w : List ℕ) (i n m k : ℕ) → m ≡ 5 * n → k ≡ n → paulis_in (first_chunks 5 k (take m (drop i w))) ≡ list_in w i n
+chunk_paulis w i n m k e f = ap (λ (j : ℕ). paulis_in (first_chunks 5 j (take m (drop i w)))) f ∙ chunk_lists w i n m e
+
+-- ---- the product of a list by its indexes
 
 pub from_same : (p q : Pauli) (gs : List Pauli) → normal p ≡ normal q → normal (product_from p gs) ≡ normal (product_from q gs)
 unfolding product_from
 from_same p q [] e = e
 from_same p q (g ∷ gs) e = ap (λ (r : Pauli). normal (product_from r gs)) (sym (times_normal_l p g) ∙ ap (λ (r : Pauli). times r g) e ∙ times_normal_l q g)
 
--- p times the Paulis from number i on whose numbers are in the set s
-unfoldable pub product_left : List ℕ → ℕ → ℕ → ℕ → ℕ → Pauli → Pauli
-product_left w s base n i p = normal (product_from p (select (s / 2 ^ i) (list_in w (base + 5 * i) (n - i))))
+-- p times the Paulis of the list at these indexes
+unfoldable pub product_at : List (List ℕ) → List ℕ → Pauli → Pauli
+product_at ls is p = normal (product_from p (at_indexes is (paulis_in ls)))
 
-module _ (w : List ℕ) (s base n : ℕ) where
-  pub left_start : indexed_product s (list_in w base n) ≡ product_left w s base n 0 I
-  unfolding product_left indexed_product product
-  left_start =
-      let one : s / 2 ^ 0 ≡ s = omega arith in
-      let here : base + 5 * 0 ≡ base = omega arith in
-      let all : n - 0 ≡ n = omega arith in
-      rw (one, here, all) (sym (product_normal (select s (list_in w base n))))
+module _ (ls : List (List ℕ)) where
+  pub product_start : (s : ℕ) → indexed_product s (paulis_in ls) ≡ product_at ls (members s) I
+  unfolding product_at indexed_product product
+  product_start s = sym (product_normal (select s (paulis_in ls))) ∙ ap (λ (gs : List Pauli). normal (product_from I gs)) (select_members (paulis_in ls) s)
 
-  module _ (i : ℕ) where
-    pub left_same : (p q : Pauli) → normal p ≡ normal q → product_left w s base n i p ≡ product_left w s base n i q
-    unfolding product_left
-    left_same p q e = from_same p q (select (s / 2 ^ i) (list_in w (base + 5 * i) (n - i))) e
+  pub product_end : (p : Pauli) → product_at ls [] p ≡ normal p
+  unfolding product_at at_indexes product_from
+  product_end p = refl
 
-    pub left_end : (p : Pauli) → n ≤ i → product_left w s base n i p ≡ normal p
-    unfolding product_left list_in select product_from
-    left_end p h = let e : n - i ≡ 0 = omega arith in rw e
+  module _ (i : ℕ) (is : List ℕ) (p : Pauli) where
+    pub product_past : length ls ≤ i → product_at ls (i ∷ is) p ≡ product_at ls is p
+    unfolding product_at
+    product_past h = ap (λ (gs : List Pauli). normal (product_from p gs)) (at_past (paulis_in ls) i is (rw length_paulis h))
 
-    module _ (p : Pauli) (h : i < n) where
-      next : product_left w s base n i p ≡ normal (product_from p (cons_if (bit s i) (pauli_in w (base + 5 * i)) (select (s / 2 ^ (i + 1)) (list_in w (base + 5 * (i + 1)) (n - (i + 1))))))
-      unfolding product_left list_in select bit
-      next =
-          let e : n - i ≡ suc (n - (i + 1)) = omega arith in
-          let five : base + 5 * i + 5 ≡ base + 5 * (i + 1) = omega arith in
-          rw (e, five, shr-shr s i 1)
-
-      pub left_hit : bit s i ≡ 1 → product_left w s base n i p ≡ product_left w s base n (i + 1) (times p (pauli_in w (base + 5 * i)))
-      unfolding product_left cons_if product_from
-      left_hit o = next ∙ ap (λ (d : ℕ). normal (product_from p (cons_if d (pauli_in w (base + 5 * i)) (select (s / 2 ^ (i + 1)) (list_in w (base + 5 * (i + 1)) (n - (i + 1))))))) o
-
-  left_miss : (p : Pauli) (i : ℕ) → bit s i ≡ 0 → product_left w s base n i p ≡ product_left w s base n (i + 1) p
-  unfolding product_left cons_if
-  left_miss p i z =
-      elim (dec_lt i n) [
-        | yes h ↦ next i p h ∙ ap (λ (d : ℕ). normal (product_from p (cons_if d (pauli_in w (base + 5 * i)) (select (s / 2 ^ (i + 1)) (list_in w (base + 5 * (i + 1)) (n - (i + 1))))))) z
-        | no k ↦ left_end i p (omega arith) ∙ sym (left_end (i + 1) p (omega arith))
-      ]
-
-  pub left_skip : {m i k : ℕ} (p : Pauli) → First m s i k → product_left w s base n i p ≡ product_left w s base n k p
-  left_skip p f = skip (λ j. product_left w s base n j p) f (left_miss p)
+    -- r is the product with the Pauli g at index i, whose words are l
+    pub product_hit : i < length ls → (l : List ℕ) (g r : Pauli) → l ≡ get_or ls i l → normal g ≡ normal (pauli_in l 0) → normal r ≡ times p g → product_at ls (i ∷ is) p ≡ product_at ls is r
+    unfolding product_at product_from
+    product_hit h l g r at e f =
+        ap (λ (gs : List Pauli). normal (product_from p gs)) (at_hit (paulis_in ls) i is I (rw length_paulis h))
+        ∙ from_same (times p (get_or (paulis_in ls) i I)) r (at_indexes is (paulis_in ls))
+        (normal_times _ _ ∙ ap (times p) (pauli_at ls i l h ∙ ap (λ (ws : List ℕ). pauli_in ws 0) (sym at)) ∙ sym (times_normal_r _ _) ∙ ap (times p) (sym e) ∙ times_normal_r _ _ ∙ sym f)

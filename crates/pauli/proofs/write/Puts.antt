@@ -9,6 +9,8 @@ use Rattle.pauli.specs.Pauli.{cons_if, select}
 use Rattle.pauli.specs.Writing.{put_bytes, entry_bytes}
 use Rattle.pauli.proofs.roll.BytesLaws.{length_le32, length_le32s}
 use Rattle.pauli.proofs.places.Firsts.{First, skip}
+use Rattle.pauli.specs.Sets.{members}
+use Rattle.pauli.proofs.places.Members.{at_indexes, at_hit, at_past, select_members}
 
 pub put_nothing : (out : List ℕ) (i : ℕ) → put_bytes out i [] ≡ out
 unfolding put_bytes
@@ -158,27 +160,32 @@ module _ {first : List ℕ} {start : ℕ} {whole out : List ℕ} {next : ℕ} {r
       end = omega (arith, counted, r.end);
     }
 
--- the numbers of a set of places are being written, and those of the places from p on are left
-module _ {first : List ℕ} {start : ℕ} {out : List ℕ} {next : ℕ} (s : ℕ) (support : List ℕ) (p : ℕ)
-    (r : Left first start (le32s (select s support)) out next (le32s (chosen_from s support p))) where
-  pub set_done : length support ≤ p → (out ≡ put_bytes first start (le32s (select s support))) × (next ≡ start + 4 * length (select s support))
-  unfolding le32s
+-- the numbers of a set of places are being written, and those of the places `left` are left
+pub set_start : (first : List ℕ) (start s : ℕ) (support : List ℕ) → start + 4 * length (select s support) ≤ length first
+    → Left first start (le32s (select s support)) first start (le32s (at_indexes (members s) support))
+set_start first start s support h = left_start first start _ _ (ap le32s (select_members support s)) (rw length_le32s h)
+
+module _ {first : List ℕ} {start : ℕ} {out : List ℕ} {next : ℕ} (s : ℕ) (support left : List ℕ)
+    (r : Left first start (le32s (select s support)) out next (le32s (at_indexes left support))) where
+  pub set_done : left ≡ [] → (out ≡ put_bytes first start (le32s (select s support))) × (next ≡ start + 4 * length (select s support))
+  unfolding le32s at_indexes
   set_done h =
-      let e = left_done r (ap le32s (chosen_end s support p h)) in
+      let e = left_done r (ap (λ (is : List ℕ). le32s (at_indexes is support)) h) in
       (e.0, e.1 ∙ ap (start +◌) (length_le32s (select s support)))
 
-  pub set_skip : {n k : ℕ} → First n s p k → Left first start (le32s (select s support)) out next (le32s (chosen_from s support k))
-  set_skip f = left_same r _ (ap le32s (chosen_skip s support f))
+  -- the next place is p
+  module _ (p : ℕ) (more : List ℕ) (e : left ≡ p ∷ more) where
+    pub set_past : length support ≤ p → Left first start (le32s (select s support)) out next (le32s (at_indexes more support))
+    set_past h = left_same r _ (ap (λ (is : List ℕ). le32s (at_indexes is support)) e ∙ ap le32s (at_past support p more h))
 
-  module _ (h : p < length support) (o : bit s p ≡ 1) where
-    number : le32s (chosen_from s support p) ≡ le32 (get_or support p 0) ++ le32s (chosen_from s support (p + 1))
-    unfolding le32s
-    number =
-        ap le32s (chosen_hit s support p h o)
+    module _ (h : p < length support) where
+      number : le32s (at_indexes left support) ≡ le32 (get_or support p 0) ++ le32s (at_indexes more support)
+      unfolding le32s
+      number = ap (λ (is : List ℕ). le32s (at_indexes is support)) e ∙ ap le32s (at_hit support p more 0 h)
 
-    pub set_room : next + 4 ≤ length out
-    set_room = left_room r (le32 (get_or support p 0)) _ 4 number (length_le32 (get_or support p 0))
+      pub set_room : next + 4 ≤ length out
+      set_room = left_room r (le32 (get_or support p 0)) _ 4 number (length_le32 (get_or support p 0))
 
-    pub set_hit : (u : List ℕ) → u ≡ put_bytes out next (le32 (get_or support p 0)) → length u ≡ length out
-        → Left first start (le32s (select s support)) u (next + 4) (le32s (chosen_from s support (p + 1)))
-    set_hit = left_step r (le32 (get_or support p 0)) _ 4 number (length_le32 (get_or support p 0))
+      pub set_hit : (u : List ℕ) → u ≡ put_bytes out next (le32 (get_or support p 0)) → length u ≡ length out
+          → Left first start (le32s (select s support)) u (next + 4) (le32s (at_indexes more support))
+      set_hit = left_step r (le32 (get_or support p 0)) _ 4 number (length_le32 (get_or support p 0))

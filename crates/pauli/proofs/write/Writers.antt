@@ -1,5 +1,5 @@
--- Laws of the writer of rolls: Paulis in words, taken one by one.
-use Rattle.std.proofs.Common.{◌≡◌, ℕ, zero, suc, ◌+◌, ◌-◌, ◌*◌, ◌/◌, ◌%◌, ◌^◌, ◌<◌, ◌≤◌, List, [], ◌∷◌, ◌++◌, map, length, sym, refl, ap, ◌∙◌, subst, ap₂, append_assoc, zero-add, arith, length-append, le-ltb, lt-ltb}
+-- Laws of the writer of rolls: the Paulis of a list, taken one by one.
+use Rattle.std.proofs.Common.{◌≡◌, ℕ, zero, suc, ◌+◌, ◌-◌, ◌*◌, ◌/◌, ◌%◌, ◌^◌, ◌<◌, ◌≤◌, List, [], ◌∷◌, ◌++◌, map, length, get_or, drop, sym, refl, ap, ◌∙◌, subst, ap₂, append_assoc, zero-add, add-one, arith, drop-cons, drop_of_length-le, length-append, le-ltb, lt-ltb}
 use lib.Count.{ones, ones_step}
 use lib.ListN.{length-map}
 use Rattle.binar.specs.Row.{weight}
@@ -8,11 +8,12 @@ use Rattle.pauli.specs.declared.signed.Pauli.{Pauli as Held}
 use Rattle.pauli.specs.Bytes.{le16, le32, le32s}
 use Rattle.pauli.specs.Roll.{numbers, entry, table, bodies, encode}
 use Rattle.pauli.specs.Pauli.{Pauli, normal, cons_if, select}
-use Rattle.pauli.specs.Signed.{held, pauli_in, list_in}
+use Rattle.pauli.specs.Signed.{held, pauli_in, list_in, paulis_in}
 use Rattle.pauli.specs.PlaceSet.{set_in}
 use Rattle.pauli.specs.Told.{answer, refused, refuse_if}
 use Rattle.pauli.specs.Writing.{put_bytes, entry_bytes, numbers_of, table_of, sparse_over, OnPlaces, roll_over, told_bytes, left_in}
 use Rattle.pauli.proofs.roll.BytesLaws.{length_le32s, le32s_append}
+use Rattle.pauli.proofs.signed.SignedLaws.{length_paulis}
 use Rattle.pauli.proofs.write.Puts.{put_append, Left, left_step, left_room}
 
 -- ---- a Pauli that was loaded
@@ -26,7 +27,7 @@ pub loaded : (r : Held) (p : Pauli) → normal (held r) ≡ normal p → Loaded 
 unfolding normal held
 loaded r p h = record { e = ap (λ (q : Pauli). q.e) h; x = ap (λ (q : Pauli). q.x) h; z = ap (λ (q : Pauli). q.z) h }
 
--- ---- the Paulis from number i on
+-- ---- the Paulis of words, from number i on
 
 unfoldable pub list_from : List ℕ → ℕ → ℕ → ℕ → List Pauli
 list_from w base n i = list_in w (base + 5 * i) (n - i)
@@ -50,21 +51,44 @@ module _ (w : List ℕ) (base n : ℕ) where
   unfolding list_from list_in
   list_end i h = let e : n - i ≡ 0 = omega arith in rw e
 
+pub length_list : (w : List ℕ) (base n : ℕ) → length (list_in w base n) ≡ n
+unfolding list_in
+length_list w base zero = refl
+length_list w base (suc n) = ap suc (length_list w (base + 5) n)
+
+-- ---- the Paulis of a list from number i on
+
+unfoldable pub paulis_from : List (List ℕ) → ℕ → List Pauli
+paulis_from ls i = paulis_in (drop i ls)
+
+module _ (ls : List (List ℕ)) where
+  pub paulis_start : paulis_in ls ≡ paulis_from ls 0
+  unfolding paulis_from
+  paulis_start = refl
+
+  pub paulis_next : (i : ℕ) → i < length ls → paulis_from ls i ≡ pauli_in (get_or ls i []) 0 ∷ paulis_from ls (i + 1)
+  unfolding paulis_from paulis_in
+  paulis_next i h = rw (drop-cons ls i [] h, add-one i) refl
+
+  pub paulis_end : (i : ℕ) → length ls ≤ i → paulis_from ls i ≡ []
+  unfolding paulis_from paulis_in
+  paulis_end i h = ap paulis_in (drop_of_length-le ls h)
+
   -- ---- how many numbers
 
-  pub numbers_start : numbers_of (list_in w base n) ≡ 0 + numbers_of (list_from w base n 0)
-  numbers_start = ap numbers_of list_start ∙ omega arith
+  pub numbers_start : numbers_of (paulis_in ls) ≡ 0 + numbers_of (paulis_from ls 0)
+  numbers_start = ap numbers_of paulis_start ∙ omega arith
 
-  pub numbers_step : (i : ℕ) → i < n → (r : Held) → Loaded r (pauli_in w (base + 5 * i)) → (a b t : ℕ) → a ≡ weight (set_in r.x) → b ≡ weight (set_in r.z)
-      → t + numbers_of (list_from w base n i) ≡ t + (a + b) + numbers_of (list_from w base n (i + 1))
+  pub numbers_step : (i : ℕ) → i < length ls → (r : Held) → Loaded r (pauli_in (get_or ls i []) 0) → (a b t : ℕ) → a ≡ weight (set_in r.x) → b ≡ weight (set_in r.z)
+      → t + numbers_of (paulis_from ls i) ≡ t + (a + b) + numbers_of (paulis_from ls (i + 1))
   unfolding numbers_of
   numbers_step i h r f a b t p q =
-      ap (λ (l : List Pauli). t + numbers_of l) (list_next i h)
+      ap (λ (l : List Pauli). t + numbers_of l) (paulis_next i h)
       ∙ omega (arith, p ∙ ap weight f.x, q ∙ ap weight f.z)
 
-  pub numbers_end : (i t : ℕ) → n ≤ i → t + numbers_of (list_from w base n i) ≡ t
+  pub numbers_end : (i t : ℕ) → length ls ≤ i → t + numbers_of (paulis_from ls i) ≡ t
   unfolding numbers_of
-  numbers_end i t h = ap (λ (l : List Pauli). t + numbers_of l) (list_end i h) ∙ omega arith
+  numbers_end i t h = ap (λ (l : List Pauli). t + numbers_of l) (paulis_end i h) ∙ omega arith
 
 -- ---- the table
 
@@ -76,30 +100,30 @@ entry_same : (e f start a b c d : ℕ) → e % 4 ≡ f % 4 → a ≡ c → b ≡
 unfolding entry_bytes
 entry_same e f start a b c d p q r = rw (p, q, r)
 
-module _ {first out : List ℕ} (w : List ℕ) (base n i before : ℕ) (h : i < n) (r : Held) (f : Loaded r (pauli_in w (base + 5 * i))) (a b : ℕ)
+module _ {first out : List ℕ} (ls : List (List ℕ)) (i before : ℕ) (h : i < length ls) (r : Held) (f : Loaded r (pauli_in (get_or ls i []) 0)) (a b : ℕ)
     (p : a ≡ weight (set_in r.x)) (q : b ≡ weight (set_in r.z))
-    (l : Left first 2 (table_of 0 (list_in w base n)) out (2 + 10 * i) (table_of before (list_from w base n i))) where
+    (l : Left first 2 (table_of 0 (paulis_in ls)) out (2 + 10 * i) (table_of before (paulis_from ls i))) where
   abbrev g : Pauli
-  g = pauli_in w (base + 5 * i)
+  g = pauli_in (get_or ls i []) 0
 
-  next_entry : table_of before (list_from w base n i) ≡ entry_bytes r.exponent before a b ++ table_of (before + (a + b)) (list_from w base n (i + 1))
+  next_entry : table_of before (paulis_from ls i) ≡ entry_bytes r.exponent before a b ++ table_of (before + (a + b)) (paulis_from ls (i + 1))
   unfolding table_of
   next_entry =
       let wa : a ≡ weight g.x = p ∙ ap weight f.x in
       let wb : b ≡ weight g.z = q ∙ ap weight f.z in
       let sum : before + weight g.x + weight g.z ≡ before + (a + b) = omega arith in
-      ap (table_of before) (list_next w base n i h)
-      ∙ ap₂ (λ (x : List ℕ) (k : ℕ). x ++ table_of k (list_from w base n (i + 1))) (sym (entry_same r.exponent g.e before a b (weight g.x) (weight g.z) f.e wa wb)) sum
+      ap (table_of before) (paulis_next ls i h)
+      ∙ ap₂ (λ (x : List ℕ) (k : ℕ). x ++ table_of k (paulis_from ls (i + 1))) (sym (entry_same r.exponent g.e before a b (weight g.x) (weight g.z) f.e wa wb)) sum
 
   pub table_room : 2 + 10 * i + 10 ≤ length out
-  table_room = left_room l (entry_bytes r.exponent before a b) (table_of (before + (a + b)) (list_from w base n (i + 1))) 10 next_entry (length_entry_bytes r.exponent before a b)
+  table_room = left_room l (entry_bytes r.exponent before a b) (table_of (before + (a + b)) (paulis_from ls (i + 1))) 10 next_entry (length_entry_bytes r.exponent before a b)
 
   pub table_step : (u : List ℕ) → u ≡ put_bytes out (2 + 10 * i) (entry_bytes r.exponent before a b) → length u ≡ length out
-      → Left first 2 (table_of 0 (list_in w base n)) u (2 + 10 * (i + 1)) (table_of (before + (a + b)) (list_from w base n (i + 1)))
+      → Left first 2 (table_of 0 (paulis_in ls)) u (2 + 10 * (i + 1)) (table_of (before + (a + b)) (paulis_from ls (i + 1)))
   table_step u d k =
       let e : 2 + 10 * i + 10 ≡ 2 + 10 * (i + 1) = omega arith in
-      subst (λ (j : ℕ). Left first 2 (table_of 0 (list_in w base n)) u j (table_of (before + (a + b)) (list_from w base n (i + 1)))) e
-      (left_step l (entry_bytes r.exponent before a b) (table_of (before + (a + b)) (list_from w base n (i + 1))) 10 next_entry (length_entry_bytes r.exponent before a b) u d k)
+      subst (λ (j : ℕ). Left first 2 (table_of 0 (paulis_in ls)) u j (table_of (before + (a + b)) (paulis_from ls (i + 1)))) e
+      (left_step l (entry_bytes r.exponent before a b) (table_of (before + (a + b)) (paulis_from ls (i + 1))) 10 next_entry (length_entry_bytes r.exponent before a b) u d k)
 
 length_table : (before : ℕ) (ps : List Pauli) → length (table_of before ps) ≡ 10 * length ps
 unfolding table_of
@@ -108,13 +132,8 @@ length_table before (p ∷ ps) =
     length-append (entry_bytes p.e before (weight p.x) (weight p.z)) (table_of (before + weight p.x + weight p.z) ps)
     ∙ omega (arith, length_entry_bytes p.e before (weight p.x) (weight p.z), length_table (before + weight p.x + weight p.z) ps)
 
-pub length_list : (w : List ℕ) (base n : ℕ) → length (list_in w base n) ≡ n
-unfolding list_in
-length_list w base zero = refl
-length_list w base (suc n) = ap suc (length_list w (base + 5) n)
-
-pub table_length : (w : List ℕ) (base n : ℕ) → length (table_of 0 (list_in w base n)) ≡ 10 * n
-table_length w base n = length_table 0 (list_in w base n) ∙ ap (10 *◌) (length_list w base n)
+pub table_length : (ls : List (List ℕ)) → length (table_of 0 (paulis_in ls)) ≡ 10 * length ls
+table_length ls = length_table 0 (paulis_in ls) ∙ ap (10 *◌) (length_paulis ls)
 
 -- ---- the bodies
 
@@ -122,8 +141,8 @@ table_length w base n = length_table 0 (list_in w base n) ∙ ap (10 *◌) (leng
 unfoldable pub body_bytes : List ℕ → List Pauli → List ℕ
 body_bytes qs ps = le32s (numbers (map (sparse_over qs) ps))
 
-module _ {first out : List ℕ} {start next : ℕ} (w : List ℕ) (base n : ℕ) (qs : List ℕ) (i : ℕ) (h : i < n) (r : Held) (f : Loaded r (pauli_in w (base + 5 * i)))
-    (l : Left first start (body_bytes qs (list_in w base n)) out next (body_bytes qs (list_from w base n i))) where
+module _ {first out : List ℕ} {start next : ℕ} (ls : List (List ℕ)) (qs : List ℕ) (i : ℕ) (h : i < length ls) (r : Held) (f : Loaded r (pauli_in (get_or ls i []) 0))
+    (l : Left first start (body_bytes qs (paulis_in ls)) out next (body_bytes qs (paulis_from ls i))) where
   abbrev xs : List ℕ
   xs = select (set_in r.x) qs
 
@@ -131,35 +150,35 @@ module _ {first out : List ℕ} {start next : ℕ} (w : List ℕ) (base n : ℕ)
   zs = select (set_in r.z) qs
 
   abbrev more : List ℕ
-  more = body_bytes qs (list_from w base n (i + 1))
+  more = body_bytes qs (paulis_from ls (i + 1))
 
-  next_body : body_bytes qs (list_from w base n i) ≡ le32s xs ++ (le32s zs ++ more)
+  next_body : body_bytes qs (paulis_from ls i) ≡ le32s xs ++ (le32s zs ++ more)
   unfolding body_bytes numbers sparse_over
   next_body =
-      ap (body_bytes qs) (list_next w base n i h)
-      ∙ ap₂ (λ (x : ℕ) (z : ℕ). le32s (select x qs ++ select z qs ++ numbers (map (sparse_over qs) (list_from w base n (i + 1))))) (sym f.x) (sym f.z)
-      ∙ le32s_append (xs ++ zs) (numbers (map (sparse_over qs) (list_from w base n (i + 1))))
+      ap (body_bytes qs) (paulis_next ls i h)
+      ∙ ap₂ (λ (x : ℕ) (z : ℕ). le32s (select x qs ++ select z qs ++ numbers (map (sparse_over qs) (paulis_from ls (i + 1))))) (sym f.x) (sym f.z)
+      ∙ le32s_append (xs ++ zs) (numbers (map (sparse_over qs) (paulis_from ls (i + 1))))
       ∙ ap (◌++ more) (le32s_append xs zs) ∙ append_assoc (le32s xs) (le32s zs) more
 
   pub body_room : next + 4 * length xs ≤ length out
   body_room = left_room l (le32s xs) (le32s zs ++ more) (4 * length xs) next_body (length_le32s xs)
 
   module _ (u : List ℕ) (d : u ≡ put_bytes out next (le32s xs)) (k : length u ≡ length out) where
-    half : Left first start (body_bytes qs (list_in w base n)) u (next + 4 * length xs) (le32s zs ++ more)
+    half : Left first start (body_bytes qs (paulis_in ls)) u (next + 4 * length xs) (le32s zs ++ more)
     half = left_step l (le32s xs) (le32s zs ++ more) (4 * length xs) next_body (length_le32s xs) u d k
 
     pub body_room_z : next + 4 * length xs + 4 * length zs ≤ length u
     body_room_z = left_room half (le32s zs) more (4 * length zs) refl (length_le32s zs)
 
     pub body_step : (m : ℕ) → m ≡ next + 4 * length xs → (v : List ℕ) → v ≡ put_bytes u m (le32s zs) → length v ≡ length u → (k : ℕ) → k ≡ m + 4 * length zs
-        → Left first start (body_bytes qs (list_in w base n)) v k more
+        → Left first start (body_bytes qs (paulis_in ls)) v k more
     body_step m e v d s k f =
-        subst (λ (j : ℕ). Left first start (body_bytes qs (list_in w base n)) v j more) (sym (f ∙ ap (◌+ 4 * length zs) e))
+        subst (λ (j : ℕ). Left first start (body_bytes qs (paulis_in ls)) v j more) (sym (f ∙ ap (◌+ 4 * length zs) e))
         (left_step half (le32s zs) more (4 * length zs) refl (length_le32s zs) v (d ∙ ap (λ (j : ℕ). put_bytes u j (le32s zs)) e) s)
 
-pub body_end : (w : List ℕ) (base n : ℕ) (qs : List ℕ) (i : ℕ) → n ≤ i → body_bytes qs (list_from w base n i) ≡ []
+pub body_end : (ls : List (List ℕ)) (qs : List ℕ) (i : ℕ) → length ls ≤ i → body_bytes qs (paulis_from ls i) ≡ []
 unfolding body_bytes numbers le32s
-body_end w base n qs i h = ap (body_bytes qs) (list_end w base n i h)
+body_end ls qs i h = ap (body_bytes qs) (paulis_end ls i h)
 
 -- ---- the whole roll
 
@@ -215,29 +234,29 @@ module _ (qs : List ℕ) where
         ∙ ap (put_bytes out 0) (sym roll_is)
 
 -- what is told and left, with the length that was counted
-module _ (w : List ℕ) (base n : ℕ) (qs out : List ℕ) (on : OnPlaces (length qs) (list_in w base n)) (total : ℕ) (e : total ≡ numbers_of (list_in w base n)) where
+module _ (ls : List (List ℕ)) (qs out : List ℕ) (on : OnPlaces (length qs) (paulis_in ls)) (total : ℕ) (e : total ≡ numbers_of (paulis_in ls)) where
   abbrev ps : List Pauli
-  ps = list_in w base n
+  ps = paulis_in ls
 
-  size : length (roll_over qs ps) ≡ 2 + 10 * n + 4 * total
-  size = roll_size qs ps on ∙ ap₂ (λ (a : ℕ) (b : ℕ). 2 + 10 * a + 4 * b) (length_list w base n) (sym e)
+  size : length (roll_over qs ps) ≡ 2 + 10 * length ls + 4 * total
+  size = roll_size qs ps on ∙ ap₂ (λ (a : ℕ) (b : ℕ). 2 + 10 * a + 4 * b) (length_paulis ls) (sym e)
 
-  pub roll_short : length out < 2 + 10 * n + 4 * total → (refused 12 0 ≡ told_bytes (answer (roll_over qs ps)) out) × (out ≡ left_in (answer (roll_over qs ps)) out)
+  pub roll_short : length out < 2 + 10 * length ls + 4 * total → (refused 12 0 ≡ told_bytes (answer (roll_over qs ps)) out) × (out ≡ left_in (answer (roll_over qs ps)) out)
   unfolding told_bytes left_in refuse_if
   roll_short h = let t = lt-ltb (length out) (length (roll_over qs ps)) (rw size h) in (rw t, rw t)
 
   pub numbers_room : length (numbers (map (sparse_over qs) ps)) ≡ total
   numbers_room = numbers_over qs ps on ∙ sym e
 
-  pub roll_long : 2 + 10 * n + 4 * total ≤ length out → (a b c : List ℕ) → a ≡ put_bytes out 0 (le16 n) → b ≡ put_bytes a 2 (table_of 0 ps)
-      → c ≡ put_bytes b (2 + 10 * n) (le32s (numbers (map (sparse_over qs) ps)))
-      → (answer (2 + 10 * n + 4 * total) ≡ told_bytes (answer (roll_over qs ps)) out) × (c ≡ left_in (answer (roll_over qs ps)) out)
+  pub roll_long : 2 + 10 * length ls + 4 * total ≤ length out → (a b c : List ℕ) → a ≡ put_bytes out 0 (le16 (length ls)) → b ≡ put_bytes a 2 (table_of 0 ps)
+      → c ≡ put_bytes b (2 + 10 * length ls) (le32s (numbers (map (sparse_over qs) ps)))
+      → (answer (2 + 10 * length ls + 4 * total) ≡ told_bytes (answer (roll_over qs ps)) out) × (c ≡ left_in (answer (roll_over qs ps)) out)
   unfolding told_bytes left_in refuse_if body_bytes
   roll_long h a b c p q r =
       let t = le-ltb (length out) (length (roll_over qs ps)) (rw size h) in
-      let k = sym (length_list w base n) in (
+      let k = sym (length_paulis ls) in (
         rw t (ap answer (sym size)),
         rw t
-            (roll_puts qs ps on out a b c (omega (arith, length_list w base n, sym e)) (p ∙ ap (λ (m : ℕ). put_bytes out 0 (le16 m)) k) q
+            (roll_puts qs ps on out a b c (omega (arith, length_paulis ls, sym e)) (p ∙ ap (λ (m : ℕ). put_bytes out 0 (le16 m)) k) q
             (r ∙ ap (λ (m : ℕ). put_bytes b (2 + 10 * m) (le32s (numbers (map (sparse_over qs) ps)))) k)),
       )
