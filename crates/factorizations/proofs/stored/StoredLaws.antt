@@ -1,11 +1,13 @@
 -- Laws of results kept in the work area.
-use Rattle.std.proofs.Common.{◌≡◌, refl, sym, ap, ap₂, ◌∙◌, List, [], ◌∷◌, ◌++◌, map, ℕ, zero, suc, ◌+◌, ◌*◌, ◌^◌, ◌≤◌, ◌<◌, add-one, arith, length, get_or, set, take, length-set, get_or-set_same, get_or-set_other, take-suc}
+use Rattle.std.proofs.Common.{◌≡◌, refl, sym, ap, ap₂, ◌∙◌, List, [], ◌∷◌, ◌++◌, map, ℕ, zero, suc, ◌+◌, ◌*◌, ◌^◌, ◌≤◌, ◌<◌, add-one, arith, length, get_or, set, take, length-set, get_or-set_same, get_or-set_other, take-suc, cond, nat_lt}
 use mathlib.Core.List.{map-append}
 use mathlib.Core.Option.{Option, some, none}
 use borrow.Author.Tests.{lt-ltb, le-ltb}
+use Rattle.pauli.specs.Pauli.{Pauli}
+use Rattle.pauli.specs.Signed.{pauli_in, list_in, paulis_in}
 use Rattle.pauli_theory.specs.Membership.{Factorization}
 use Rattle.pauli_group.specs.Inner.Area.{Outside}
-use Rattle.factorizations.specs.Stored.{result_in, put_member, put_other, stored_in, Stored}
+use Rattle.factorizations.specs.Stored.{result_in, put_member, put_other, stored_in, results_in, Stored}
 
 -- ---- one result
 
@@ -65,6 +67,24 @@ module _ (l : List ℕ) (i : ℕ) (h : i + 5 ≤ length l) (e low high : ℕ) wh
   }
 
 -- ---- results one after the other
+
+-- a result by the Pauli that its five words would be
+by_words : Pauli → Option Factorization
+by_words p = cond (nat_lt p.e 4) (some (record { indexes = p.x; exponent = p.e })) none
+
+results_words : (ls : List (List ℕ)) → results_in ls ≡ map by_words (paulis_in ls)
+unfolding results_in paulis_in result_in pauli_in
+results_words [] = refl
+results_words (l ∷ ls) = ap (by_words (pauli_in l 0) ∷◌) (results_words ls)
+
+stored_words : (l : List ℕ) (i n : ℕ) → stored_in l i n ≡ map by_words (list_in l i n)
+unfolding stored_in list_in result_in pauli_in
+stored_words l i zero = refl
+stored_words l i (suc n) = ap (by_words (pauli_in l i) ∷◌) (stored_words l (i + 5) n)
+
+-- fives of words that are the same Paulis are the same results
+pub results_stored : (ls : List (List ℕ)) (l : List ℕ) (i n : ℕ) → paulis_in ls ≡ list_in l i n → results_in ls ≡ stored_in l i n
+results_stored ls l i n e = results_words ls ∙ ap (map by_words) e ∙ sym (stored_words l i n)
 
 module _ (l x : List ℕ) where
   result_same : (i : ℕ) → ((k : ℕ) → i ≤ k → k < i + 5 → get_or x k 0 ≡ get_or l k 0) → result_in x i ≡ result_in l i

@@ -3,14 +3,14 @@ use Rattle.factorizations.proofs.records.RecordLaws.{records}
 use Rattle.factorizations.proofs.stored.PieceLaws.{measured_start, measured_next, measured_end}
 use Rattle.factorizations.proofs.records.records_length.Goals as goal
 
-pub loop-i-init : goal.loop-i-init
-loop-i-init c = measured_start records _ _ _
+pub loop-words-init : goal.loop-words-init
+loop-words-init c = measured_start records _
 
-pub loop-i-preserved : goal.loop-i-preserved
-loop-i-preserved c =
+pub loop-words-preserved : goal.loop-words-preserved
+loop-words-preserved c =
     let counted = c.record_length-total.ensures in
-    let size = rw c.result_at.ensures at counted.0 in
-    measured_next records _ _ _ c.loop-i.invariant c.loop-i-test.true _ size counted.1
+    let size = rw c.result_of.ensures at counted.0 in
+    measured_next records _ c.loop-words.invariant c.loop-words-test.true _ size counted.1
 
 pub returns : goal.returns
-returns c = measured_end records _ _ _ c.loop-i.invariant (omega arith)
+returns c = measured_end records _ c.loop-words.invariant (omega arith)
