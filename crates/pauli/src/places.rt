@@ -6,6 +6,7 @@ ghost use Rattle.pauli.specs.PlaceSet.{set_in, first_from};
 ghost use Rattle.pauli.specs.Sets.{members};
 
 use crate::support::Place;
+use std::marker::Model;
 use std::ops::{BitOr, BitXor};
 
 // A set of at most 128 places: place p is bit p % 64 of low, or of high from 64 on.
@@ -58,12 +59,12 @@ impl Places {
 
     // The places of the set, rising.
     pub fn iter(self) -> PlacesIter
-        ensures { result.left ≡ self }
+        ensures { result ≡ members (set_in self) }
     {
         PlacesIter { left: self }
     }
 
-    // 1 where the two sets share an odd number of places, else 0: a number, since callers add it or multiply by it, and a branch on it
+    // 1 where the two sets share an odd number of places, else 0. It is a number, since callers add it or multiply by it: a branch
     // would be guessed wrong half of the time.
     pub fn dot(self, other: Places) -> u64
         ensures { (result ≡ dot (set_in self) (set_in other)) × (result < 2) }
@@ -120,12 +121,22 @@ pub struct PlacesIter {
     left: Places,
 }
 
+impl Model for PlacesIter {
+    ghost use Rattle.std.specs.Prelude.{ℕ, List};
+    ghost use Rattle.pauli.specs.PlaceSet.{set_in};
+    ghost use Rattle.pauli.specs.Sets.{members};
+
+    ghost Value = { List ℕ };
+
+    ghost view = { λ s. members (set_in s.left) };
+}
+
 impl Iterator for PlacesIter {
     type Item = Place;
 
-    ghost next_gives = { YieldsFirstBy (λ p. p.0) (λ s. members (set_in s.left)) };
+    ghost next_gives = { YieldsFirstBy (λ p. p.0) (λ rest. rest) };
 
-    ghost remaining = { item_count (λ s. members (set_in s.left)) };
+    ghost remaining = { item_count (λ rest. rest) };
 
     fn next(&mut self) -> Option<Place> {
         let low = self.left.low;

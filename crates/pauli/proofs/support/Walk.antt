@@ -7,7 +7,7 @@ use Rattle.std.proofs.lemmas.List.{drop-take, drop_at}
 use Rattle.std.specs.List.{copy_within}
 use Rattle.pauli.specs.Bytes.{u32_at, numbers_at}
 use Rattle.pauli.specs.Support.{most_qubits, insert, insert_all, Rising}
-use Rattle.pauli.specs.Known.{place_of, first_place, lower, put_at, inserted_at, Gathered}
+use Rattle.pauli.specs.Known.{place_of, first_place, lower, Gathered}
 use Rattle.pauli.proofs.support.Lists.{in_get_or}
 use Rattle.pauli.proofs.support.SupportLaws.{by_order, insert_below, insert_same, insert_above, insert_length, insert_all_keeps, rising_least, insert_rises}
 
@@ -70,6 +70,14 @@ module _ (l : List ℕ) (q : ℕ) where
     lower_miss k e = rw add-one (first_miss (λ r. not (ltb r q)) l i k h (ap not (lt-ltb _ _ e)))
 
 -- ---- q put in at a place
+
+-- q put into a list at place i
+unfoldable put_at : ℕ → ℕ → List ℕ → List ℕ
+put_at i q l = take i l ++ q ∷ drop i l
+
+-- the slice l, of which n numbers are known, once q is put in at place i of them
+unfoldable inserted_at : List ℕ → ℕ → ℕ → ℕ → List ℕ
+inserted_at l n i q = put_at i q (take n l) ++ drop (suc n) l
 
 -- the numbers from place i on, of n that are known, are moved one place up, and q is put there
 module _ (l : List ℕ) (n i q : ℕ) (room : n < length l) (h : i ≤ n) where
