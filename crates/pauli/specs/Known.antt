@@ -1,5 +1,5 @@
 -- The known qubit numbers, rising: at most one more than a list may have.
-use Rattle.std.specs.Prelude.{◌≡◌, ℕ, suc, ◌≤◌, min, Bool, cond, not, List, [], ◌∷◌, ◌++◌, length, take, drop, ◌==◌, nat_lt}
+use Rattle.std.specs.Prelude.{◌≡◌, ℕ, suc, ◌≤◌, min, Bool, cond, not, List, [], ◌∷◌, length, ◌==◌, nat_lt}
 use mathlib.Core.List.{Memᴰ as Mem}
 use Rattle.pauli.specs.Support.{most_qubits, Rising}
 
@@ -11,14 +11,6 @@ first_place test (r ∷ rs) = cond (test r) 0 (suc (first_place test rs))
 -- the place at which q is put into a rising list: how many numbers are below q
 unfoldable pub lower : ℕ → List ℕ → ℕ
 lower q l = first_place (λ r. not (nat_lt r q)) l
-
--- q put into a list at place i
-unfoldable pub put_at : ℕ → ℕ → List ℕ → List ℕ
-put_at i q l = take i l ++ q ∷ drop i l
-
--- the slice l, of which n numbers are known, once q is put in at place i of them
-unfoldable pub inserted_at : List ℕ → ℕ → ℕ → ℕ → List ℕ
-inserted_at l n i q = put_at i q (take n l) ++ drop (suc n) l
 
 -- once the numbers S are gathered, at most one more than a list may have: those in qs are known, rising, each one of S, and they
 -- are S if no more than a list may have

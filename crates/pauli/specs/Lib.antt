@@ -13,7 +13,6 @@ pub mod Condense
 pub mod PauliTheorems
 pub mod Sets
 pub mod Writing
-pub mod JoinAnswers
 pub mod JoinCalls
 pub mod JoinContract
 pub mod Lookups

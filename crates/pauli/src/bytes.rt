@@ -1,11 +1,11 @@
 // Numbers in bytes, all little-endian.
 ghost use Rattle.std.specs.Prelude.{◌≡◌, ◌+◌, ◌<◌, length};
-ghost use Rattle.pauli.specs.Bytes.{u16_at as u16_at_spec, u32_at};
+ghost use Rattle.pauli.specs.Bytes.{u16_at, u32_at};
 
 // The number that the two bytes from byte i on write.
 pub(crate) fn u16_at(b: &[u8], i: usize) -> usize
     requires { i + 1 < length b.now }
-    ensures { (result ≡ u16_at_spec b.now i) × (result < 65536) }
+    ensures { (result ≡ u16_at b.now i) × (result < 65536) }
 {
     u16::from_le_bytes([b[i], b[i + 1]]) as usize
 }

@@ -5,19 +5,11 @@ ghost use Rattle.pauli.specs.Support.{most_qubits};
 ghost use Rattle.pauli.specs.Known.{Gathered};
 ghost use Rattle.pauli.specs.Condense.{list_of};
 ghost use Rattle.pauli.specs.JoinCalls.{counts_of};
-ghost use Rattle.pauli.specs.JoinAnswers.{counts_in};
 ghost use Rattle.pauli.specs.Refusals.{told_by};
 
 use crate::refusal::{Reason, Refusal};
 use crate::roll::{MOST_PAULIS, Roll};
 use crate::support::{MOST_QUBITS, Support};
-
-// How many Paulis each of two rolls has.
-#[derive(Clone, Copy)]
-pub struct RollCounts {
-    pub left: usize,
-    pub right: usize,
-}
 
 // Gathers the support of two rolls.
 pub fn join_support(left: Roll, right: Roll) -> Support
@@ -68,15 +60,4 @@ impl<'a> Pair<'a> {
         }
         Ok(Pair { left, right })
     }
-}
-
-// How many Paulis each of two rolls that can be joined has.
-pub fn joined_counts(left: &[u8], right: &[u8]) -> Result<RollCounts, Refusal>
-    ensures { told_by counts_in result ≡ counts_of left.now right.now }
-{
-    let pair = Pair::read(left, right)?;
-    Ok(RollCounts {
-        left: pair.left.count,
-        right: pair.right.count,
-    })
 }

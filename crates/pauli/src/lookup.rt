@@ -2,7 +2,7 @@
 ghost use Rattle.std.specs.Prelude.{◌≡◌, ◌+◌, ◌*◌, ◌<◌, slice_index_or};
 ghost use Rattle.pauli.specs.Lookups.{looked_in};
 ghost use Rattle.pauli.specs.Condense.{list_of, nothing};
-ghost use Rattle.pauli.specs.JoinCalls.{looked_up as looked_up_spec, entry_of, stretch_in, stretch_of, body_in as body_in_spec, body_of, bytes_past, address_of};
+ghost use Rattle.pauli.specs.JoinCalls.{looked_up, entry_of, stretch_in, stretch_of, body_in, body_of, bytes_past, address_of};
 ghost use Rattle.pauli.specs.Refusals.{told_by};
 
 use crate::joined::Pair;
@@ -20,7 +20,7 @@ pub struct JoinedEntry {
 // The exponent value and the counts of Pauli i of a roll.
 fn looked_up(roll: Roll, i: usize) -> JoinedEntry
     requires { i < roll.count }
-    ensures { looked_in result ≡ looked_up_spec (slice_index_or (list_of roll.entry.bytes.now) i nothing) }
+    ensures { looked_in result ≡ looked_up (slice_index_or (list_of roll.entry.bytes.now) i nothing) }
 {
     let e = roll.entry(i);
     JoinedEntry {
@@ -49,7 +49,7 @@ pub fn joined_entry(left: &[u8], right: &[u8], n: usize) -> Result<JoinedEntry, 
 // The body of Pauli i of a roll.
 fn body_in<'a>(roll: Roll<'a>, i: usize) -> &'a [u8]
     requires { i < roll.count }
-    ensures bytes { result.now ≡ body_in_spec roll.entry.bytes.now i }
+    ensures bytes { result.now ≡ body_in roll.entry.bytes.now i }
     ensures place { result.ref_ptr ≡ bytes_past (stretch_in 0 roll.entry.bytes.now i).start roll.entry.bytes.ref_ptr }
 {
     let e = roll.entry(i);

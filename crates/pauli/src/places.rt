@@ -1,11 +1,12 @@
 // Sets of places.
 ghost use Rattle.std.specs.Prelude.{◌≡◌, ◌+◌, ◌%◌, ◌^◌, ◌<◌, ◌≤◌, ◌==◌, bit_or};
 ghost use Rattle.std.specs.Iterator.{YieldsFirstBy, item_count};
-ghost use Rattle.binar.specs.Row.{◌⊕◌, bit, dot, weight as weight_of};
-ghost use Rattle.pauli.specs.PlaceSet.{set_in, first_from as first_from_spec};
+ghost use Rattle.binar.specs.Row.{◌⊕◌, bit, dot, weight};
+ghost use Rattle.pauli.specs.PlaceSet.{set_in, first_from};
 ghost use Rattle.pauli.specs.Sets.{members};
 
 use crate::support::Place;
+use std::marker::Model;
 use std::ops::{BitOr, BitXor};
 
 // A set of at most 128 places: place p is bit p % 64 of low, or of high from 64 on.
@@ -34,10 +35,10 @@ impl Places {
         (self.high >> (i - 64)) % 2 == 1
     }
 
-    // The first place of the set from p on, or 128.
+    // The first place of the set from p on, or 128: past the last place, as a search by index tells that it found none.
     pub fn first_from(self, p: Place) -> Place
         requires { p.0 ≤ 128 }
-        ensures { result.0 ≡ first_from_spec (set_in self) p.0 }
+        ensures { result.0 ≡ first_from (set_in self) p.0 }
     {
         let i = p.0;
         if i < 64 {
@@ -58,12 +59,13 @@ impl Places {
 
     // The places of the set, rising.
     pub fn iter(self) -> PlacesIter
-        ensures { result.left ≡ self }
+        ensures { result ≡ members (set_in self) }
     {
         PlacesIter { left: self }
     }
 
-    // 1 where the two sets share an odd number of places, else 0.
+    // 1 where the two sets share an odd number of places, else 0. It is a number, since callers add it or multiply by it: a branch
+    // would be guessed wrong half of the time.
     pub fn dot(self, other: Places) -> u64
         ensures { (result ≡ dot (set_in self) (set_in other)) × (result < 2) }
     {
@@ -72,7 +74,7 @@ impl Places {
     }
 
     pub fn weight(self) -> usize
-        ensures { (result ≡ weight_of (set_in self)) × (result ≤ 128) }
+        ensures { (result ≡ weight (set_in self)) × (result ≤ 128) }
     {
         (u64::count_ones(self.low) as usize) + (u64::count_ones(self.high) as usize)
     }
@@ -119,12 +121,22 @@ pub struct PlacesIter {
     left: Places,
 }
 
+impl Model for PlacesIter {
+    ghost use Rattle.std.specs.Prelude.{ℕ, List};
+    ghost use Rattle.pauli.specs.PlaceSet.{set_in};
+    ghost use Rattle.pauli.specs.Sets.{members};
+
+    ghost Value = { List ℕ };
+
+    ghost view = { λ s. members (set_in s.left) };
+}
+
 impl Iterator for PlacesIter {
     type Item = Place;
 
-    ghost next_gives = { YieldsFirstBy (λ p. p.0) (λ s. members (set_in s.left)) };
+    ghost next_gives = { YieldsFirstBy (λ p. p.0) (λ rest. rest) };
 
-    ghost remaining = { item_count (λ s. members (set_in s.left)) };
+    ghost remaining = { item_count (λ rest. rest) };
 
     fn next(&mut self) -> Option<Place> {
         let low = self.left.low;

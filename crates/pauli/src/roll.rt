@@ -1,7 +1,7 @@
 // Rolls: the reader. It uses no work area, and indexes nothing by a qubit number.
 ghost use Rattle.std.specs.Prelude.{◌≡◌, ℕ, suc, ◌+◌, ◌*◌, ◌<◌, ◌≤◌, min, [], length, slice_index, IfOk};
 ghost use Rattle.pauli.specs.Bytes.{numbers_at};
-ghost use Rattle.pauli.specs.Roll.{most_paulis, entry_at, entries_at, paulis_at, check_entries as check_entries_spec, check_set as check_set_spec, check_sets as check_sets_spec, numbers, bodies, count_of};
+ghost use Rattle.pauli.specs.Roll.{most_paulis, entry_at, entries_at, paulis_at, check_entries, check_set, check_sets, numbers, bodies, count_of};
 ghost use Rattle.pauli.specs.Support.{most_qubits, insert_all};
 ghost use Rattle.pauli.specs.Told.{refused, answer};
 ghost use Rattle.pauli.specs.RollAnswers.{told_entry};
@@ -22,6 +22,7 @@ pub const MOST_PAULIS: usize = 128;
 // What the table says of a Pauli.
 #[derive(Clone, Copy)]
 pub struct Entry {
+    // the byte as read: above 1 where the roll is not checked yet
     pub given: usize,
     pub exponent: u8,
     pub start: usize,
@@ -52,7 +53,7 @@ pub fn entry_at(b: &[u8], i: usize) -> Entry
 // Checks the n entries in turn.
 fn check_entries(b: &[u8], n: usize) -> Result<usize, Refusal>
     requires { (2 + 10 * n ≤ length b.now) × (n ≤ most_paulis) }
-    ensures { told_of result ≡ check_entries_spec 0 0 (entries_at b.now 2 n) }
+    ensures { told_of result ≡ check_entries 0 0 (entries_at b.now 2 n) }
 {
     let mut before: usize = 0;
     for i in 0..n {
@@ -83,7 +84,7 @@ fn check_entries(b: &[u8], n: usize) -> Result<usize, Refusal>
 // Checks a set of Pauli i in turn: the `total` numbers from byte `at` on.
 fn check_set(b: &[u8], i: usize, at: usize, total: usize) -> Result<(), Refusal>
     requires { at + 4 * total ≤ length b.now }
-    ensures { told_of result ≡ check_set_spec i 0 (numbers_at b.now at total) }
+    ensures { told_of result ≡ check_set i 0 (numbers_at b.now at total) }
 {
     let mut least: u32 = 0;
     for k in 0..total {
@@ -108,7 +109,7 @@ fn check_set(b: &[u8], i: usize, at: usize, total: usize) -> Result<(), Refusal>
 // Checks the sets of the n Paulis in turn, whose bodies fill the rest of the roll.
 fn check_sets(b: &[u8], n: usize) -> Result<(), Refusal>
     requires { 2 + 10 * n + 4 * length (numbers (paulis_at b.now (2 + 10 * n) (entries_at b.now 2 n))) ≡ length b.now }
-    ensures { told_of result ≡ check_sets_spec 0 (paulis_at b.now (2 + 10 * n) (entries_at b.now 2 n)) }
+    ensures { told_of result ≡ check_sets 0 (paulis_at b.now (2 + 10 * n) (entries_at b.now 2 n)) }
 {
     let mut at = 2 + 10 * n;
     for i in 0..n {

@@ -1,7 +1,7 @@
 // Signed Paulis over the places of a support: i^exponent times X on the places of x, then Z on those of z.
 ghost use Rattle.std.specs.Prelude.{◌≡◌, ◌+◌, ◌*◌, ◌≤◌, length, ◌==◌};
 ghost use Rattle.std.proofs.lemmas.List.Edits.{sets};
-ghost use Rattle.pauli.specs.Pauli.{I, normal, times as times_of, anticommute, pauli_weight, order_four, is_identity as is_identity_spec, indexed_product as indexed_product_spec};
+ghost use Rattle.pauli.specs.Pauli.{I, normal, times, anticommute, pauli_weight, order_four, is_identity, indexed_product};
 ghost use Rattle.pauli.specs.Signed.{held, pauli_in, pauli_words, list_in, paulis_in};
 ghost use Rattle.pauli.specs.PlaceSet.{set_in};
 
@@ -51,7 +51,7 @@ impl Pauli {
 
     // The product with other on the right.
     pub fn times(self, other: Pauli) -> Product
-        ensures { normal (held result.pauli) ≡ times_of (held self) (held other) }
+        ensures { normal (held result.pauli) ≡ times (held self) (held other) }
     {
         let ux = other.x;
         let uz = other.z;
@@ -100,7 +100,7 @@ impl Pauli {
     }
 
     pub fn is_identity(self) -> bool
-        ensures { result ≡ is_identity_spec (held self) }
+        ensures { result ≡ is_identity (held self) }
     {
         let x = self.x;
         let z = self.z;
@@ -128,7 +128,8 @@ pub fn paulis_at(w: &[u64], base: usize, n: usize) -> &[[u64; 5]]
     w[base..base + 5 * n].as_chunks::<5>().0
 }
 
-// Writes a Pauli, its exponent by value, to the five words from word at on.
+// Writes a Pauli, its exponent by value, to the five words from word at on. Word by word: of what the slice holds once an array of
+// as_chunks_mut is written, a proof learns nothing.
 pub fn store(w: &mut [u64], at: usize, p: Pauli)
     requires { at + 5 ≤ length w.old }
     ensures { w.new ≡ sets w.old at (pauli_words p) }
@@ -145,7 +146,7 @@ pub fn store(w: &mut [u64], at: usize, p: Pauli)
 // The product of those Paulis of the list whose numbers are in the set, in rising order. The numbers of an index set are places
 // too: places in the list of generators.
 pub fn indexed_product(list: &[[u64; 5]], set: Places) -> Pauli
-    ensures { normal (held result) ≡ indexed_product_spec (set_in set) (paulis_in list.now) }
+    ensures { normal (held result) ≡ indexed_product (set_in set) (paulis_in list.now) }
 {
     let mut product = Pauli::identity();
     for p in set.iter() {

@@ -2,7 +2,7 @@
 ghost use Rattle.std.specs.Prelude.{◌≡◌, suc, ◌+◌, ◌*◌, ◌<◌, ◌≤◌, [], length, if◌then◌else◌, nat_lt, slice_index, IfSome};
 ghost use Rattle.pauli.specs.Bytes.{numbers_at};
 ghost use Rattle.pauli.specs.Support.{most_qubits, insert, insert_all, Rising};
-ghost use Rattle.pauli.specs.Known.{place_of, lower, inserted_at, Gathered};
+ghost use Rattle.pauli.specs.Known.{place_of, lower, Gathered};
 
 use crate::bytes::u32_at;
 use std::marker::Model;
@@ -75,14 +75,15 @@ impl Support {
         ensures next { result.0 ≡ suc (lower q.0 self.old) }
     {
         let count = self.count;
-        let at = place_from(&self.numbers[..count], from, q);
-        let i = at.0;
+        let i = place_from(&self.numbers[..count], from, q).0;
         if i < count {
             if self.numbers[i] == q.0 {
                 return Place(i + 1);
             }
         }
-        insert_at(&mut self.numbers, count, at, q);
+        // the numbers from there on move one place up
+        self.numbers.copy_within(i..count, i + 1);
+        self.numbers[i] = q.0;
         self.count = count + 1;
         Place(i + 1)
     }
@@ -116,7 +117,7 @@ pub fn qubit_at(support: &[u32], p: Place) -> Qubit
     Qubit(support[p.0])
 }
 
-// The place of q, or the support's length.
+// The place of q, or the support's length, as its definition tells it; its one caller always finds q.
 pub fn place_of(support: &[u32], q: Qubit) -> Place
     ensures { result.0 ≡ place_of support.now q.0 }
 {
@@ -165,20 +166,6 @@ pub fn place_from(support: &[u32], from: Place, q: Qubit) -> Place
         }
     }
     Place(support.len())
-}
-
-// Moves the numbers from place `at` on one place up, and puts q there.
-fn insert_at(known: &mut [u32], count: usize, at: Place, q: Qubit)
-    requires { (at.0 ≤ count) × (count < length known.old) }
-    ensures { known.new ≡ inserted_at known.old count at.0 q.0 }
-{
-    let mut next = q.0;
-    for i in at.0..count {
-        let moved = known[i];
-        known[i] = next;
-        next = moved;
-    }
-    known[count] = next;
 }
 
 // Where the walk to q starts: at the place `from`, past the qubit met last, if q is above that one, else anew.

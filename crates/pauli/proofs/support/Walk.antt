@@ -1,11 +1,13 @@
 -- The known qubit numbers: the walk to a number's place, and what is known once it is put in.
-use Rattle.std.proofs.Common.{◌≡◌, ℕ, zero, suc, ◌+◌, ◌-◌, ◌*◌, ◌<◌, ◌≤◌, Bool, true, false, cond, not, eqb, ltb, List, [], ◌∷◌, ◌++◌, length, get_or, take, drop, set, sym, refl, ap, ◌∙◌, suc-le-suc, add-zero, add-one, arith, length-append, length-drop, length-take-le, take_all, drop-cons, get_or-take, take-suc-set, take_at, drop-set-lt, le-ltb, lt-ltb, eq-eqb, ne_eqb}
+use Rattle.std.proofs.Common.{◌≡◌, ℕ, zero, suc, ◌+◌, ◌-◌, ◌*◌, ◌<◌, ◌≤◌, Bool, true, false, cond, not, eqb, ltb, List, [], ◌∷◌, ◌++◌, length, get_or, take, drop, set, sym, refl, ap, ◌∙◌, ap₂, append_assoc, suc-le-suc, add-zero, add-one, arith, length-append, length-drop, length-take-le, get_or-take, take_at, take-take, le-ltb, lt-ltb, eq-eqb, ne_eqb}
 use native.Mathlib.Nat.{sub-zero}
 use native.Mathlib.Decide.{dec_lt}
-use lib.Seq.{drop-length, append_snoc, set_split, take-set-lt}
+use lib.Seq.{set_split}
+use Rattle.std.proofs.lemmas.List.{drop-take, drop_at}
+use Rattle.std.specs.List.{copy_within}
 use Rattle.pauli.specs.Bytes.{u32_at, numbers_at}
 use Rattle.pauli.specs.Support.{most_qubits, insert, insert_all, Rising}
-use Rattle.pauli.specs.Known.{place_of, first_place, lower, put_at, inserted_at, Gathered}
+use Rattle.pauli.specs.Known.{place_of, first_place, lower, Gathered}
 use Rattle.pauli.proofs.support.Lists.{in_get_or}
 use Rattle.pauli.proofs.support.SupportLaws.{by_order, insert_below, insert_same, insert_above, insert_length, insert_all_keeps, rising_least, insert_rises}
 
@@ -69,23 +71,37 @@ module _ (l : List ℕ) (q : ℕ) where
 
 -- ---- q put in at a place
 
-module _ (l : List ℕ) (n : ℕ) (room : n < length l) where
-  known_size : length (take n l) ≡ n
-  known_size = length-take-le n l (omega arith)
+-- q put into a list at place i
+unfoldable put_at : ℕ → ℕ → List ℕ → List ℕ
+put_at i q l = take i l ++ q ∷ drop i l
 
-  pub inserted_step : (i q : ℕ) → i < n → inserted_at l n i q ≡ inserted_at (set l i q) n (i + 1) (get_or l i 0)
-  unfolding inserted_at put_at
-  inserted_step i q h =
-      let K = take n l in
-      rw (add-one i, take-set-lt n l i q h, take-suc-set K i q (omega (arith, known_size)), drop-set-lt (suc i) K i q (omega arith), drop-set-lt (suc n) l i q (omega arith), append_snoc (take i K) q, drop-cons K i 0 (omega (arith, known_size)), get_or-take n l i 0 h)
+-- the slice l, of which n numbers are known, once q is put in at place i of them
+unfoldable inserted_at : List ℕ → ℕ → ℕ → ℕ → List ℕ
+inserted_at l n i q = put_at i q (take n l) ++ drop (suc n) l
 
-  pub inserted_end : (i q : ℕ) → i ≤ n → n ≤ i → inserted_at l n i q ≡ set l n q
+-- the numbers from place i on, of n that are known, are moved one place up, and q is put there
+module _ (l : List ℕ) (n i q : ℕ) (room : n < length l) (h : i ≤ n) where
+  abbrev moved : List ℕ
+  moved = take (n - i) (drop i l)
+
+  abbrev after : List ℕ
+  after = moved ++ drop (i + 1 + (n - i)) l
+
+  known_front : take i (take n l) ++ (q ∷ drop i (take n l)) ≡ take i l ++ (q ∷ moved)
+  known_front =
+      let e : n ≡ i + (n - i) = omega arith in
+      ap₂ (λ (a : List ℕ) (b : List ℕ). a ++ (q ∷ b)) (take-take i n l h) (ap (λ (k : ℕ). drop i (take k l)) e ∙ drop-take i (n - i) l)
+
+  moved_put : set (copy_within l i n (i + 1)) i q ≡ inserted_at l n i q
   unfolding inserted_at put_at
-  inserted_end i q h k =
-      let e : i ≡ n = omega arith in
-      let K = take n l in
-      rw (e, take_all n K (omega (arith, known_size)), set_split l n q room)
-      (ap (λ m. (K ++ q ∷ m) ++ drop (suc n) l) (ap (λ m. drop m K) (sym known_size) ∙ drop-length K) ∙ append_snoc K q (drop (suc n) l))
+  moved_put =
+      let front = take (i + 1) l in
+      let all = front ++ after in
+      let size : length front ≡ suc i = length-take-le (i + 1) l (omega arith) ∙ add-one i in
+      let before : take i all ≡ take i l = sym (take-take i (suc i) all (omega arith)) ∙ ap (take i) (take_at front after (suc i) size) ∙ take-take i (i + 1) l (omega arith) in
+      let last : i + 1 + (n - i) ≡ suc n = omega arith in
+      ap (λ (x : List ℕ). set x i q) (append_assoc front moved (drop (i + 1 + (n - i)) l)) ∙ set_split all i q (omega (arith, length-append front after, size)) ∙ ap₂ (λ (a : List ℕ) (b : List ℕ). a ++ (q ∷ b)) before (drop_at front after (suc i) size)
+      ∙ sym (append_assoc (take i l) (q ∷ moved) (drop (i + 1 + (n - i)) l)) ∙ ap₂ (λ (a : List ℕ) (k : ℕ). a ++ drop k l) (sym known_front) last
 
 length_put : (i q : ℕ) (l : List ℕ) → i ≤ length l → length (put_at i q l) ≡ suc (length l)
 unfolding put_at
@@ -160,7 +176,7 @@ noted_known l q i e h k = sym (insert_there q l (rw (← e) h) (rw (← e) k))
 
 -- another is put into the slice l, of which n numbers are known
 module _ (l : List ℕ) (n q : ℕ) (room : n < length l) where
-  pub noted_new : (i : ℕ) → i ≡ lower q (take n l) → (i < n → get_or l i 0 ≡ q → ⊥) → take (n + 1) (inserted_at l n i q) ≡ insert q (take n l)
+  noted_new : (i : ℕ) → i ≡ lower q (take n l) → (i < n → get_or l i 0 ≡ q → ⊥) → take (n + 1) (inserted_at l n i q) ≡ insert q (take n l)
   unfolding inserted_at
   noted_new i e k =
       let size : length (take n l) ≡ n = length-take-le n l (omega arith) in
@@ -168,6 +184,12 @@ module _ (l : List ℕ) (n q : ℕ) (room : n < length l) where
       rw e (insert_put q (take n l) (λ b g. k (omega (arith, size)) (sym (get_or-take n l i 0 (omega (arith, size))) ∙ (rw (← e) at g)))) in
       let long : length (put_at i q (take n l)) ≡ suc n = length_put i q (take n l) (omega (arith, size, e, lower_le (take n l) q)) ∙ ap suc size in
       rw (add-one n) (take_at (put_at i q (take n l)) (drop (suc n) l) (suc n) long ∙ sym put)
+
+  -- the numbers from its place on are moved one place up, and it is put there
+  pub noted_moved : (i : ℕ) → i ≡ lower q (take n l) → (i < n → get_or l i 0 ≡ q → ⊥) → (m : List ℕ) → m ≡ copy_within l i n (i + 1) → take (n + 1) (set m i q) ≡ insert q (take n l)
+  noted_moved i e k m c =
+      let size : length (take n l) ≡ n = length-take-le n l (omega arith) in
+      ap (λ (x : List ℕ). take (n + 1) (set x i q)) c ∙ ap (take (n + 1)) (moved_put l n i q room (omega (arith, size, e, lower_le (take n l) q))) ∙ noted_new i e k
 
 -- ---- numbers noted in turn
 

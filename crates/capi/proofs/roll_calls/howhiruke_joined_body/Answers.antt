@@ -2,7 +2,6 @@ use mathlib.Core.Path.{sym, ap, ◌∙◌}
 use native.Mathlib.Omega.{arith}
 use Rattle.pauli.proofs.joined.JoinLaws.{counts_joining}
 use Rattle.capi.proofs.roll_calls.StretchLaws.{located_refused, located_past, located_left, located_right}
-use Rattle.pauli.specs.JoinAnswers.{counts_in}
 use Rattle.pauli.specs.Refusals.{told_by}
 use Rattle.capi.proofs.roll_calls.howhiruke_joined_body.Goals as goal
 

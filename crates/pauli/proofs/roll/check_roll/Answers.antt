@@ -28,11 +28,11 @@ returns-in_err-total c = ap told_of (handed_on _ _ c.from_residual.ensures.1) 鈭
 
 pub overflow_mul-total : goal.overflow_mul-total
 unfolding most_paulis
-overflow_mul-total c = omega (arith, total_bound _ c.if-b-lt2.false _ c.u16_at-n.ensures.0 c.if-n-gt-MOST_PAULIS.false c.if-b-n.false _ (sym c.in_ok-total.ensures) (位 q. (c.shared_slice_known-1.given q).fits))
+overflow_mul-total c = omega (arith, total_bound _ c.if-b-lt2.false _ c.u16_at-n.ensures.0 c.if-n-gt-MOST_PAULIS.false c.if-b-n.false _ (sym c.in_ok-total.ensures) (位 q. (c.type_inv.b q).fits))
 
 pub overflow_add-n-3 : goal.overflow_add-n-3
 unfolding most_paulis
-overflow_add-n-3 c = omega (arith, total_bound _ c.if-b-lt2.false _ c.u16_at-n.ensures.0 c.if-n-gt-MOST_PAULIS.false c.if-b-n.false _ (sym c.in_ok-total.ensures) (位 q. (c.shared_slice_known-1.given q).fits))
+overflow_add-n-3 c = omega (arith, total_bound _ c.if-b-lt2.false _ c.u16_at-n.ensures.0 c.if-n-gt-MOST_PAULIS.false c.if-b-n.false _ (sym c.in_ok-total.ensures) (位 q. (c.type_inv.b q).fits))
 
 pub returns-then-b-n-2 : goal.returns-then-b-n-2
 unfolding most_paulis

@@ -2,7 +2,6 @@
 use Rattle.std.proofs.Common.{◌≡◌}
 use Rattle.pauli.proofs.signed.SignedLaws.{product_at}
 use Rattle.pauli.specs.Pauli.{indexed_product}
-use Rattle.pauli.specs.Sets.{members}
 use Rattle.pauli.specs.Signed.{held, paulis_in}
 use Rattle.pauli.specs.PlaceSet.{set_in}
 use Rattle.pauli.proofs.signed.indexed_product.Given as goal
@@ -10,4 +9,4 @@ use Rattle.pauli.proofs.signed.indexed_product.Given as goal
 abbrev pub invariant-loop-p : goal.invariant-loop-p
 invariant-loop-p l =
     (goal.iterator-loop-p).can_next l.p-iterator × (goal.iterator-loop-p).is_finite l.p-iterator
-    × (indexed_product (set_in l.fn.set) (paulis_in l.list) ≡ product_at l.list (members (set_in l.p-iterator.left)) (held l.product))
+    × (indexed_product (set_in l.fn.set) (paulis_in l.list) ≡ product_at l.list l.p-iterator (held l.product))

@@ -1,24 +1,14 @@
-use Rattle.std.proofs.Common.{ℕ, sym, ap, ◌∙◌, arith, subst}
-use Rattle.pauli.specs.Bytes.{le32, le32s}
-use Rattle.pauli.specs.Pauli.{select}
-use Rattle.pauli.specs.PlaceSet.{set_in}
-use Rattle.pauli.specs.Sets.{members}
+use Rattle.std.proofs.Common.{ℕ, ap, ◌∙◌, arith}
+use Rattle.pauli.specs.Bytes.{le32}
 use Rattle.pauli.specs.Writing.{put_bytes}
-use Rattle.pauli.specs.declared.places.Places.{Places}
-use Rattle.pauli.specs.declared.places.PlacesIter.{PlacesIter}
-use Rattle.pauli.proofs.places.Members.{at_indexes}
-use Rattle.pauli.proofs.write.Puts.{Left, set_start, set_done, set_past, set_room, set_hit}
+use Rattle.pauli.proofs.write.Puts.{set_start, set_done, set_past, set_room, set_hit}
 use Rattle.pauli.proofs.write.put_set.Goals as goal
 
 pub loop-p-init : goal.loop-p-init
 loop-p-init c =
     let a = c.args in
-    let all = sym (ap (λ (it : PlacesIter). it.left) c.into_iter-p-iterator.ensures.into_iter_gives ∙ c.iter-p-items.ensures) in (
-      tt,
-      tt,
-      subst (λ (s : Places). Left a.out.now a.at (le32s (select (set_in a.set) a.support.now)) a.out.now a.at (le32s (at_indexes (members (set_in s)) a.support.now))) all
-          (set_start _ _ _ _ c.requires.1),
-    )
+    let all = c.into_iter-p-iterator.ensures.into_iter_gives ∙ c.iter-p-items.ensures in
+    (tt, tt, rw all (set_start _ _ _ _ c.requires.1))
 
 pub put_u32-requires : goal.put_u32-requires
 put_u32-requires c = set_room _ _ _ c.loop-p.invariant.2 _ _ c.in-Some.ensures.steps c.if-p-support.true

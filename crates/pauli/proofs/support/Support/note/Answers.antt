@@ -1,7 +1,7 @@
 -- A number that stands at its place is known; another is put in there.
 use Rattle.std.proofs.Common.{◌≤◌, ◌+◌, take, sym, ap, ◌∙◌, arith, length, length-take-le, get_or-take}
 use Rattle.pauli.proofs.support.SupportLaws.{insert_rises}
-use Rattle.pauli.proofs.support.Walk.{lower_le, noted_known, noted_new}
+use Rattle.pauli.proofs.support.Walk.{lower_le, noted_known, noted_moved}
 use Rattle.pauli.specs.Support.{most_qubits, insert}
 use Rattle.pauli.proofs.support.Support.note.Goals as goal
 use Rattle.pauli.proofs.support.Support.note.Goals.{then-i-count+else-self-i, else-i-count}
@@ -10,21 +10,46 @@ pub returns-then-self-i-clause-known : goal.returns-then-self-i-clause-known
 returns-then-self-i-clause-known c =
     let at = c.self.inside in
     let size = length-take-le at.count at.numbers (omega arith) in
-    let known = noted_known (take at.count at.numbers) c.args.q.0 c.place_from-at.result.0 c.place_from-at.ensures (omega (arith, size)) (get_or-take at.count at.numbers c.place_from-at.result.0 0 c.if-i-count.true ∙ c.if-self-i.true) in
+    let known = noted_known (take at.count at.numbers) c.args.q.0 c.place_from-i.result.0 c.place_from-i.ensures (omega (arith, size)) (get_or-take at.count at.numbers c.place_from-i.result.0 0 c.if-i-count.true ∙ c.if-self-i.true) in
     sym c.self.view_is ∙ known ∙ ap (insert c.args.q.0) c.self.view_is
 
-pub insert_at-requires : goal.insert_at-requires
-unfolding most_qubits
-insert_at-requires c =
+pub overflow_add-i : goal.overflow_add-i
+overflow_add-i c =
     let at = c.self.inside in
     let size = length-take-le at.count at.numbers (omega arith) in
-    (omega (arith, size, c.place_from-at.ensures, lower_le (take at.count at.numbers) c.args.q.0), omega (arith, size, ap length c.self.view_is, c.requires.0))
+    omega (arith, size, c.place_from-i.ensures, lower_le (take at.count at.numbers) c.args.q.0)
+
+pub copy_within-requires-clause-start_le_end : goal.copy_within-requires-clause-start_le_end
+copy_within-requires-clause-start_le_end c =
+    let at = c.self.inside in
+    let size = length-take-le at.count at.numbers (omega arith) in
+    omega (arith, size, c.place_from-i.ensures, lower_le (take at.count at.numbers) c.args.q.0)
+
+pub copy_within-requires-clause-dest_in_bounds : goal.copy_within-requires-clause-dest_in_bounds
+unfolding most_qubits
+copy_within-requires-clause-dest_in_bounds c =
+    let at = c.self.inside in
+    let size = length-take-le at.count at.numbers (omega arith) in
+    omega (arith, size, ap length c.self.view_is, c.requires.0, c.place_from-i.ensures, lower_le (take at.count at.numbers) c.args.q.0)
+
+pub offset_bounds-self-inside-i-2 : goal.offset_bounds-self-inside-i-2
+offset_bounds-self-inside-i-2 c =
+    let at = c.self.inside in
+    let size = length-take-le at.count at.numbers (omega arith) in
+    omega (arith, size, c.place_from-i.ensures, lower_le (take at.count at.numbers) c.args.q.0)
+
+pub bounds-self-inside-i-2 : goal.bounds-self-inside-i-2
+unfolding most_qubits
+bounds-self-inside-i-2 c =
+    let at = c.self.inside in
+    let size = length-take-le at.count at.numbers (omega arith) in
+    omega (arith, size, ap length c.self.view_is, c.requires.0, c.place_from-i.ensures, lower_le (take at.count at.numbers) c.args.q.0)
 
 pub overflow_add-result-2 : goal.overflow_add-result-2
 overflow_add-result-2 c =
     let at = c.self.inside in
     let size = length-take-le at.count at.numbers (omega arith) in
-    omega (arith, size, c.place_from-at.ensures, lower_le (take at.count at.numbers) c.args.q.0)
+    omega (arith, size, c.place_from-i.ensures, lower_le (take at.count at.numbers) c.args.q.0)
 
 pub invariant_of-self : goal.invariant_of-self
 unfolding most_qubits
@@ -33,7 +58,7 @@ invariant_of-self c =
     let size = length-take-le at.count at.numbers (omega arith) in
     let room : at.count + 1 ≤ 129 = omega (arith, size, ap length c.self.view_is, c.requires.0) in (
       room,
-      rw (c.insert_at.ensures, noted_new at.numbers at.count c.args.q.0 (omega (arith, room)) c.place_from-at.result.0 c.place_from-at.ensures (λ h e. elim c.if-i-count.branch [ then-i-count+else-self-i w ↦ w.if-self-i.false e | else-i-count w ↦ omega arith ])) (insert_rises 0 c.args.q.0 _ (omega arith) c.self.invariant.1),
+      rw (noted_moved at.numbers at.count c.args.q.0 (omega (arith, room)) c.place_from-i.result.0 c.place_from-i.ensures (λ h e. elim c.if-i-count.branch [ then-i-count+else-self-i w ↦ w.if-self-i.false e | else-i-count w ↦ omega arith ]) _ c.copy_within.ensures.after) (insert_rises 0 c.args.q.0 _ (omega arith) c.self.invariant.1),
     )
 
 pub returns-clause-known : goal.returns-clause-known
@@ -42,4 +67,4 @@ returns-clause-known c =
     let at = c.self.inside in
     let size = length-take-le at.count at.numbers (omega arith) in
     let room : at.count + 1 ≤ 129 = omega (arith, size, ap length c.self.view_is, c.requires.0) in
-    rw (c.insert_at.ensures, ← c.self.view_is) (noted_new at.numbers at.count c.args.q.0 (omega (arith, room)) c.place_from-at.result.0 c.place_from-at.ensures (λ h e. elim c.if-i-count.branch [ then-i-count+else-self-i w ↦ w.if-self-i.false e | else-i-count w ↦ omega arith ]))
+    rw (← c.self.view_is) (noted_moved at.numbers at.count c.args.q.0 (omega (arith, room)) c.place_from-i.result.0 c.place_from-i.ensures (λ h e. elim c.if-i-count.branch [ then-i-count+else-self-i w ↦ w.if-self-i.false e | else-i-count w ↦ omega arith ]) _ c.copy_within.ensures.after)
