@@ -4,4 +4,4 @@ use Rattle.closing_report.proofs.stored.StoredLaws.{lines}
 use Rattle.closing_report.proofs.stored.lines_length.Given as goal
 
 abbrev pub invariant-loop-i : goal.invariant-loop-i
-invariant-loop-i l = Measured lines l.w l.base l.m l.i l.total
+invariant-loop-i l = Measured lines l.results l.i l.total
