@@ -27,8 +27,8 @@ write_identity-requires c =
     let f = fits_true c.args.width c.args.rows c.args.cols (length c.args.w.now) (sym c.fits_in.ensures ∙ c.if-not-fits_in.false) in
     omega (arith, f)
 
-pub invariant_of-echelonize : goal.invariant_of-echelonize
-invariant_of-echelonize c =
+pub invariant_of-shape : goal.invariant_of-shape
+invariant_of-shape c =
     let f = fits_true c.args.width c.args.rows c.args.cols (length c.args.w.now) (sym c.fits_in.ensures ∙ c.if-not-fits_in.false) in
     omega (arith, f)
 
