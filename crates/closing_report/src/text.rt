@@ -32,10 +32,8 @@ pub(crate) fn put_number(out: &mut [u8], at: usize, n: usize) -> usize
     ensures { Put out.old at (digits n) out.new result }
 {
     let end = at + number_length(n);
-    let mut place = end;
     let mut rest = n;
-    while place > at {
-        place -= 1;
+    for place in (at..end).rev() {
         out[place] = b'0' + (rest % 10) as u8;
         rest /= 10;
     }
