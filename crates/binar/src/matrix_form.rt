@@ -18,12 +18,12 @@ fn unit_row(w: &mut [u64], at: usize, width: usize, stride: usize, i: usize)
 }
 
 // Writes the identity behind the first width words of the rows.
-fn write_identity(w: &mut [u64], width: usize, stride: usize, rows: usize)
-    requires { (rows * stride ≤ length w.old) × (width + (rows + 63) / 64 ≤ stride) }
-    ensures { w.new ≡ image stride (beside_identity (64 * width) 0 (matrix stride rows w.old)) (drop (rows * stride) w.old) }
+fn write_identity(w: &mut [u64], width: usize, shape: Layout)
+    requires { (shape.rows * shape.stride ≤ length w.old) × (width + (shape.rows + 63) / 64 ≤ shape.stride) }
+    ensures { w.new ≡ image shape.stride (beside_identity (64 * width) 0 (matrix shape.stride shape.rows w.old)) (drop (shape.rows * shape.stride) w.old) }
 {
-    for i in 0..rows {
-        unit_row(w, i * stride, width, stride, i);
+    for i in 0..shape.rows {
+        unit_row(w, i * shape.stride, width, shape.stride, i);
     }
 }
 
@@ -57,8 +57,9 @@ pub fn echelon_form(w: &mut [u64], width: usize, rows: usize, cols: usize) -> Op
         return None;
     }
     let stride = width + (rows + 63) / 64;
-    write_identity(w, width, stride, rows);
-    Some(echelonize(w, Layout { stride, rows, cols }))
+    let shape = Layout { stride, rows, cols };
+    write_identity(w, width, shape);
+    Some(echelonize(w, shape))
 }
 
 // Whether a set of rows sums to the target, the row at word at, by a form with rank pivots in the slice: adds each pivot row

@@ -1,9 +1,11 @@
 // Rows in a slice of words. A row is named by the word at which it starts and by how many words or columns of it count.
+// Two rows lie in one lent slice (TwoRows), and either may be the first: two slices would need a split by cases at each call.
 ghost use Rattle.std.specs.Prelude.{◌≡◌, ◌+◌, ◌/◌, ◌%◌, ◌^◌, ◌≤◌, ◌<◌, eqb, length, drop};
 ghost use Rattle.binar.specs.Row.{bit, weight, dot};
 ghost use Rattle.binar.specs.Words.{value, row_at, put_row, TwoRows};
 
-// The bit of column k of the row at word at.
+// The bit of column k of the row at word at. A number: `reduce` adds a row times this bit, since a branch on it would be guessed
+// wrong half of the time.
 pub fn index(w: &[u64], at: usize, k: usize) -> u64
     requires { at + k / 64 < length w.now }
     ensures { result ≡ bit (value (drop at w.now)) k }
@@ -33,7 +35,8 @@ pub fn weight(w: &[u64], at: usize, n: usize) -> usize
     total
 }
 
-// 1 where the rows of n words at words i and j share an odd number of ones, else 0. A loop: for a chain the check found no proof.
+// 1 where the rows of n words at words i and j share an odd number of ones, else 0: a number, to be added without a branch, as
+// `index` is. A loop: for a chain the check found no proof.
 pub fn dot(w: &[u64], i: usize, j: usize, n: usize) -> u64
     requires { (i + n ≤ length w.now) × (j + n ≤ length w.now) }
     ensures { result ≡ dot (row_at w.now i n) (row_at w.now j n) }

@@ -24,7 +24,7 @@ fn add_row<const N: usize>(w: &mut [u64], to: usize, from: usize, bit: u64)
     w[to..to + N].copy_from_slice(&sums);
 }
 
-// Adds n words of a row to those of another, if bit is 1.
+// Adds n words of a row to those of another, if bit is 1. Not by `add_row`: n is no constant.
 fn add_words(w: &mut [u64], to: usize, from: usize, n: usize, bit: u64)
     requires { TwoRows w.old to from n × (bit ≤ 1) }
     ensures { w.new ≡ put_row w.old to n (row_at w.old to n ⊕ bit * row_at w.old from n) }

@@ -1,6 +1,6 @@
 // The calls on one list. Each lends a work area.
 ghost use Rattle.std.specs.Prelude.{length};
-ghost use Rattle.pauli_group.specs.Calls.{one_list, standard_generators as standard_generators_spec, rank_call, phases_call, abelian_call, stabilizer_call, size_call, question, factorization_call, symplectic_call, elements_call};
+ghost use Rattle.pauli_group.specs.Calls.{one_list, standard_generators, rank_call, phases_call, abelian_call, stabilizer_call, size_call, question, factorization_call, symplectic_call, elements_call};
 ghost use Rattle.factorizations.specs.Calls.{questions, factorizations_call};
 ghost use Rattle.capi.specs.Code.{code_number, code_phases};
 ghost use Rattle.pauli_group.specs.Promises.{promise_numbered};
@@ -22,7 +22,7 @@ pub extern "C" fn howhiruke_standard_generators(
     work: &mut [u64],
     out: &mut [u8],
 ) -> Answer
-    ensures { Listing (standard_generators_spec roll.now (length work.old)) (one_list roll.now (length work.old)) work.old out.old result work.new out.new }
+    ensures { Listing (standard_generators roll.now (length work.old)) (one_list roll.now (length work.old)) work.old out.old result work.new out.new }
 {
     let wrote = standard_generators(roll, work, out);
     code_number(wrote)

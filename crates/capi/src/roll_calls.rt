@@ -2,7 +2,7 @@
 ghost use Rattle.std.specs.Prelude.{◌≡◌, ◌<◌};
 ghost use Rattle.pauli.specs.Roll.{count_of};
 ghost use Rattle.pauli.specs.Told.{answer};
-ghost use Rattle.pauli.specs.JoinCalls.{product_of, join_of, entry_of, stretch_in as stretch_in_spec};
+ghost use Rattle.pauli.specs.JoinCalls.{product_of, join_of, entry_of, stretch_in};
 ghost use Rattle.capi.specs.Code.{code_number, code_looked, code_body};
 ghost use Rattle.capi.specs.CallContracts.{Writing, Locating};
 
@@ -59,7 +59,7 @@ pub extern "C" fn howhiruke_joined_entry(left: &[u8], right: &[u8], n: usize) ->
 // Where the body of Pauli i of a roll stands in it; side is 0 for the left roll and 1 for the right one.
 fn stretch_in(side: usize, roll: Roll, i: usize) -> Answer
     requires { i < roll.count }
-    ensures { result ≡ code_body (answer (stretch_in_spec side roll.entry.bytes.now i)) }
+    ensures { result ≡ code_body (answer (stretch_in side roll.entry.bytes.now i)) }
 {
     let e = roll.entry(i);
     code_values(

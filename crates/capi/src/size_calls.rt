@@ -1,7 +1,7 @@
 // The calls that tell sizes before the work.
 ghost use Rattle.std.specs.Prelude.{◌≡◌, length};
 ghost use Rattle.pauli_group.specs.Calls.{one_list};
-ghost use Rattle.sizes.specs.Calls.{joined_sizes as joined_sizes_spec, standard_bound as standard_bound_spec, page_call};
+ghost use Rattle.sizes.specs.Calls.{joined_sizes, standard_bound, page_call};
 ghost use Rattle.capi.specs.Code.{code_number, code_sizes};
 ghost use Rattle.pauli_group.specs.Promises.{promise_numbered};
 ghost use Rattle.capi.specs.CallContracts.{Telling};
@@ -15,7 +15,7 @@ use sizes::page::page_size;
 // How large the joined roll is.
 #[unsafe(no_mangle)]
 pub extern "C" fn howhiruke_joined_sizes(left: &[u8], right: &[u8]) -> Answer
-    ensures { result ≡ code_sizes (joined_sizes_spec left.now right.now) }
+    ensures { result ≡ code_sizes (joined_sizes left.now right.now) }
 {
     let found = joined_sizes(left, right);
     code_sizes(found)
@@ -24,7 +24,7 @@ pub extern "C" fn howhiruke_joined_sizes(left: &[u8], right: &[u8]) -> Answer
 // The length that the standard roll of a list cannot exceed.
 #[unsafe(no_mangle)]
 pub extern "C" fn howhiruke_standard_bound(roll: &[u8]) -> Answer
-    ensures { result ≡ code_number (standard_bound_spec roll.now) }
+    ensures { result ≡ code_number (standard_bound roll.now) }
 {
     let found = standard_bound(roll);
     code_number(found)

@@ -112,11 +112,11 @@ fn print_rows<W: Write>(out: &mut W, w: &[u64], width: usize, shape: Layout) -> 
 // ---- targets, in the row at word at behind the pivots
 
 // Adds rows 0, 2, 4, .. to the target.
-fn add_even_rows(w: &mut [u64], stride: usize, rows: usize, at: usize)
-    requires { (rows * stride + rows ≤ at) × (at + stride ≤ length w.old) }
+fn add_even_rows(w: &mut [u64], shape: Layout, at: usize)
+    requires { (shape.rows * shape.stride + shape.rows ≤ at) × (at + shape.stride ≤ length w.old) }
 {
-    for i in (0..rows).step_by(2) {
-        bitxor_assign(w, at, i * stride, stride);
+    for i in (0..shape.rows).step_by(2) {
+        bitxor_assign(w, at, i * shape.stride, shape.stride);
     }
 }
 
@@ -172,29 +172,21 @@ fn print_solution<W: Write>(
 }
 
 // Prints all that is said of the matrix at the front of w. Its T words and the target's row are zero at entry.
-fn print_form<W: Write>(
-    out: &mut W,
-    w: &mut [u64],
-    width: usize,
-    rows: usize,
-    cols: usize,
-) -> io::Result<()>
-    requires { Room width rows cols (length w.old) }
+fn print_form<W: Write>(out: &mut W, w: &mut [u64], width: usize, shape: Layout) -> io::Result<()>
+    requires { Room width shape.rows shape.cols (length w.old) × (shape.stride ≡ width + (shape.rows + 63) / 64) }
 {
-    let stride = width + (rows + 63) / 64;
-    let behind = rows * stride;
-    let at = behind + rows;
-    add_even_rows(w, stride, rows, at);
-    let Some(rank) = echelon_form(w, width, rows, cols) else {
+    let behind = shape.rows * shape.stride;
+    let at = behind + shape.rows;
+    add_even_rows(w, shape, at);
+    let Some(rank) = echelon_form(w, width, shape.rows, shape.cols) else {
         return out.write_all(b"misfit\n");
     };
-    let shape = Layout { stride, rows, cols };
-    print_head(out, rows, cols, &w[behind..behind + rank])?;
+    print_head(out, shape.rows, shape.cols, &w[behind..behind + rank])?;
     print_rows(out, w, width, shape)?;
     print_solution(out, w, width, shape, rank, at)?;
-    if rank < cols {
+    if rank < shape.cols {
         let free = free_column(&w[behind..behind + rank]);
-        set_unit(w, at, stride, free);
+        set_unit(w, at, shape.stride, free);
         print_solution(out, w, width, shape, rank, at)?;
     }
     Ok(())
@@ -213,11 +205,15 @@ fn read_row(w: &mut [u64], at: usize, digits: &[u8])
     }
 }
 
-fn read_rows(w: &mut [u64], stride: usize, rows: usize, cols: usize, text: &[u8])
-    requires { (rows * stride ≤ length w.old) × (rows * cols ≤ length text.now) × (cols ≤ 64 * stride) }
+fn read_rows(w: &mut [u64], shape: Layout, text: &[u8])
+    requires { (shape.rows * shape.stride ≤ length w.old) × (shape.rows * shape.cols ≤ length text.now) }
 {
-    for i in 0..rows {
-        read_row(w, i * stride, &text[i * cols..i * cols + cols]);
+    for i in 0..shape.rows {
+        read_row(
+            w,
+            i * shape.stride,
+            &text[i * shape.cols..i * shape.cols + shape.cols],
+        );
     }
 }
 
@@ -232,8 +228,10 @@ fn given<W: Write>(
     requires { Room width rows cols 2048 × (rows * cols ≤ length text.now) }
 {
     let mut w = [0u64; 2048];
-    read_rows(&mut w, width + (rows + 63) / 64, rows, cols, text);
-    print_form(out, &mut w, width, rows, cols)
+    let stride = width + (rows + 63) / 64;
+    let shape = Layout { stride, rows, cols };
+    read_rows(&mut w, shape, text);
+    print_form(out, &mut w, width, shape)
 }
 
 // A linear congruential generator of pseudo-random bits: the highest bit of each state.
@@ -255,14 +253,14 @@ impl Generator {
 }
 
 // Rows of pseudo-random bits.
-fn random_rows(w: &mut [u64], stride: usize, rows: usize, cols: usize, seed: u32)
-    requires { (rows * stride ≤ length w.old) × (cols ≤ 64 * stride) }
+fn random_rows(w: &mut [u64], shape: Layout, seed: u32)
+    requires { shape.rows * shape.stride ≤ length w.old }
 {
     let mut generator = Generator::new(seed);
-    for i in 0..rows {
-        for k in 0..cols {
+    for i in 0..shape.rows {
+        for k in 0..shape.cols {
             if generator.bit() {
-                flip(w, i * stride, k);
+                flip(w, i * shape.stride, k);
             }
         }
     }
@@ -278,8 +276,10 @@ fn random<W: Write>(
     requires { Room width rows cols 2048 }
 {
     let mut w = [0u64; 2048];
-    random_rows(&mut w, width + (rows + 63) / 64, rows, cols, seed);
-    print_form(out, &mut w, width, rows, cols)
+    let stride = width + (rows + 63) / 64;
+    let shape = Layout { stride, rows, cols };
+    random_rows(&mut w, shape, seed);
+    print_form(out, &mut w, width, shape)
 }
 
 // Adds to row half + i the rows i and half - 1 - i, for each i below half.
@@ -295,9 +295,11 @@ fn add_sums(w: &mut [u64], stride: usize, half: usize)
 // 128 rows of 256 columns, the second half sums of rows of the first.
 fn repeated<W: Write>(out: &mut W, seed: u32) -> io::Result<()> {
     let mut w = [0u64; 2048];
-    random_rows(&mut w, 6, 64, 256, seed);
-    add_sums(&mut w, 6, 64);
-    print_form(out, &mut w, 4, 128, 256)
+    let (stride, rows, cols) = (6, 64, 256);
+    random_rows(&mut w, Layout { stride, rows, cols }, seed);
+    add_sums(&mut w, stride, rows);
+    let rows = rows + rows;
+    print_form(out, &mut w, 4, Layout { stride, rows, cols })
 }
 
 fn main(rt: HostRuntime) -> io::Result<()> {

@@ -32,7 +32,8 @@ fn is_allowed(request: &[u8; 28]) -> bool {
     request[1] <= 2 && request[2] <= 2 && request[3] > 0
 }
 
-// Reads until the slice is full or the input ends, and tells how many bytes were read.
+// Reads until the slice is full or the input ends, and tells how many bytes were read. Also in report: a library of twelve lines for
+// two programs is no plainer.
 fn read_full<R: Read>(from: &mut R, bytes: &mut [u8]) -> io::Result<usize>
     ensures { IfOk result (λ n. n ≤ length bytes.new) }
 {

@@ -1,7 +1,7 @@
 // The call for the size of a page.
 ghost use Rattle.std.specs.Prelude.{◌≡◌, ◌-◌, ◌*◌, ◌/◌, ◌^◌, ◌≤◌, ◌<◌, min, nat_lt};
 ghost use Rattle.pauli.specs.Told.{answer, refuse_if};
-ghost use Rattle.pauli_theory.specs.Listing.{page_size as page_size_spec};
+ghost use Rattle.pauli_theory.specs.Listing.{page_size};
 ghost use Rattle.pauli_group.specs.Calls.{most_listed};
 ghost use Rattle.pauli_group.specs.Promises.{promise_of};
 ghost use Rattle.pauli_group.specs.Inner.Lists.{step_told};
@@ -16,7 +16,7 @@ use pauli_group::promise::Promise;
 
 // How many elements a page holds of a group of this rank and these phases.
 fn page_of(rank: usize, phases: Phases, start: u32, count: u32) -> Result<usize, Refusal>
-    ensures { told_of result ≡ refuse_if (nat_lt most_listed rank) 10 0 (answer (min (page_size_spec count) (2 ^ rank * (4 / step_told phases) - start))) }
+    ensures { told_of result ≡ refuse_if (nat_lt most_listed rank) 10 0 (answer (min (page_size count) (2 ^ rank * (4 / step_told phases) - start))) }
 {
     if rank > MOST_LISTED {
         return Err(Reason::Listing.into());

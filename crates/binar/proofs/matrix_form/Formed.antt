@@ -11,7 +11,7 @@ use lib.Dec.{leb}
 use lib.ListN.{length, drop}
 use lib.Pow.{pow_pos, pow-add, pow-lt}
 use lib.Seq.{drop-drop}
-use Rattle.std.proofs.Common.{Some, None, ◌&&◌}
+use Rattle.std.proofs.Common.{Some, ◌&&◌}
 use Rattle.binar.specs.Words.{matrix, image}
 use Rattle.binar.specs.Echelon.{echelonize, beside_identity}
 use Rattle.binar.specs.Layout.{form_stride, fits, formed, FormIs}
@@ -101,6 +101,3 @@ module _ (l : List ℕ) (width n cols : ℕ) (fit : fits width n cols (length l)
       told = rw fit (ap Some (k ∙ ap (λ (A : List ℕ). length (echelonize cols A).pivots) rows));
       left = rw fit (h ∙ left_is);
     }
-
-pub form_not : (l : List ℕ) (width n cols : ℕ) → fits width n cols (length l) ≡ false → FormIs l width n cols None l
-form_not l width n cols e = record { told = rw e; left = rw e }

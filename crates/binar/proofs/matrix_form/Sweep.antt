@@ -11,7 +11,7 @@ use lib.Dec.{eqb}
 use lib.Pow.{mod-mod-pow}
 use lib.Seq.{drop-cons, take_at, drop_at, drop-append-add, length-take-le, get_or-take, get_or-drop}
 use Rattle.binar.specs.Row.{◌⊕◌, bit}
-use Rattle.binar.specs.Words.{value, words, row_at, put_row, matrix, TwoRows}
+use Rattle.binar.specs.Words.{value, words, row_at, put_row, matrix}
 use Rattle.binar.specs.Echelon.{clear}
 use Rattle.binar.specs.Solve.{sweep}
 use Rattle.binar.specs.Layout.{FormLeft, swept, SolutionIs}
@@ -119,9 +119,6 @@ module _ (l : List ℕ) (s n cols rank place : ℕ) (f : AreWords l) (S : FormLe
       pivot_row =
           ap (λ (t : List ℕ). row_at t (k * s) s) e ∙ row_put_before l place s v (k * s) s S.target before_target
           ∙ sym (matrix_row s n l k (omega (arith, S.rows)))
-
-      pub target_rows : TwoRows w place (k * s) s
-      target_rows = record { first = omega (arith, S.target); second = omega (arith, S.target, before_target); apart = inr (inr before_target) }
 
       small : v < 2 ^ (64 * s)
       small = row_lt w place s are_words (omega (arith, S.target))

@@ -182,9 +182,6 @@ module _ (l : List ℕ) (f : AreWords l) where
 pub one_shifted : (k : ℕ) → k < 64 → 1 * 2 ^ k % 2 ^ 64 ≡ 2 ^ k
 one_shifted k h = shl_exact {a = 1} 1 k 64 (omega arith) (omega arith) ∙ omega arith
 
-pub weight_start : (l : List ℕ) (i n : ℕ) → weight (row_at l i n) ≡ 0 + weight (row_at l (i + 0) (n - 0))
-weight_start l i n = simp (add-zero, sub-zero, zero-add)
-
 pub weight_step : (l : List ℕ) (i n k s : ℕ) → k < n → i + k < length l → AreWords l
     → s + weight (row_at l (i + k) (n - k)) ≡ s + ones (get_or l (i + k) 0) + weight (row_at l (i + (k + 1)) (n - (k + 1)))
 weight_step l i n k s h b f =

@@ -3,7 +3,7 @@ use mathlib.Core.Path.{◌≡◌, refl, sym, ap, ap₂, ◌∙◌, subst}
 use mathlib.Core.Logic.{◌⊎◌, inl, inr, ⊎_elim}
 use mathlib.Core.List.{List, [], ◌∷◌, ◌++◌, append_assoc}
 use Prim.Native.Nat.{ℕ, zero, suc, ◌+◌, ◌-◌, ◌*◌, ◌/◌, ◌%◌, ◌^◌, ◌≤◌, ◌<◌}
-use native.Mathlib.Nat.{add-zero, add_assoc, sub-zero, mul-add, mul_assoc, one-mul, mul-le-mul_right}
+use native.Mathlib.Nat.{add-zero, add_assoc, mul-add, mul_assoc, one-mul, mul-le-mul_right}
 use native.Mathlib.Numerals.{add-one}
 use native.Mathlib.Omega.{arith}
 use native.Mathlib.Decide.{dec_lt}
@@ -224,12 +224,6 @@ module _ (l : List ℕ) (i j n k : ℕ) (h : k < n) (t : TwoRows l (i + k) (j + 
     pub exchanged_step : exchanged l (i + k) (j + k) (n - k)
         ≡ exchanged (set (set l (i + k) (get_or l (j + k) 0)) (j + k) (get_or l (i + k) 0)) (i + (k + 1)) (j + (k + 1)) (n - (k + 1))
     exchanged_step = by_step exchanged _ (exchanged_next l (i + k) (j + k) (n - (k + 1)) f two_here)
-
-pub two_start : (l : List ℕ) (i j n : ℕ) → TwoRows l i j n → TwoRows l (i + 0) (j + 0) (n - 0)
-two_start l i j n t = simp (add-zero, sub-zero) t
-
-pub by_start : (F : List ℕ → ℕ → ℕ → ℕ → List ℕ) (l : List ℕ) (i j n : ℕ) → F l i j n ≡ F l (i + 0) (j + 0) (n - 0)
-by_start F l i j n = simp (add-zero, sub-zero)
 
 -- nothing is left
 module _ (l : List ℕ) (i j n k : ℕ) (h : n ≤ k) where

@@ -1,20 +1,11 @@
 use Prim.Native.Nat.{◌+◌, ◌*◌, ◌<◌, ◌≤◌}
-use Rattle.binar.proofs.echelon.Matrix.{row_in, two_rows}
+use Rattle.binar.proofs.echelon.Matrix.{two_rows}
 use Rattle.binar.proofs.echelon.Passes.{final_start, total_start, final_stop, total_stop, stops, turn_words, final_turn, total_turn}
 use Rattle.binar.proofs.row.Slice.{exchanged}
 use lib.ListN.{length, length-set}
-use mathlib.Core.Path.{refl, sym, ◌∙◌}
+use mathlib.Core.Path.{sym, ◌∙◌}
 use native.Mathlib.Omega.{arith}
 use Rattle.binar.proofs.echelon.echelonize.Goals as goal
-
-pub loop-found-init : goal.loop-found-init
-loop-found-init c = (omega arith, omega arith, refl, (λ q. (c.type_inv.w q).fits), refl, refl)
-
-pub overflow_mul-found : goal.overflow_mul-found
-overflow_mul-found c = omega (arith, row_in c.in-Some.found.row c.args.shape.rows c.args.shape.stride c.in-Some.ensures.inside.1)
-
-pub overflow_mul-pivot : goal.overflow_mul-pivot
-overflow_mul-pivot c = omega (arith, c.in-Some.ensures.inside, row_in c.loop-found.next.row c.args.shape.rows c.args.shape.stride (omega (arith, c.in-Some.ensures.inside)))
 
 pub swap_rows-requires : goal.swap_rows-requires
 swap_rows-requires c = two_rows _ _ _ _ _ (omega arith) c.in-Some.ensures.inside.1 (omega (arith, c.in-Some.ensures.inside))

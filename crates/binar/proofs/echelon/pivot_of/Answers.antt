@@ -1,4 +1,4 @@
-use Rattle.binar.proofs.echelon.Matrix.{cell_bit, row_in, length_matrix}
+use Rattle.binar.proofs.echelon.Matrix.{cell_bit, length_matrix}
 use Rattle.binar.proofs.echelon.Search.{row_hit, row_miss, row_end, col_next, col_end}
 use Rattle.binar.specs.Echelon.{pivot_of}
 use mathlib.Core.Path.{refl, sym, ◌∙◌}
@@ -11,12 +11,6 @@ loop-col-init c = refl
 
 pub loop-row-init : goal.loop-row-init
 loop-row-init c = c.loop-col.invariant ∙ col_next _ _ _ _ c.loop-col-test.true
-
-pub overflow_mul-row : goal.overflow_mul-row
-overflow_mul-row c = omega (arith, row_in c.loop-row.row c.args.shape.rows c.args.shape.stride c.loop-row-test.true)
-
-pub index-requires : goal.index-requires
-index-requires c = omega (arith, row_in c.loop-row.row c.args.shape.rows c.args.shape.stride c.loop-row-test.true)
 
 pub loop-row-preserved : goal.loop-row-preserved
 loop-row-preserved c = c.loop-row.invariant ∙ row_miss _ _ _ _ (rw (length_matrix _ _ _) c.loop-row-test.true) (λ e. c.if-index-eq1.false (c.index.ensures ∙ cell_bit _ _ _ _ _ (λ q. (c.type_inv.w q).fits) c.requires c.loop-row-test.true (omega arith) ∙ e))

@@ -1,5 +1,5 @@
 use Prim.Native.Nat.{ℕ, ◌*◌, ◌<◌}
-use Rattle.binar.proofs.echelon.Matrix.{row_in, two_rows}
+use Rattle.binar.proofs.echelon.Matrix.{two_rows}
 use Rattle.binar.proofs.echelon.Others.{cleared, length_cleared, clear_add, clear_pivot}
 use Rattle.binar.proofs.echelon.RowByRow.{rewritten_none, rewritten_all, bit_here}
 use Rattle.binar.proofs.row.Bits.{bit_lt}
@@ -16,18 +16,6 @@ pub loop-i-init : goal.loop-i-init
 loop-i-init c =
     let known : AreWords c.args.w.now = λ q. (c.type_inv.w q).fits in
     (known, refl, rewritten_none _ _ _ _ known c.requires.0 (length_cleared _ _ _ _ _))
-
-pub overflow_mul-i : goal.overflow_mul-i
-overflow_mul-i c = omega (arith, row_in c.loop-i.i c.args.shape.rows c.args.shape.stride c.loop-i-test.true)
-
-pub index-bit-requires : goal.index-bit-requires
-index-bit-requires c = omega (arith, row_in c.loop-i.i c.args.shape.rows c.args.shape.stride c.loop-i-test.true)
-
-pub overflow_mul-i-then-i-pivot : goal.overflow_mul-i-then-i-pivot
-overflow_mul-i-then-i-pivot c = omega (arith, row_in c.loop-i.i c.args.shape.rows c.args.shape.stride c.loop-i-test.true)
-
-pub overflow_mul-pivot : goal.overflow_mul-pivot
-overflow_mul-pivot c = omega (arith, row_in c.args.pivot.row c.args.shape.rows c.args.shape.stride c.requires.1)
 
 pub add_if-requires : goal.add_if-requires
 add_if-requires c = (two_rows _ _ _ _ _ (omega arith) c.loop-i-test.true c.requires.1, omega (arith, c.index-bit.ensures, bit_lt (value (drop (c.loop-i.i * c.args.shape.stride) c.loop-i.w)) c.args.pivot.col))

@@ -1,13 +1,10 @@
 -- What the test for the shape tells is what the two steps ask.
-use Rattle.binar.proofs.matrix_form.Formed.{fits_true, stride_counts, form_is, form_not}
+use Rattle.binar.proofs.matrix_form.Formed.{fits_true, stride_counts, form_is}
 use Rattle.binar.specs.Layout.{form_stride}
 use lib.ListN.{length}
 use mathlib.Core.Path.{sym, ◌∙◌}
 use native.Mathlib.Omega.{arith}
 use Rattle.binar.proofs.matrix_form.echelon_form.Goals as goal
-
-pub returns-then-not-fits_in : goal.returns-then-not-fits_in
-returns-then-not-fits_in c = form_not c.args.w.now c.args.width c.args.rows c.args.cols (sym c.fits_in.ensures ∙ c.if-not-fits_in.true)
 
 pub overflow_add-stride : goal.overflow_add-stride
 unfolding form_stride
@@ -27,8 +24,8 @@ write_identity-requires c =
     let f = fits_true c.args.width c.args.rows c.args.cols (length c.args.w.now) (sym c.fits_in.ensures ∙ c.if-not-fits_in.false) in
     omega (arith, f)
 
-pub invariant_of-echelonize : goal.invariant_of-echelonize
-invariant_of-echelonize c =
+pub invariant_of-shape : goal.invariant_of-shape
+invariant_of-shape c =
     let f = fits_true c.args.width c.args.rows c.args.cols (length c.args.w.now) (sym c.fits_in.ensures ∙ c.if-not-fits_in.false) in
     omega (arith, f)
 

@@ -1,6 +1,5 @@
 use Prim.Native.Nat.{ℕ, ◌+◌}
-use Rattle.binar.proofs.echelon.Matrix.{row_in}
-use Rattle.binar.proofs.matrix_form.Sweep.{swept_from, from_start, from_end, pivot_inside, target_bit, target_rows, skip, added_row, added_from, ends, start_row}
+use Rattle.binar.proofs.matrix_form.Sweep.{swept_from, from_start, from_end, pivot_inside, target_bit, skip, added_row, added_from, ends, start_row}
 use Rattle.binar.specs.Words.{row_at, put_row}
 use mathlib.Core.List.{List}
 use mathlib.Core.Path.{refl, sym, ap, ◌∙◌}
@@ -16,12 +15,6 @@ loop-k-init c =
 
 pub index-requires : goal.index-requires
 index-requires c = omega (arith, c.requires.wide, c.requires.target, c.loop-k.invariant.1, pivot_inside _ _ _ _ _ _ c.loop-k.invariant.0 c.requires _ c.loop-k-test.true _ c.loop-k.invariant.1 c.loop-k.invariant.2)
-
-pub overflow_mul-k : goal.overflow_mul-k
-overflow_mul-k c = omega (arith, row_in c.loop-k.k c.args.shape.rows c.args.shape.stride (omega (arith, c.loop-k-test.true, c.requires.rows)), c.requires.pivots, c.requires.target)
-
-pub bitxor_assign-requires : goal.bitxor_assign-requires
-bitxor_assign-requires c = target_rows _ _ _ _ _ _ c.loop-k.invariant.0 c.requires _ c.loop-k-test.true _ c.loop-k.invariant.1 c.loop-k.invariant.2
 
 pub loop-k-preserved : goal.loop-k-preserved
 loop-k-preserved c =

@@ -1,5 +1,5 @@
 use Rattle.binar.proofs.matrix_form.Identity.{beside_eq}
-use Rattle.binar.proofs.echelon.Matrix.{row_in, length_matrix}
+use Rattle.binar.proofs.echelon.Matrix.{length_matrix}
 use Rattle.binar.proofs.echelon.RowByRow.{rewritten_none, rewritten_all, rewritten_row, row_here}
 use Rattle.binar.proofs.echelon.Transform.{beside_length}
 use Rattle.binar.proofs.row.Slice.{AreWords}
@@ -12,12 +12,6 @@ loop-i-init c =
     let known : AreWords c.args.w.now = λ q. (c.type_inv.w q).fits in
     (known, refl, rewritten_none _ _ _ _ known c.requires.0 (beside_length _ 0 _ ∙ length_matrix _ _ _))
 
-pub overflow_mul-i : goal.overflow_mul-i
-overflow_mul-i c = omega (arith, row_in c.loop-i.i c.args.rows c.args.stride c.loop-i-test.true)
-
-pub unit_row-requires : goal.unit_row-requires
-unit_row-requires c = omega (arith, row_in c.loop-i.i c.args.rows c.args.stride c.loop-i-test.true)
-
 pub loop-i-preserved : goal.loop-i-preserved
 loop-i-preserved c =
     let known = c.loop-i.invariant.0 in
@@ -27,7 +21,7 @@ loop-i-preserved c =
       c.unit_row.auto.w ∙ c.loop-i.invariant.1,
       c.unit_row.ensures
           ∙ rewritten_row _ _ _ _ known c.requires.0 (beside_length _ 0 _ ∙ length_matrix _ _ _) _ here _ done _
-          (beside_eq c.loop-i.i c.args.width c.args.stride c.args.rows c.args.w.now _ here (row_here _ _ _ _ known c.requires.0 (beside_length _ 0 _ ∙ length_matrix _ _ _) _ here _ done)),
+          (beside_eq c.loop-i.i c.args.width c.args.shape.stride c.args.shape.rows c.args.w.now _ here (row_here _ _ _ _ known c.requires.0 (beside_length _ 0 _ ∙ length_matrix _ _ _) _ here _ done)),
     )
 
 pub returns : goal.returns

@@ -12,4 +12,4 @@ abbrev pub invariant-loop-i : goal.invariant-loop-i
 invariant-loop-i l =
     AreWords l.initial.w
     × (length l.w ≡ length l.initial.w)
-    × (l.w ≡ rewritten l.initial.w l.stride l.rows (beside_identity (64 * l.width) 0 (matrix l.stride l.rows l.initial.w)) l.i)
+    × (l.w ≡ rewritten l.initial.w l.shape.stride l.shape.rows (beside_identity (64 * l.width) 0 (matrix l.shape.stride l.shape.rows l.initial.w)) l.i)

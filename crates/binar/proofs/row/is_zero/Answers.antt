@@ -1,15 +1,11 @@
 -- The whole words, as the chain tells of them, and the columns of the word behind them.
 use Rattle.std.proofs.Common.{rules, ℕ, ◌≡◌, ◌+◌, ◌-◌, ◌/◌, ◌%◌, ◌↔◌, Bool, List, get_or, take, drop, IsTrue, EachIndex, sym, ◌∙◌, arith}
-use lib.Pow.{pow_pos}
 use Rattle.binar.proofs.row.Scan.{zero_from, one_shifted, zero_split, zero_none, zero_last}
 use Rattle.binar.proofs.row.is_zero.Goals as goal
 
 -- what the chain tells
 abbrev Tells : Bool → List ℕ → ℕ → ℕ → Type 0
 Tells b l i c = IsTrue b ↔ EachIndex (take (i + c / 64 - i) (drop i l)) (λ k. get_or (take (i + c / 64 - i) (drop i l)) k 0 ≡ 0)
-
-pub nonzero_rem-result-else-cols-eq0 : goal.nonzero_rem-result-else-cols-eq0
-nonzero_rem-result-else-cols-eq0 c = rw (one_shifted (c.args.cols % 64) (omega arith)) (pow_pos _)
 
 pub returns-else-all : goal.returns-else-all
 unfolding zero_from

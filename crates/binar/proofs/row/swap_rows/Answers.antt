@@ -1,11 +1,8 @@
 use Rattle.std.proofs.lemmas.List.Edits.{swap_is}
-use Rattle.binar.proofs.row.Slice.{exchanged, exchanged_step, exchanged_none, two_step_both, two_start, by_start}
+use Rattle.binar.proofs.row.Slice.{exchanged, exchanged_step, exchanged_none, two_step_both}
 use mathlib.Core.Path.{sym, ◌∙◌}
 use native.Mathlib.Omega.{arith}
 use Rattle.binar.proofs.row.swap_rows.Goals as goal
-
-pub loop-k-init : goal.loop-k-init
-loop-k-init c = ((λ q. (c.type_inv.w q).fits), two_start _ _ _ _ c.requires, by_start exchanged _ _ _ _)
 
 pub loop-k-preserved : goal.loop-k-preserved
 loop-k-preserved c =

@@ -1,18 +1,9 @@
 use Prim.Native.Nat.{◌+◌}
-use Rattle.binar.proofs.row.Scan.{weight_start, weight_step, weight_none}
+use Rattle.binar.proofs.row.Scan.{weight_step, weight_none}
 use lib.Count.{ones-le}
 use mathlib.Core.Path.{sym, ◌∙◌}
 use native.Mathlib.Omega.{arith}
 use Rattle.binar.proofs.row.weight.Goals as goal
-
-pub loop-k-init : goal.loop-k-init
-loop-k-init c = (omega arith, omega arith, weight_start _ _ _)
-
-pub overflow_cast-total : goal.overflow_cast-total
-overflow_cast-total c = omega (arith, ones-le 64 _ (c.type_inv.w (c.args.at + c.loop-k.k)).fits)
-
-pub overflow_add-total-in-loop-k : goal.overflow_add-total-in-loop-k
-overflow_add-total-in-loop-k c = omega (arith, ones-le 64 _ (c.type_inv.w (c.args.at + c.loop-k.k)).fits)
 
 pub loop-k-preserved : goal.loop-k-preserved
 loop-k-preserved c = (omega arith, omega (arith, ones-le 64 _ (c.type_inv.w (c.args.at + c.loop-k.k)).fits), c.loop-k.invariant.2 ∙ weight_step _ _ _ _ _ c.loop-k-test.true (omega arith) (λ q. (c.type_inv.w q).fits))

@@ -1,11 +1,8 @@
 use Rattle.std.proofs.Common.{◌≢◌, ◌<◌, length, ◌∙◌, arith, below_more, get_or-set_same, get_or-set_other}
-use lib.ListN.{length-set, length-replicate}
+use lib.ListN.{length-set}
 use Rattle.binar.proofs.row.Slice.{sum_words, put_part}
 use Rattle.binar.specs.Row.{◌⊕◌}
 use Rattle.binar.proofs.sum.add_row.Goals as goal
-
-pub loop-k-init : goal.loop-k-init
-loop-k-init g c = ((λ q. (c.type_inv.w q).fits), length-replicate g.row.N 0, λ k h. absurd (omega arith))
 
 pub loop-k-preserved : goal.loop-k-preserved
 unfolding ◌⊕◌

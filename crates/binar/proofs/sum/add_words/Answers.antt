@@ -1,11 +1,8 @@
-use Rattle.binar.proofs.row.Slice.{added_step, added_none, two_step, two_start, by_start, words_set, added}
+use Rattle.binar.proofs.row.Slice.{added_step, added_none, two_step, words_set, added}
 use Rattle.binar.specs.Row.{◌⊕◌}
 use mathlib.Core.Path.{sym, ◌∙◌}
 use native.Mathlib.Omega.{arith}
 use Rattle.binar.proofs.sum.add_words.Goals as goal
-
-pub loop-k-init : goal.loop-k-init
-loop-k-init c = ((λ q. (c.type_inv.w q).fits), two_start _ _ _ _ c.requires.0, by_start (added _) _ _ _ _)
 
 pub loop-k-preserved : goal.loop-k-preserved
 unfolding ◌⊕◌

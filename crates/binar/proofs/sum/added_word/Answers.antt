@@ -1,13 +1,9 @@
-use native.Mathlib.Nat.{mul-le-mul_right}
 use lib.Bits.{bit_xor}
 use mathlib.Core.Path.{ap}
 use native.Mathlib.Omega.{arith}
 use Rattle.binar.proofs.row.Bits.{masked}
 use Rattle.binar.specs.Row.{◌⊕◌}
 use Rattle.binar.proofs.sum.added_word.Goals as goal
-
-pub overflow_mul-result : goal.overflow_mul-result
-overflow_mul-result c = omega (arith, mul-le-mul_right 18446744073709551615 c.requires)
 
 pub returns : goal.returns
 unfolding ◌⊕◌

@@ -8,6 +8,3 @@ use Rattle.closing_report.proofs.text.put_number.Given as goal
 
 abbrev pub invariant-loop-place : goal.invariant-loop-place
 invariant-loop-place l = Spelled l.initial.out l.at l.n l.place l.rest l.out × (l.end ≡ l.at + length (digits l.n))
-
-abbrev pub decreases-loop-place : goal.decreases-loop-place
-decreases-loop-place l = l.place
