@@ -149,7 +149,7 @@ insert_there q (r ∷ rs) h e =
     insert_above q r rs above ∙ ap (λ m. r ∷ m) (insert_there q rs (omega (arith, rw p at h)) (rw p at e)))
 
 -- another is put in there
-pub insert_put : (q : ℕ) (l : List ℕ) → (lower q l < length l → get_or l (lower q l) 0 ≡ q → ⊥) → insert q l ≡ put_at (lower q l) q l
+insert_put : (q : ℕ) (l : List ℕ) → (lower q l < length l → get_or l (lower q l) 0 ≡ q → ⊥) → insert q l ≡ put_at (lower q l) q l
 unfolding insert put_at
 insert_put q [] n = rw (lower_nil q)
 insert_put q (r ∷ rs) n =
