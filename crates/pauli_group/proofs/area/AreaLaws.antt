@@ -26,5 +26,5 @@ unfolding stride_of form_stride
 stride_least n = omega arith
 
 -- the Paulis that a span hands out, by where it stands and how many they are
-pub span_list : {ps : List Pauli} {w : List ℕ} {base n base' n' : ℕ} → ps ≡ list_in w base n → (base ≡ base') × (n ≡ n') → ps ≡ list_in w base' n'
-span_list {w = w} e at = e ∙ ap₂ (list_in w) at.0 at.1
+pub span_list : (w : List ℕ) {ps : List Pauli} {base n base' n' : ℕ} → ps ≡ list_in w base n → (base ≡ base') × (n ≡ n') → ps ≡ list_in w base' n'
+span_list w e at = e ∙ ap₂ (list_in w) at.0 at.1
