@@ -3,10 +3,8 @@ use Rattle.std.proofs.Common.{◌≡◌, ℕ, zero, suc, ◌+◌, ◌*◌, ◌%�
 use mathlib.Core.List.Memᴰ.{head as here}
 use mathlib.Core.List.Memᴰ.{tail as there}
 use mathlib.Core.List.{Memᴰ as Mem}
-use native.Mathlib.Decide.{dec_lt}
 use lib.Bits.{bit_or, or_zero_r}
-use Rattle.binar.specs.Row.{bit}
-use Rattle.binar.proofs.row.Bits.{ext, bit_past}
+use Rattle.binar.proofs.row.Bits.{ext}
 use Rattle.binar.proofs.Lists.{all_get}
 use Rattle.pauli.specs.Known.{place_of, lower}
 use Rattle.pauli.specs.Support.{All, Rising}
@@ -24,6 +22,7 @@ use Rattle.pauli.proofs.condense.MoreBits.{bit_or_lem}
 use Rattle.pauli.proofs.condense.Sets.{set_members, members_rise, members_only}
 use Rattle.pauli.proofs.write.Writers.{length_list}
 use Rattle.pauli_theory.specs.Inner.ModuloPlaces.{moved_set, moved_pauli}
+use Rattle.pauli_theory.proofs.IndexSets.{bit_below}
 use Rattle.pauli_theory.proofs.ModuloPlaces.{moved_none, moved_or, moved_unit}
 use Rattle.pauli_group.specs.Inner.Area.{Outside}
 use Rattle.pauli_group.proofs.list.ListLaws.{list_at_lem, on_places_at, pauli_kept}
@@ -64,14 +63,11 @@ moving_start own qs v moved small m e = record {
   rises = members_rise v;
   inside = all_in (λ i. (i < length own) × Mem (get_or own i 0) qs) (members v) λ i h.
     let one = members_only v i h in
-    let l : i < length own = below i one in
+    let l = bit_below (length own) v small i one in
     (l, m.inside i l one);
   ahead = λ k _ _. omega arith;
   value = rw (e, set_members v);
 }
-  where
-    below : (i : ℕ) → bit v i ≡ 1 → i < length own
-    below i one = elim (dec_lt i (length own)) [ yes l ↦ l | no n ↦ absurd (omega (arith, one, bit_past (length own) v i small (omega arith))) ]
 
 module _ {own qs : List ℕ} {v : ℕ} {left : List ℕ} {from moved : ℕ} (m : Movable own qs v) (r : Moving own qs v left from moved) where
   pub moving_end : left ≡ [] → moved ≡ moved_set own qs v

@@ -1,6 +1,6 @@
 use native.Mathlib.Omega.{arith}
 use Rattle.pauli.proofs.places.Firsts.{first_told}
-use Rattle.factorizations.proofs.records.RecordLaws.{two_words}
+use Rattle.pauli.proofs.places.Halves.{two_words}
 use Rattle.closing_report.proofs.lines.IndexLaws.{counted_start, counted_end, counted_skip, counted_hit}
 use Rattle.closing_report.proofs.lines.indexes_length.Goals as goal
 

@@ -2,7 +2,7 @@ use native.Mathlib.Omega.{arith}
 use Rattle.pauli.proofs.places.Firsts.{first_told}
 use Rattle.pauli.proofs.write.Puts.{left_start}
 use Rattle.closing_report.specs.Decimal.{ascii}
-use Rattle.factorizations.proofs.records.RecordLaws.{two_words}
+use Rattle.pauli.proofs.places.Halves.{two_words}
 use Rattle.closing_report.proofs.lines.IndexLaws.{text_start, put_end, put_skip, put_fits, put_hit}
 use Rattle.closing_report.proofs.lines.put_indexes.Goals as goal
 
