@@ -1,3 +1,4 @@
+pub mod Room
 pub mod OneList
 pub mod RollsLaws
 pub mod TwoLists

@@ -1,5 +1,5 @@
 // What is checked before a call works: its rolls, its numbers and the work area, in this order.
-ghost use Rattle.std.specs.Prelude.{◌≡◌, ◌≤◌, length, IfOk};
+ghost use Rattle.std.specs.Prelude.{◌≡◌, ℕ, ◌≤◌, length, IfOk};
 ghost use Rattle.pauli.specs.Told.{answer, map_told};
 ghost use Rattle.pauli_group.specs.WorkArea.{enough};
 ghost use Rattle.pauli_group.specs.Calls.{one_list, roll_counts, question_counts, pair_counts, two_lists};
@@ -12,7 +12,7 @@ use pauli::roll::Roll;
 
 // Checks that a work area has enough words.
 pub fn check_area(words: usize) -> Result<(), Refusal>
-    ensures told { told_by (λ done. 0) result ≡ enough words (answer 0) }
+    ensures told { told_by {B = ℕ} (λ done. 0) result ≡ enough words (answer 0) }
     ensures room { IfOk result (λ done. 4096 ≤ words) }
 {
     if words < WORK_WORDS {

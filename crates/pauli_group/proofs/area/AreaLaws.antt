@@ -1,6 +1,8 @@
--- Where a form lies in the work area.
-use Rattle.std.proofs.Common.{ℕ, ◌+◌, ◌*◌, ◌/◌, ◌≤◌, mul-le-mul_left, arith}
+-- Where a form lies in the work area, and the lists that stand there.
+use Rattle.std.proofs.Common.{◌≡◌, ℕ, ◌+◌, ◌*◌, ◌/◌, ◌≤◌, List, ◌∙◌, ap₂, mul-le-mul_left, arith}
 use Rattle.binar.specs.Layout.{form_stride}
+use Rattle.pauli.specs.Pauli.{Pauli}
+use Rattle.pauli.specs.Signed.{list_in}
 use Rattle.pauli_group.specs.Inner.Area.{stride_of}
 
 -- a form of at most 128 rows, with its pivots, lies before the target
@@ -22,3 +24,7 @@ form_room_more n h =
 pub stride_least : (n : ℕ) → 4 ≤ stride_of n
 unfolding stride_of form_stride
 stride_least n = omega arith
+
+-- the Paulis that a span hands out, by where it stands and how many they are
+pub span_list : (w : List ℕ) {ps : List Pauli} {base n base' n' : ℕ} → ps ≡ list_in w base n → (base ≡ base') × (n ≡ n') → ps ≡ list_in w base' n'
+span_list w e at = e ∙ ap₂ (list_in w) at.0 at.1

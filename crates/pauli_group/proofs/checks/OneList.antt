@@ -1,13 +1,14 @@
 -- One list: what its checks tell, and what is told and left after them.
-use Rattle.std.proofs.Common.{◌≡◌, ℕ, ◌<◌, ◌≤◌, ltb, List, ◌++◌, length, take, drop, sym, refl, ap, ◌∙◌, ltb-false, le-ltb, lt-ltb}
+use Rattle.std.proofs.Common.{◌≡◌, ℕ, ◌≤◌, List, ◌++◌, length, take, drop, sym, refl, ap, ◌∙◌}
 use Rattle.pauli.specs.Condense.{list_of}
 use Rattle.pauli.specs.Pauli.{Pauli}
 use Rattle.pauli.specs.Roll.{read, count_of}
-use Rattle.pauli.specs.Told.{Told, answer, refused, refuse_if, and_then, map_told}
+use Rattle.pauli.specs.Told.{Told, answer, refused, and_then, map_told}
 use Rattle.pauli.proofs.joined.JoinLaws.{accepted}
-use Rattle.pauli.proofs.roll.Told.{refused_none, test_pass, test_refuses, test_passed, map_refused, map_answer}
+use Rattle.pauli.proofs.roll.Told.{refused_none, map_refused, map_answer}
 use Rattle.pauli_group.specs.WorkArea.{work_words, enough, cleared, area_after}
 use Rattle.pauli_group.specs.Calls.{paulis, one_list}
+use Rattle.pauli_group.proofs.checks.Room.{room_told, room_enough, room_passed, room_refused}
 use Rattle.pauli_group.proofs.group.GroupedLaws.{cleared_part, list_length}
 
 -- ---- one list, checked
@@ -18,17 +19,17 @@ module _ (b : List ℕ) (size : ℕ) where
   list_refused m p e = rw (map_refused length (read b) m p e)
 
   module _ (n : ℕ) (e : count_of b ≡ answer n) where
-    counted : one_list b size ≡ refuse_if (ltb size work_words) 9 0 (answer (paulis (list_of b)))
-    unfolding one_list and_then enough
+    counted : one_list b size ≡ enough size (answer (paulis (list_of b)))
+    unfolding one_list and_then
     counted = rw (accepted b n e).0
 
-    pub list_short : size < work_words → refused 9 0 ≡ map_told length (one_list b size)
+    pub list_short : (m p : ℕ) → refused m p ≡ room_told size → refused m p ≡ map_told length (one_list b size)
     unfolding map_told
-    list_short h = rw (counted ∙ test_refuses (ltb size work_words) 9 0 _ (lt-ltb size work_words h))
+    list_short m p h = rw (counted ∙ room_refused size _ h)
 
     pub list_long : work_words ≤ size → answer n ≡ map_told length (one_list b size)
     unfolding map_told
-    list_long h = rw (counted ∙ test_pass (ltb size work_words) 9 0 _ (le-ltb size work_words h)) (ap answer (sym (list_length b n e)))
+    list_long h = rw (counted ∙ room_enough size _ h) (ap answer (sym (list_length b n e)))
 
   -- a roll of n Paulis is read, and the area is large enough
   pub record Given (n : ℕ) : Type 0 where
@@ -43,10 +44,10 @@ module _ (b : List ℕ) (size : ℕ) where
       go (refused m p) f = absurd (refused_none m p n (list_refused m p f ∙ sym e))
       go (answer k) f =
           let (gs, told, many) = map_answer length (one_list b size) n (sym e) in
-          let (large, same) = test_passed (ltb size work_words) 9 0 (answer (paulis (list_of b))) gs (sym (counted k f) ∙ told) in
+          let (room, same) = room_passed size (answer (paulis (list_of b))) gs (sym (counted k f) ∙ told) in
           let list : paulis (list_of b) ≡ gs = cc in
           let number : k ≡ n = sym (list_length b k f) ∙ ap length list ∙ many in
-          record { count = f ∙ ap answer number; room = ltb-false size work_words large; told = told ∙ sym same }
+          record { count = f ∙ ap answer number; room = room; told = told ∙ sym same }
 
   pub list_none : {m p : ℕ} → refused m p ≡ map_told length (one_list b size) → one_list b size ≡ refused m p
   list_none e = map_refused length (one_list b size) _ _ (sym e)

@@ -1,5 +1,5 @@
 -- An element put to a list: what the checks tell.
-use Rattle.std.proofs.Common.{◌≡◌, ℕ, ◌<◌, ◌≤◌, Bool, true, false, ltb, leb, List, length, get_or, sym, refl, ap, ◌∙◌, arith, ltb-false, le-ltb, lt-ltb, le-leb, leb-false}
+use Rattle.std.proofs.Common.{◌≡◌, ℕ, ◌<◌, ◌≤◌, Bool, true, false, ltb, leb, List, length, get_or, sym, refl, ap, ◌∙◌, arith, le-ltb, le-leb, leb-false}
 use borrow.Author.Tests.{lt-leb}
 use Rattle.pauli.specs.JoinCalls.{Lists, read_both, within, Counts}
 use Rattle.pauli.specs.Condense.{list_of, nothing}
@@ -10,6 +10,7 @@ use Rattle.pauli.proofs.joined.JoinLaws.{accepted, accepted_few}
 use Rattle.pauli.proofs.roll.Told.{refused_none, test_pass, test_refuses, test_passed, map_refused}
 use Rattle.pauli_group.specs.WorkArea.{work_words, enough}
 use Rattle.pauli_group.specs.Calls.{paulis, question, roll_counts, question_counts}
+use Rattle.pauli_group.proofs.checks.Room.{room_told, room_enough, room_passed, room_refused}
 use Rattle.pauli_group.proofs.checks.RollsLaws.{Accepted, both}
 
 -- what they let pass, changed by f
@@ -39,8 +40,8 @@ module _ (b e : List ℕ) (number words : ℕ) where
 
   module _ (n m : ℕ) (r : Accepted b e n m) where
     checks : question_counts b e number words
-        ≡ refuse_if (leb m number) 8 0 (refuse_if (ltb words work_words) 9 0 (answer (record { left = n; right = m })))
-    unfolding question_counts read_both and_then within enough
+        ≡ refuse_if (leb m number) 8 0 (enough words (answer (record { left = n; right = m })))
+    unfolding question_counts read_both and_then within
     checks =
         let g = r.generators in
         let h = r.elements in
@@ -50,14 +51,14 @@ module _ (b e : List ℕ) (number words : ℕ) where
     counts_past h = sym (checks ∙ test_refuses (leb m number) 8 0 _ (le-leb m number h))
 
     module _ (h : number < m) where
-      next : question_counts b e number words ≡ refuse_if (ltb words work_words) 9 0 (answer (record { left = n; right = m }))
+      next : question_counts b e number words ≡ enough words (answer (record { left = n; right = m }))
       next = checks ∙ test_pass (leb m number) 8 0 _ (lt-leb m number h)
 
-      pub counts_short : words < work_words → refused 9 0 ≡ question_counts b e number words
-      counts_short s = sym (next ∙ test_refuses (ltb words work_words) 9 0 _ (lt-ltb words work_words s))
+      pub counts_short : (k p : ℕ) → refused k p ≡ room_told words → refused k p ≡ question_counts b e number words
+      counts_short k p s = sym (next ∙ room_refused words _ s)
 
       pub counts_pass : work_words ≤ words → answer (record { left = n; right = m }) ≡ question_counts b e number words
-      counts_pass s = sym (next ∙ test_pass (ltb words work_words) 9 0 _ (le-ltb words work_words s))
+      counts_pass s = sym (next ∙ room_enough words _ s)
 
   -- the rolls can be read, the element is there, and the area is large enough
   pub record Asking (n m : ℕ) : Type 0 where
@@ -79,7 +80,7 @@ module _ (b e : List ℕ) (number words : ℕ) where
       go (answer d) f =
           let r = both b e d.left d.right (sym f) in
           let (within, next) = test_passed (leb d.right number) 8 0 _ _ (sym (checks d.left d.right r) ∙ sym h) in
-          let (large, told) = test_passed (ltb words work_words) 9 0 _ _ next in
+          let (room, told) = room_passed words _ _ next in
           let same : ◌≡◌ {A = Counts} (record { left = d.left; right = d.right }) (record { left = n; right = m }) = cc in
           let a : d.left ≡ n = ap (λ (c : Counts). c.left) same in
           let c : d.right ≡ m = ap (λ (c : Counts). c.right) same in
@@ -87,7 +88,7 @@ module _ (b e : List ℕ) (number words : ℕ) where
             generators = r.generators ∙ ap answer a;
             elements = r.elements ∙ ap answer c;
             inside = omega (arith, leb-false d.right number within);
-            room = ltb-false words work_words large;
+            room = room;
           }
 
   pub question_none : (k p : ℕ) → question_counts b e number words ≡ refused k p → question b e number words ≡ refused k p

@@ -1,5 +1,5 @@
 -- Two lists: what their checks tell, and what is told and left after them.
-use Rattle.std.proofs.Common.{◌≡◌, ℕ, ◌+◌, ◌<◌, ◌≤◌, ltb, List, ◌++◌, length, take, drop, sym, refl, ap, ◌∙◌, subst, ltb-false, le-ltb, lt-ltb}
+use Rattle.std.proofs.Common.{◌≡◌, ℕ, ◌+◌, ◌≤◌, ltb, List, ◌++◌, length, take, drop, sym, refl, ap, ◌∙◌, subst, le-ltb}
 use Rattle.pauli.specs.JoinCalls.{Counts, counts_of, read_both, few_qubits}
 use Rattle.pauli.specs.Condense.{list_of}
 use Rattle.pauli.specs.Roll.{most_paulis, support}
@@ -7,9 +7,10 @@ use Rattle.pauli.specs.Support.{most_qubits}
 use Rattle.pauli.specs.Told.{Told, answer, refused, and_then, map_told}
 use Rattle.pauli.specs.Writing.{told_bytes, left_in}
 use Rattle.pauli.proofs.joined.JoinLaws.{accepted, Joining, counts_joining, limits_refused}
-use Rattle.pauli.proofs.roll.Told.{refused_none, test_pass, test_refuses, test_passed, map_refused, map_answer}
+use Rattle.pauli.proofs.roll.Told.{refused_none, test_pass, map_refused, map_answer}
 use Rattle.pauli_group.specs.WorkArea.{work_words, enough, cleared, area_after}
 use Rattle.pauli_group.specs.Calls.{paulis, Pair, pair_counts, two_lists}
+use Rattle.pauli_group.proofs.checks.Room.{room_told, room_enough, room_passed, room_refused}
 use Rattle.pauli_group.proofs.group.GroupedLaws.{cleared_part, list_length}
 
 -- ---- what the checks tell
@@ -26,22 +27,17 @@ module _ (l r : List ℕ) (size : ℕ) where
         (test_pass (ltb most_paulis (nl + nr)) 2 0 _ (le-ltb most_paulis (nl + nr) j.few)
         ∙ test_pass (ltb most_qubits (length (support (list_of l ++ list_of r)))) 7 0 _ (le-ltb most_qubits (length (support (list_of l ++ list_of r))) j.qubits))
 
-    pub pair_short : size < work_words → two_lists l r size ≡ refused 9 0
-    unfolding enough
-    pair_short h = pair ∙ test_refuses (ltb size work_words) 9 0 _ (lt-ltb size work_words h)
-
     pub pair_long : work_words ≤ size → two_lists l r size ≡ answer (record { left = paulis (list_of l); right = paulis (list_of r) })
-    unfolding enough
-    pair_long h = pair ∙ test_pass (ltb size work_words) 9 0 _ (le-ltb size work_words h)
+    pair_long h = pair ∙ room_enough size _ h
 
   pub counted_refused : (m p : ℕ) → counts_of l r ≡ refused m p → refused m p ≡ map_told pair_counts (two_lists l r size)
   unfolding map_told
   counted_refused m p e = rw (pair_refused m p e)
 
   module _ (nl nr : ℕ) (j : Joining l r nl nr) where
-    pub counted_short : size < work_words → refused 9 0 ≡ map_told pair_counts (two_lists l r size)
+    pub counted_short : (m p : ℕ) → refused m p ≡ room_told size → refused m p ≡ map_told pair_counts (two_lists l r size)
     unfolding map_told
-    counted_short h = rw (pair_short nl nr j h)
+    counted_short m p h = rw (pair nl nr j ∙ room_refused size _ h)
 
     pub counted_long : work_words ≤ size → answer (record { left = nl; right = nr }) ≡ map_told pair_counts (two_lists l r size)
     unfolding map_told pair_counts
@@ -61,8 +57,7 @@ module _ (l r : List ℕ) (size : ℕ) where
       go (answer d) f =
           let j = counts_joining l r d f in
           let (both, told, counts) = map_answer pair_counts (two_lists l r size) c (sym e) in
-          let (large, same) = test_passed (ltb size work_words) 9 0 _ both (sym (pair d.left d.right j) ∙ told) in
-          let room : work_words ≤ size = ltb-false size work_words large in
+          let (room, same) = room_passed size _ both (sym (pair d.left d.right j) ∙ told) in
           let told_same : answer d ≡ answer c = counted_long d.left d.right j room ∙ sym e in
           let counts_same : d ≡ c = cc in
           subst (λ (x : Counts). Paired x.left x.right) counts_same (record { joining = j; room = room })

@@ -14,6 +14,7 @@ use Rattle.binar.proofs.matrix_form.Theorems.{form_law}
 use Rattle.pauli.specs.Pauli.{Pauli}
 use Rattle.pauli.specs.Signed.{list_in, pauli_in}
 use Rattle.pauli.specs.Writing.{OnPlaces}
+use Rattle.pauli.proofs.write.Writers.{length_list}
 use Rattle.pauli_group.specs.Inner.Area.{row_words, stride_of, Outside}
 use Rattle.pauli_group.specs.Inner.Lists.{row_over, form_over}
 use Rattle.pauli_group.proofs.area.AreaLaws.{form_room_more}
@@ -54,13 +55,8 @@ module _ (l : List ℕ) (base n s : ℕ) (few : n ≤ 129) (places : s ≤ 128) 
   room : n * S + n ≤ 1032
   room = (form_room_more n few).0
 
-  count_list : (k from : ℕ) → length (list_in l from k) ≡ k
-  unfolding list_in
-  count_list zero from = refl
-  count_list (suc k) from = ap suc (count_list k (from + 5))
-
   count : length M ≡ n
-  count = length-map L _ ∙ count_list n base
+  count = length-map L _ ∙ length_list l base n
 
   wide : 64 * 4 ≤ 64 * S
   unfolding stride_of form_stride

@@ -10,6 +10,7 @@ use Rattle.binar.proofs.echelon.Matrix.{length_matrix}
 use Rattle.binar.proofs.echelon.Bounds.{rank_rows}
 use Rattle.pauli.specs.Pauli.{Pauli, indexed_product}
 use Rattle.pauli.specs.Signed.{list_in}
+use Rattle.pauli.proofs.write.Writers.{length_list}
 use Rattle.pauli_theory.proofs.Form.{map_take}
 use Rattle.pauli_group.specs.Inner.Area.{list_at, standard_at, further_at, row_words, stride_of, Outside}
 use Rattle.pauli_group.specs.Inner.Groups.{products_named, Built}
@@ -37,14 +38,9 @@ products_named_lem n cols r l ps =
     products_rows n cols r 0 n l ps
     ∙ ap (map (λ (q : Row). indexed_product q.t ps)) (take_all n (map row M) (omega (arith, length-map M row, length_matrix (stride_of n) n l)))
 
-pub list_count : (l : List ℕ) (base n : ℕ) → length (list_in l base n) ≡ n
-unfolding list_in
-list_count l base zero = refl
-list_count l base (suc n) = ap suc (list_count l (base + 5) n)
-
 pub rank_few : (l : List ℕ) (n s : ℕ) → echelon_rank (form_over s (list_in l list_at n)) ≤ n
 unfolding form_over
-rank_few l n s = omega (arith, rank_rows (2 * s) (map (row_over s) (list_in l list_at n)), length-map (list_in l list_at n) (row_over s), list_count l list_at n)
+rank_few l n s = omega (arith, rank_rows (2 * s) (map (row_over s) (list_in l list_at n)), length-map (list_in l list_at n) (row_over s), length_list l list_at n)
 
 -- the area at first, with the form, with the products and with the standard generators
 module _ (l f p x : List ℕ) (n s r total : ℕ) (few : n ≤ 128) (size : length l ≡ 4096)

@@ -14,12 +14,12 @@ returns-then-number-rolls-clause-counts c =
     let read = both _ _ _ _ c.in_ok-rolls.ensures.counts in
     ap told_refusal c.into.ensures ∙ counts_past _ _ _ _ _ _ read c.if-number-rolls.true
 
-pub returns-then-words-lt-WORK_WORDS-clause-counts : goal.returns-then-words-lt-WORK_WORDS-clause-counts
-returns-then-words-lt-WORK_WORDS-clause-counts c =
+pub returns-in_err-check_area-clause-counts : goal.returns-in_err-check_area-clause-counts
+returns-in_err-check_area-clause-counts c =
     let read = both _ _ _ _ c.in_ok-rolls.ensures.counts in
-    ap told_refusal c.into-then-words-lt-WORK_WORDS.ensures ∙ counts_short _ _ _ _ _ _ read c.if-number-rolls.false c.if-words-lt-WORK_WORDS.true
+    ap (told_by _) (handed_on _ _ c.from_residual-in_err-check_area.ensures.1) ∙ counts_short _ _ _ _ _ _ read c.if-number-rolls.false _ _ c.in_err-check_area.ensures.told
 
 pub returns-clause-counts : goal.returns-clause-counts
 returns-clause-counts c =
     let read = both _ _ _ _ c.in_ok-rolls.ensures.counts in
-    counts_pass _ _ _ _ _ _ read c.if-number-rolls.false c.if-words-lt-WORK_WORDS.false
+    counts_pass _ _ _ _ _ _ read c.if-number-rolls.false c.in_ok-check_area.ensures.room

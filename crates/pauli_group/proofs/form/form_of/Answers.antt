@@ -5,17 +5,21 @@ use Rattle.pauli_group.proofs.form.form_of.Goals as goal
 
 pub put_rows-requires : goal.put_rows-requires
 put_rows-requires c =
-    (c.requires.3, rw c.stride_of.ensures (omega (arith, (form_room_more c.args.n c.requires.1).0, c.requires.2)), rw c.stride_of.ensures (stride_least c.args.n), c.requires.4, c.requires.5)
+    let k = c.stride_of.ensures in
+    (rw k (omega (arith, (form_room_more c.args.list.count c.requires.0).0, c.requires.1)), rw k (stride_least c.args.list.count), c.requires.2, c.requires.3)
 
 pub unwrap-requires : goal.unwrap-requires
-unwrap-requires c = made_some c.args.w.now c.args.base c.args.n c.args.s c.requires.1 c.requires.4 c.requires.0 c.requires.5 _ c.stride_of.ensures _ c.put_rows.ensures _ _ c.echelon_form.ensures
+unwrap-requires c = made_some c.args.w.now c.args.list.base c.args.list.count c.args.s c.requires.0 c.requires.2 c.told-w c.requires.3 _ c.stride_of.ensures _ c.put_rows.ensures _ _ c.echelon_form.ensures
 
 pub returns : goal.returns
 returns c =
     let w = c.args.w.now in
+    let base = c.args.list.base in
+    let n = c.args.list.count in
+    let s = c.args.s in
     let B = c.put_rows.ensures in
     let C = c.echelon_form.ensures in record {
-      rank = made_rank w c.args.base c.args.n c.args.s c.requires.1 c.requires.4 c.requires.0 c.requires.5 _ c.stride_of.ensures _ B _ _ C _ c.unwrap.ensures;
-      form = made_form w c.args.base c.args.n c.args.s c.requires.1 c.requires.4 c.requires.0 c.requires.5 _ c.stride_of.ensures _ B _ _ C _ c.unwrap.ensures;
-      rest = made_outside w c.args.base c.args.n c.args.s c.requires.1 c.requires.4 c.requires.0 c.requires.5 _ c.stride_of.ensures _ B _ _ C;
+      rank = made_rank w base n s c.requires.0 c.requires.2 c.told-w c.requires.3 _ c.stride_of.ensures _ B _ _ C _ c.unwrap.ensures;
+      form = made_form w base n s c.requires.0 c.requires.2 c.told-w c.requires.3 _ c.stride_of.ensures _ B _ _ C _ c.unwrap.ensures;
+      rest = made_outside w base n s c.requires.0 c.requires.2 c.told-w c.requires.3 _ c.stride_of.ensures _ B _ _ C;
     }

@@ -7,7 +7,7 @@ use Rattle.pauli_group.proofs.list.ListLaws.{stored_none, stored_step, stored_al
 use Rattle.pauli_group.proofs.list.read_list.Goals as goal
 
 pub loop-i-init : goal.loop-i-init
-loop-i-init c = (omega arith, stored_none _ _ _ _ _)
+loop-i-init c = stored_none _ _ _ _ _
 
 pub condense_from-requires : goal.condense_from-requires
 condense_from-requires c =
@@ -16,10 +16,9 @@ condense_from-requires c =
 pub loop-i-preserved : goal.loop-i-preserved
 unfolding over_places
 loop-i-preserved c =
-    let next =
-    stored_step _ _ _ _ _ _ _ c.loop-i.invariant.1 (accepted _ _ c.args.roll.accepted).1 nothing _ c.loop-i-test.true c.requires.2
-    (ap normal c.condense_from.ensures) _ c.store.ensures in
-    (omega arith, next)
+    stored_step _ _ _ _ _ _ _ c.loop-i.invariant (accepted _ _ c.args.roll.accepted).1 nothing _ c.loop-i-test.true (omega (arith, c.told-w, c.requires.2))
+    (ap normal c.condense_from.ensures) _ c.store.ensures
 
 pub returns : goal.returns
-returns c = record { list = stored_all _ _ _ _ _ _ _ c.loop-i.invariant.1 (accepted _ _ c.args.roll.accepted).1 c.loop-i.invariant.0 (omega arith); rest = c.loop-i.invariant.1.rest }
+returns c =
+    let l = c.loop-i in record { list = stored_all _ _ _ _ _ _ _ l.invariant (accepted _ _ c.args.roll.accepted).1 l.auto.i-end (omega arith); rest = l.invariant.rest }
