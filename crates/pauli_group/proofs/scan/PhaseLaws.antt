@@ -1,14 +1,15 @@
 -- Laws of the phases of the Paulis of a list in words: their modulus, phases mod m, and the power of i that is appended.
-use Rattle.std.proofs.Common.{◌≡◌, ℕ, zero, suc, ◌+◌, ◌*◌, ◌/◌, ◌%◌, ◌<◌, ◌≤◌, min, List, [], ◌∷◌, ◌++◌, map, length, get_or, set, sym, refl, ap, ◌∙◌, subst, ap₂, append-nil, arith, length-append, get_or-set_same}
+use Rattle.std.proofs.Common.{◌≡◌, ℕ, zero, suc, ◌+◌, ◌*◌, ◌/◌, ◌%◌, ◌<◌, ◌≤◌, min, List, [], ◌∷◌, ◌++◌, map, length, get_or, drop, set, sym, refl, ap, ◌∙◌, subst, ap₂, append-nil, arith, length-append, get_or-set_same}
 use mathlib.Core.List.{map-append}
 use lib.Seq.{sets}
+use Rattle.std.proofs.lemmas.List.{at_drop_more, at_drop_all}
 use Rattle.pauli.specs.declared.signed.Pauli.{Pauli as Held}
 use Rattle.pauli.specs.Pauli.{Pauli, normal, phase}
-use Rattle.pauli.specs.Signed.{held, pauli_in, pauli_words, list_in}
+use Rattle.pauli.specs.Signed.{held, pauli_in, pauli_words, list_in, paulis_in}
 use Rattle.pauli.specs.PlaceSet.{set_in}
 use Rattle.pauli.proofs.signed.Algebra.{pauli_path}
 use Rattle.pauli.proofs.signed.SignedLaws.{zero_bit}
-use Rattle.pauli.proofs.write.Writers.{list_from, list_start, list_next, list_end, length_list}
+use Rattle.pauli.proofs.write.Writers.{length_list}
 use Rattle.pauli_theory.specs.Standard.{if_zero, modulus_of, exponent_mod, appended}
 use Rattle.pauli_theory.proofs.IfZero.{if_zero_zero, if_zero_more}
 use Rattle.pauli_group.specs.Inner.Area.{Outside}
@@ -40,56 +41,50 @@ modulus_more (e ∷ es) = go (e % 2) (e / 2 % 2) (modulus_of es) (modulus_more e
     go (suc a) b m h = omega arith
 
 -- the modulus is m or that of the Paulis from number i on, whichever is less
-pub record Lowered (w : List ℕ) (base n m i : ℕ) : Type 0 where
-  pub within : i ≤ n
+pub record Lowered (ls : List (List ℕ)) (m i : ℕ) : Type 0 where
   pub low : 2 ≤ m
   pub high : m ≤ 4
-  pub same : modulus_in (list_in w base n) ≡ min m (modulus_in (list_from w base n i))
+  pub same : modulus_in (paulis_in ls) ≡ min m (modulus_in (paulis_in (drop i ls)))
 
-pub lowered_start : (w : List ℕ) (base n : ℕ) → Lowered w base n 4 0
-lowered_start w base n = record {
-  within = omega arith;
+pub lowered_start : (ls : List (List ℕ)) → Lowered ls 4 0
+lowered_start ls = record {
   low = omega arith;
   high = omega arith;
-  same = omega (arith, ap modulus_in (list_start w base n), modulus_le (map (λ (p : Pauli). p.e) (list_from w base n 0)));
+  same = omega (arith, modulus_le (map (λ (p : Pauli). p.e) (paulis_in ls)));
 }
 
-module _ {w : List ℕ} {base n m i : ℕ} (l : Lowered w base n m i) where
-  pub lowered_end : n ≤ i → m ≡ modulus_in (list_in w base n)
-  unfolding modulus_of
-  lowered_end h = sym (l.same ∙ ap (λ (ps : List Pauli). min m (modulus_in ps)) (list_end w base n i h) ∙ omega arith)
+module _ {ls : List (List ℕ)} {m i : ℕ} (l : Lowered ls m i) where
+  pub lowered_end : length ls ≤ i → m ≡ modulus_in (paulis_in ls)
+  unfolding modulus_of paulis_in
+  lowered_end h = sym (l.same ∙ ap (λ (k : ℕ). min m k) (at_drop_all (λ (xs : List (List ℕ)). modulus_in (paulis_in xs)) ls i h) ∙ omega (arith, l.high))
 
-  module _ (h : i < n) where
-    abbrev e : ℕ
-    e = get_or w (base + 5 * i) 0
-
+  -- the words x of number i, with the exponent e
+  module _ (h : i < length ls) (x : List ℕ) (at : x ≡ get_or ls i x) (e : ℕ) (first : e ≡ get_or x 0 0) where
     abbrev rest : ℕ
-    rest = modulus_in (list_from w base n (i + 1))
+    rest = modulus_in (paulis_in (drop (i + 1) ls))
 
-    next : modulus_in (list_in w base n) ≡ min m (if_zero (e % 2) (if_zero (e / 2 % 2) rest (min rest 2)) 1)
-    unfolding modulus_of pauli_in
-    next = l.same ∙ ap (λ (ps : List Pauli). min m (modulus_in ps)) (list_next w base n i h)
+    next : modulus_in (paulis_in ls) ≡ min m (if_zero (e % 2) (if_zero (e / 2 % 2) rest (min rest 2)) 1)
+    unfolding modulus_of pauli_in paulis_in
+    next = rw first (l.same ∙ ap (min m) (at_drop_more (λ (xs : List (List ℕ)). modulus_in (paulis_in xs)) ls i x h ∙ ap (λ (y : List ℕ). modulus_in (pauli_in y 0 ∷ paulis_in (drop (i + 1) ls))) (sym at)))
 
-    pub lowered_odd : e % 2 ≡ 1 → 1 ≡ modulus_in (list_in w base n)
-    lowered_odd o = sym (next ∙ ap (min m) (if_zero_more (e % 2) (if_zero (e / 2 % 2) rest (min rest 2)) 1 (omega arith)) ∙ omega arith)
+    pub lowered_odd : e % 2 ≡ 1 → 1 ≡ modulus_in (paulis_in ls)
+    lowered_odd o = sym (next ∙ ap (min m) (if_zero_more (e % 2) (if_zero (e / 2 % 2) rest (min rest 2)) 1 (omega arith)) ∙ omega (arith, l.low))
 
     module _ (even : e % 2 ≡ 1 → ⊥) where
-      next_even : modulus_in (list_in w base n) ≡ min m (if_zero (e / 2 % 2) rest (min rest 2))
+      next_even : modulus_in (paulis_in ls) ≡ min m (if_zero (e / 2 % 2) rest (min rest 2))
       next_even = next ∙ ap (min m) (if_zero_zero (if_zero (e / 2 % 2) rest (min rest 2)) 1 (zero_bit (e % 2) (omega arith) even))
 
-      pub lowered_two : e / 2 % 2 ≡ 1 → (k : ℕ) → k ≡ 2 → Lowered w base n k (i + 1)
+      pub lowered_two : e / 2 % 2 ≡ 1 → (k : ℕ) → k ≡ 2 → Lowered ls k (i + 1)
       lowered_two o k d = record {
-        within = omega arith;
         low = omega arith;
         high = omega arith;
-        same = next_even ∙ ap (min m) (if_zero_more (e / 2 % 2) rest (min rest 2) (omega arith)) ∙ omega arith;
+        same = next_even ∙ ap (min m) (if_zero_more (e / 2 % 2) rest (min rest 2) (omega arith)) ∙ omega (arith, l.low);
       }
 
-      pub lowered_not : (e / 2 % 2 ≡ 1 → ⊥) → (k : ℕ) → k ≡ m → Lowered w base n k (i + 1)
+      pub lowered_not : (e / 2 % 2 ≡ 1 → ⊥) → (k : ℕ) → k ≡ m → Lowered ls k (i + 1)
       lowered_not o k d = record {
-        within = omega arith;
-        low = omega arith;
-        high = omega arith;
+        low = omega (arith, l.low);
+        high = omega (arith, l.high);
         same = next_even ∙ ap₂ min (sym d) (if_zero_zero rest (min rest 2) (zero_bit (e / 2 % 2) (omega arith) o));
       }
 
@@ -104,27 +99,25 @@ pauli_mod w at m h =
     (rw (o.after (at + 2) (omega arith), o.after (at + 1) (omega arith)))
     (rw (o.after (at + 4) (omega arith), o.after (at + 3) (omega arith)))
 
--- of the n Paulis from word base on, the first i have their phases mod m
-pub record Taken (old : List ℕ) (base n m : ℕ) (w : List ℕ) (i : ℕ) : Type 0 where
-  pub within : i ≤ n
+-- the first i Paulis from word base on have their phases mod m
+pub record Taken (old : List ℕ) (base m : ℕ) (w : List ℕ) (i : ℕ) : Type 0 where
   pub list : list_in w base i ≡ map (exponent_mod m) (list_in old base i)
   pub rest : Outside base (5 * i) old w
 
-pub taken_start : (old : List ℕ) (base n m : ℕ) → Taken old base n m old 0
+pub taken_start : (old : List ℕ) (base m : ℕ) → Taken old base m old 0
 unfolding list_in
-taken_start old base n m = record { within = omega arith; list = refl; rest = outside_refl base (5 * 0) old }
+taken_start old base m = record { list = refl; rest = outside_refl base (5 * 0) old }
 
-module _ {old : List ℕ} {base n m : ℕ} {w : List ℕ} {i : ℕ} (t : Taken old base n m w i) where
-  pub taken_end : n ≤ i → (list_in w base n ≡ map (exponent_mod m) (list_in old base n)) × Outside base (5 * n) old w
-  taken_end h = let e : i ≡ n = omega arith in rw (← e) (t.list, t.rest)
+module _ {old : List ℕ} {base m : ℕ} {w : List ℕ} {i : ℕ} (t : Taken old base m w i) where
+  pub taken_end : (n : ℕ) → i ≡ n → (list_in w base n ≡ map (exponent_mod m) (list_in old base n)) × Outside base (5 * n) old w
+  taken_end n e = rw (← e) (t.list, t.rest)
 
-  pub taken_step : i < n → base + 5 * n ≤ length old → Taken old base n m (set w (base + 5 * i) (get_or w (base + 5 * i) 0 % m)) (i + 1)
-  taken_step h room =
+  pub taken_step : (n : ℕ) → i < n → base + 5 * n ≤ length old → Taken old base m (set w (base + 5 * i) (get_or w (base + 5 * i) 0 % m)) (i + 1)
+  taken_step n h room =
       let at = base + 5 * i in
       let u = set w at (get_or w at 0 % m) in
       let o : Outside at 1 w u = set_outside w at (get_or w at 0 % m) in
       record {
-        within = omega arith;
         list =
             list_snoc u base i
             ∙ ap₂ (λ (ps : List Pauli) (p : Pauli). ps ++ (p ∷ [])) (list_kept o base i (omega arith) ∙ t.list)

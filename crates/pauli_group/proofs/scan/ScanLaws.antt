@@ -1,8 +1,7 @@
--- Laws of searches among the Paulis of a list in words.
-use Rattle.std.proofs.Common.{◌≡◌, length, subst, zero-add, not, ◌==◌, ◌&&◌, Bool, true, false, MatchBool, add-one, ℕ, zero, suc, ◌+◌, ◌-◌, ◌*◌, ◌/◌, ◌%◌, ◌<◌, ◌≤◌, max, List, [], ◌∷◌, sym, refl, ap, ◌∙◌, ap₂, arith}
-use Rattle.std.specs.List.{HoldsAt, AllWithin, range_with_len}
+-- Laws of searches among the Paulis of a list.
+use Rattle.std.proofs.Common.{◌≡◌, ℕ, zero, suc, ◌+◌, ◌*◌, ◌/◌, ◌%◌, ◌<◌, ◌≤◌, not, ◌==◌, ◌&&◌, Bool, true, false, max, List, [], ◌∷◌, length, sym, refl, ap, ◌∙◌, ap₂, arith}
+use Rattle.std.specs.List.{HoldsAt, AllWithin}
 use Rattle.std.proofs.lemmas.Bool.{ne_eqb}
-use Rattle.std.proofs.lemmas.List.FromFn.{length-range_with_len, get_or-range_with_len}
 use lib.Bits.{bit_or}
 use lib.Count.{ones, ones_step}
 use lib.Pow.{mod-mod-pow}
@@ -10,10 +9,9 @@ use Rattle.binar.specs.Row.{weight}
 use Rattle.binar.proofs.row.Bits.{ones_zero}
 use Rattle.pauli.specs.declared.signed.Pauli.{Pauli as Held}
 use Rattle.pauli.specs.Pauli.{Pauli, normal, anticommute, order_four, pauli_weight}
-use Rattle.pauli.specs.Signed.{held, pauli_in, list_in}
+use Rattle.pauli.specs.Signed.{held, pauli_in, paulis_in}
 use Rattle.pauli.proofs.signed.Algebra.{anticommute_lt}
 use Rattle.pauli.proofs.signed.SignedLaws.{zero_bit}
-use Rattle.pauli.proofs.write.Writers.{list_from, list_start, list_next, list_end}
 use Rattle.pauli_theory.specs.Standard.{if_zero, some_order_four, anticommutes_with_some, some_anticommute, bare, some_imaginary, some_minus}
 use Rattle.pauli_theory.proofs.IfZero.{if_zero_zero, if_zero_more}
 use Rattle.pauli_theory.proofs.Tests.{imaginary, minus}
@@ -37,65 +35,38 @@ pub search_lt : {T : List Pauli → ℕ} {t : Pauli → List Pauli → ℕ} → 
 search_lt s [] = omega (arith, s.none)
 search_lt s (p ∷ ps) = omega (arith, s.more p ps, s.small p ps, search_lt s ps)
 
-module _ {T : List Pauli → ℕ} {t : Pauli → List Pauli → ℕ} (s : Search T t) (w : List ℕ) (base n : ℕ) where
-  -- T from number i on
-  abbrev from : ℕ → ℕ
-  from i = T (list_from w base n i)
-
-  -- t of the Pauli number i with those behind it
-  abbrev at_number : ℕ → ℕ
-  at_number i = t (pauli_in w (base + 5 * i)) (list_from w base n (i + 1))
-
-  next : (i : ℕ) → i < n → from i ≡ max (at_number i) (from (i + 1))
-  next i h = ap T (list_next w base n i h) ∙ s.more (pauli_in w (base + 5 * i)) (list_from w base n (i + 1))
-
-  from_less : (i : ℕ) → i ≤ n → from i ≤ from 0
-  from_less zero h = omega arith
-  from_less (suc i) h = rw (← add-one) (omega (arith, next i (omega arith), from_less i (omega arith)))
-
-  from_same : ((i : ℕ) → i < n → at_number i ≡ 0) → (i : ℕ) → i ≤ n → from i ≡ from 0
-  from_same none zero h = refl
-  from_same none (suc i) h = rw (← add-one) (omega (arith, next i (omega arith), none i (omega arith), from_same none i (omega arith)))
-
-  -- what tests of the numbers tell, one by one, is told of the list
-  pub some_told : (answers : ℕ → Bool → Type 0) → ((i : ℕ) (r : Bool) → answers i r → yes_number r ≡ at_number i)
-      → (r : Bool) → MatchBool r ((i : ℕ) × (i < n) × answers i true) ((i : ℕ) → i < n → answers i false) → yes_number r ≡ T (list_in w base n)
-  some_told answers same true (i, few, h) =
-      omega (arith, ap T (list_start w base n), next i few, same i true h, from_less i (omega arith), search_lt s (list_in w base n))
-  some_told answers same false h =
-      omega (
-        arith,
-        ap T (list_start w base n),
-        from_same (λ i few. sym (same i false (h i few))) n (omega arith),
-        ap T (list_end w base n n (omega arith)),
-        s.none,
-      )
-
+module _ {T : List Pauli → ℕ} {t : Pauli → List Pauli → ℕ} (s : Search T t) where
   -- t is the same of a Pauli that was read up to the value of its exponent
-  pub at_read : (i : ℕ) (p : Held) → normal (held p) ≡ normal (pauli_in w (base + 5 * i)) → t (held p) (list_from w base n (i + 1)) ≡ at_number i
-  at_read i p read =
-      let rest : List Pauli = list_from w base n (i + 1) in
-      sym (s.value (held p) rest) ∙ ap (λ (q : Pauli). t q rest) read ∙ s.value (pauli_in w (base + 5 * i)) rest
+  pub at_read : (p : Held) (q : Pauli) (qs : List Pauli) → normal (held p) ≡ normal q → t (held p) qs ≡ t q qs
+  at_read p q qs read = sym (s.value (held p) qs) ∙ ap (λ (r : Pauli). t r qs) read ∙ s.value q qs
+
+  -- T by the first Pauli, for which t is told, and by those behind it
+  pub found_first : (p : Held) (q : Pauli) (qs : List Pauli) → normal (held p) ≡ normal q → yes_number true ≡ t (held p) qs → yes_number true ≡ T (q ∷ qs)
+  found_first p q qs read h = omega (arith, h, at_read p q qs read, s.more q qs, s.small q qs, search_lt s qs)
+
+  pub past_first : (p : Held) (q : Pauli) (qs : List Pauli) → normal (held p) ≡ normal q → yes_number false ≡ t (held p) qs → T (q ∷ qs) ≡ T qs
+  past_first p q qs read h = omega (arith, h, at_read p q qs read, s.more q qs)
 
   -- what a test of one Pauli tells is told of the list
-  pub some_tested : (tells : Held → Bool → Type 0) → ((p : Held) (qs : List Pauli) (r : Bool) → tells p r → yes_number r ≡ t (held p) qs)
-      → (r : Bool) → SomeTested tells w base n r → yes_number r ≡ T (list_in w base n)
-  some_tested tells same =
-      some_told (λ i r. Tested tells w (base + 5 * i) r)
-      (λ i r h. same h.pauli (list_from w base n (i + 1)) r h.told ∙ at_read i h.pauli h.read)
+  module _ (tells : Held → Bool → Type 0) (same : (p : Held) (qs : List Pauli) (r : Bool) → tells p r → yes_number r ≡ t (held p) qs) where
+    some_found : (ls : List (List ℕ)) (k : ℕ) → k < length ls → HoldsAt (λ l. Tested tells l true) ls k → yes_number true ≡ T (paulis_in ls)
+    unfolding paulis_in
+    some_found [] k h f = absurd (omega arith)
+    some_found (l ∷ ls) zero h f = let a = f l in found_first a.pauli (pauli_in l 0) (paulis_in ls) a.read (same a.pauli (paulis_in ls) true a.told)
+    some_found (l ∷ ls) (suc k) h f =
+        omega (arith, some_found ls k (omega arith) f, s.more (pauli_in l 0) (paulis_in ls), s.small (pauli_in l 0) (paulis_in ls), search_lt s (paulis_in ls))
 
--- ---- a test of the numbers below n
+    none_found : (ls : List (List ℕ)) → AllWithin (λ l. Tested tells l false) ls 0 (length ls) → yes_number false ≡ T (paulis_in ls)
+    unfolding paulis_in
+    none_found [] f = sym s.none
+    none_found (l ∷ ls) f =
+        let a = f 0 l (omega arith) (omega arith) in
+        none_found ls (λ k d b e. f (suc k) d (omega arith) (omega arith))
+        ∙ sym (past_first a.pauli (pauli_in l 0) (paulis_in ls) a.read (same a.pauli (paulis_in ls) false a.told))
 
--- of the numbers themselves, in place of what their range yields
-pub by_number : (r : Bool) (n : ℕ) (Yes No : ℕ → Type 0)
-    → MatchBool r ((k : ℕ) × (k < length (range_with_len 0 n)) × HoldsAt Yes (range_with_len 0 n) k) (AllWithin No (range_with_len 0 n) 0 (length (range_with_len 0 n)))
-    → MatchBool r ((i : ℕ) × (i < n) × Yes i) ((i : ℕ) → i < n → No i)
-by_number true n Yes No h =
-    let few : h.0 < n = omega (arith, h.1, length-range_with_len 0 n) in
-    (h.0, few, subst Yes (get_or-range_with_len 0 n h.0 0 few ∙ zero-add h.0) (h.2 0))
-by_number false n Yes No h =
-    λ i few.
-    subst No (get_or-range_with_len 0 n i 0 few ∙ zero-add i) (h i 0 (omega arith) (omega (arith, length-range_with_len 0 n)))
+    pub some_tested : (ls : List (List ℕ)) (r : Bool) → SomeTested tells ls r → yes_number r ≡ T (paulis_in ls)
+    some_tested ls true h = some_found ls h.0 h.1 h.2
+    some_tested ls false h = none_found ls h
 
 -- ---- a test of a number below 2
 
@@ -127,14 +98,6 @@ with_some_value p (q ∷ qs) = ap (max (anticommute p q)) (with_some_value p qs)
 pub two_anticommute : Search some_anticommute anticommutes_with_some
 unfolding some_anticommute
 two_anticommute = record { none = refl; more = λ p ps. refl; small = λ p ps. search_lt (with_some_lem p) ps; value = with_some_value }
-
--- the list behind number i
-pub list_behind : (w : List ℕ) (base n i : ℕ) → list_in w (base + 5 * i + 5) (n - i - 1) ≡ list_from w base n (i + 1)
-unfolding list_from
-list_behind w base n i =
-    let a : base + 5 * i + 5 ≡ base + 5 * (i + 1) = omega arith in
-    let b : n - i - 1 ≡ n - (i + 1) = omega arith in
-    rw (a, b)
 
 -- ---- Paulis of weight 0
 

@@ -1,5 +1,6 @@
 -- Lists of Paulis over the places of a support, in the work area.
-use Rattle.std.specs.Prelude.{◌≡◌, ℕ, ◌+◌, ◌*◌, ◌/◌, ◌%◌, ◌^◌, ◌<◌, max, Option as CodeOption, Some, None, Bool, true, false, MatchBool, List, ◌++◌, map, take, drop}
+use Rattle.std.specs.Prelude.{◌≡◌, ℕ, ◌+◌, ◌*◌, ◌/◌, ◌%◌, ◌^◌, ◌<◌, max, Option as CodeOption, Some, None, Bool, true, false, MatchBool, List, ◌++◌, map, length, take, drop}
+use Rattle.std.specs.List.{HoldsAt, AllWithin}
 use Rattle.std.proofs.Math.Option.{Option, some, none as nothing}
 use Rattle.binar.specs.Echelon.{EchelonForm, echelon}
 use Rattle.binar.specs.Words.{matrix}
@@ -51,16 +52,16 @@ found None = nothing
 
 -- ---- tests of the Paulis in words
 
--- a test tells r of the Pauli at word `at`, read up to the value of its exponent
-pub record Tested (tells : Held → Bool → Type 0) (w : List ℕ) (at : ℕ) (r : Bool) : Type 0 where
+-- a test tells r of the Pauli of five words, read up to the value of its exponent
+pub record Tested (tells : Held → Bool → Type 0) (words : List ℕ) (r : Bool) : Type 0 where
   pub pauli : Held
-  pub read : normal (held pauli) ≡ normal (pauli_in w at)
+  pub read : normal (held pauli) ≡ normal (pauli_in words 0)
   pub told : tells pauli r
 
--- whether the test holds of one of the n Paulis from word base on
-abbrev pub SomeTested : (Held → Bool → Type 0) → List ℕ → ℕ → ℕ → Bool → Type 0
-SomeTested tells w base n r =
-    MatchBool r ((i : ℕ) × (i < n) × Tested tells w (base + 5 * i) true) ((i : ℕ) → i < n → Tested tells w (base + 5 * i) false)
+-- whether the test holds of one of the Paulis of a list
+abbrev pub SomeTested : (Held → Bool → Type 0) → List (List ℕ) → Bool → Type 0
+SomeTested tells list r =
+    MatchBool r ((k : ℕ) × (k < length list) × HoldsAt (λ words. Tested tells words true) list k) (AllWithin (λ words. Tested tells words false) list 0 (length list))
 
 -- ---- what a call tells of a group, by its standard generators ps
 

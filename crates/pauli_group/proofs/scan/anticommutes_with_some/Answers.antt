@@ -7,5 +7,5 @@ use Rattle.pauli_group.proofs.scan.anticommutes_with_some.Goals as goal
 
 pub returns : goal.returns
 returns c =
-    some_tested (with_some_lem (held c.args.p)) c.args.w.now c.args.base c.args.n _ (λ q qs r h.
-    let test : r ≡ (anticommute (held c.args.p) (held q) == 1) = search (rules, tests) in ap yes_number test ∙ yes_number_one _ ((with_some_lem (held c.args.p)).small (held q) qs)) _ c.some.ensures
+    some_tested (with_some_lem (held c.args.p)) _ (λ q qs r h.
+    let test : r ≡ (anticommute (held c.args.p) (held q) == 1) = search (rules, tests) in ap yes_number test ∙ yes_number_one _ ((with_some_lem (held c.args.p)).small (held q) qs)) c.args.list.now _ c.some.ensures

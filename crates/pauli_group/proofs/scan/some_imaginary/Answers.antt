@@ -8,5 +8,5 @@ use Rattle.pauli_group.proofs.scan.some_imaginary.Goals as goal
 pub returns : goal.returns
 unfolding held
 returns c =
-    some_tested search_imaginary c.args.w.now c.args.base c.args.n _ (λ p qs r h.
-    let test : r ≡ ((pauli_weight (held p) == 0) && ((held p).e % 2 == 1)) = search (rules, tests) in ap yes_number test ∙ imaginary_tested (held p)) _ c.some.ensures
+    some_tested search_imaginary _ (λ p qs r h.
+    let test : r ≡ ((pauli_weight (held p) == 0) && ((held p).e % 2 == 1)) = search (rules, tests) in ap yes_number test ∙ imaginary_tested (held p)) c.args.list.now _ c.some.ensures

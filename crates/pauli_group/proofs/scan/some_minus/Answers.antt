@@ -8,5 +8,5 @@ use Rattle.pauli_group.proofs.scan.some_minus.Goals as goal
 pub returns : goal.returns
 unfolding held
 returns c =
-    some_tested search_minus c.args.w.now c.args.base c.args.n _ (λ p qs r h.
-    let test : r ≡ ((pauli_weight (held p) == 0) && ((held p).e % 4 == 2)) = search (rules, tests) in ap yes_number test ∙ minus_tested (held p)) _ c.some.ensures
+    some_tested search_minus _ (λ p qs r h.
+    let test : r ≡ ((pauli_weight (held p) == 0) && ((held p).e % 4 == 2)) = search (rules, tests) in ap yes_number test ∙ minus_tested (held p)) c.args.list.now _ c.some.ensures

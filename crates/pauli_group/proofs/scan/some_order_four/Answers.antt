@@ -7,5 +7,5 @@ use Rattle.pauli_group.proofs.scan.some_order_four.Goals as goal
 
 pub returns : goal.returns
 returns c =
-    some_tested order_four_lem c.args.w.now c.args.base c.args.n _ (λ p qs r h.
-    let test : r ≡ not (order_four (held p) == 0) = search (rules, tests) in ap yes_number test ∙ yes_number_more _ (order_four_lem.small (held p) qs)) _ c.some.ensures
+    some_tested order_four_lem _ (λ p qs r h.
+    let test : r ≡ not (order_four (held p) == 0) = search (rules, tests) in ap yes_number test ∙ yes_number_more _ (order_four_lem.small (held p) qs)) c.args.list.now _ c.some.ensures
