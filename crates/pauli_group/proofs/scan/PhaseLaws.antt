@@ -58,14 +58,16 @@ module _ {ls : List (List ℕ)} {m i : ℕ} (l : Lowered ls m i) where
   unfolding modulus_of paulis_in
   lowered_end h = sym (l.same ∙ ap (λ (k : ℕ). min m k) (at_drop_all (λ (xs : List (List ℕ)). modulus_in (paulis_in xs)) ls i h) ∙ omega (arith, l.high))
 
-  -- the words x of number i, with the exponent e
-  module _ (h : i < length ls) (x : List ℕ) (at : x ≡ get_or ls i x) (e : ℕ) (first : e ≡ get_or x 0 0) where
+  module _ (h : i < length ls) where
+    abbrev e : ℕ
+    e = get_or (get_or ls i []) 0 0
+
     abbrev rest : ℕ
     rest = modulus_in (paulis_in (drop (i + 1) ls))
 
     next : modulus_in (paulis_in ls) ≡ min m (if_zero (e % 2) (if_zero (e / 2 % 2) rest (min rest 2)) 1)
     unfolding modulus_of pauli_in paulis_in
-    next = rw first (l.same ∙ ap (min m) (at_drop_more (λ (xs : List (List ℕ)). modulus_in (paulis_in xs)) ls i x h ∙ ap (λ (y : List ℕ). modulus_in (pauli_in y 0 ∷ paulis_in (drop (i + 1) ls))) (sym at)))
+    next = l.same ∙ ap (min m) (at_drop_more (λ (xs : List (List ℕ)). modulus_in (paulis_in xs)) ls i [] h)
 
     pub lowered_odd : e % 2 ≡ 1 → 1 ≡ modulus_in (paulis_in ls)
     lowered_odd o = sym (next ∙ ap (min m) (if_zero_more (e % 2) (if_zero (e / 2 % 2) rest (min rest 2)) 1 (omega arith)) ∙ omega (arith, l.low))

@@ -1,9 +1,11 @@
 -- Laws of the standard generators in the work area: how they are made of the products, and what they tell.
-use Rattle.std.proofs.Common.{◌≡◌, Bool, true, false, not, ◌&&◌, ◌<◌, ℕ, zero, suc, ◌+◌, ◌-◌, ◌*◌, ◌%◌, ◌≤◌, max, List, [], ◌∷◌, ◌++◌, map, length, take, drop, sym, refl, ap, ◌∙◌, ap₂, arith, take_at, drop_at}
+use Rattle.std.proofs.Common.{◌≡◌, Bool, true, false, not, ◌&&◌, ◌<◌, ℕ, zero, suc, ◌+◌, ◌-◌, ◌*◌, ◌%◌, ◌≤◌, max, List, [], ◌∷◌, ◌++◌, map, length, take, drop, sym, refl, ap, ◌∙◌, ap₂, arith, length-append, length-take-le, take_at, drop_at}
+use lib.ListN.{length-map}
 use Rattle.pauli.specs.Pauli.{Pauli}
 use Rattle.pauli.specs.Signed.{list_in}
 use Rattle.pauli.proofs.write.Writers.{length_list}
 use Rattle.pauli_theory.specs.Standard.{if_zero, exponent_mod, appended, some_order_four, some_anticommute, some_imaginary, some_minus, step_of}
+use Rattle.pauli_theory.proofs.StandardLaw.{appended_count}
 use Rattle.pauli_theory.proofs.IfZero.{if_zero_zero, if_zero_more}
 use Rattle.pauli_group.specs.Inner.Area.{standard_at, Outside}
 use Rattle.pauli_group.specs.Inner.Lists.{from_products, stabilizer_of}
@@ -53,6 +55,24 @@ appended_map (suc zero) f ps = refl
 appended_map (suc (suc zero)) f ps = refl
 appended_map (suc (suc (suc m))) f [] = refl
 appended_map (suc (suc (suc m))) f (p ∷ ps) = refl
+
+-- one for each nonzero row, and at most one power of i
+pub from_products_few : (r : ℕ) (qs : List Pauli) → r ≤ length qs → length (from_products r qs) ≤ r + 1
+unfolding from_products if_zero
+from_products_few r qs h = go (max (some_order_four ps) (some_anticommute ps))
+  where
+    k : ℕ
+    k = modulus_in (drop r qs)
+
+    ps : List Pauli
+    ps = map (exponent_mod k) (take r qs)
+
+    size : length ps ≡ r
+    size = length-map (take r qs) (exponent_mod k) ∙ length-take-le r qs h
+
+    go : (b : ℕ) → length (if_zero b (ps ++ appended k ps) (map (exponent_mod 2) ps ++ appended (k % 2) ps)) ≤ r + 1
+    go zero = omega (arith, length-append ps (appended k ps), appended_count k ps, size)
+    go (suc b) = omega (arith, length-append (map (exponent_mod 2) ps) (appended (k % 2) ps), length-map ps (exponent_mod 2), appended_count (k % 2) ps, size)
 
 module _ (w : List ℕ) (n rank : ℕ) (h : rank ≤ n) where
   abbrev made : List Pauli

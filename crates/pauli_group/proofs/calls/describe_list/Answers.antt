@@ -1,5 +1,5 @@
 -- The refusal of the checks is told on; else the description is told.
-use Rattle.std.proofs.Common.{sym, length-take-le, ap, ◌∙◌}
+use Rattle.std.proofs.Common.{ap, ◌∙◌}
 use Rattle.pauli_group.specs.Promises.{promise_of}
 use Rattle.pauli_group.specs.Inner.Groups.{facts_of, facts_in}
 use Rattle.pauli_group.proofs.checks.OneList.{given, list_none, answers, area_cleared, refuses, area_kept}
@@ -15,16 +15,10 @@ returns-in_err-roll c =
       area = area_kept c.args.b.now c.args.work.now none;
     }
 
-pub slice_bounds-describe_once-end-2 : goal.slice_bounds-describe_once-end-2
-slice_bounds-describe_once-end-2 c = sym (length-take-le 4096 c.args.work.now c.in_ok-roll.ensures.room)
-
-pub describe_once-requires : goal.describe_once-requires
-describe_once-requires c = length-take-le 4096 c.args.work.now c.in_ok-roll.ensures.room
-
 pub returns : goal.returns
 returns c =
     let given = given _ _ _ c.in_ok-roll.ensures.count in
-    let description = rw c.in_ok-roll.ensures.bytes at c.describe_once.ensures in
+    let description = rw (c.in_ok-roll.ensures.bytes, c.area_of.ensures.value) at c.describe_once.ensures in
     record {
       told = answers c.args.b.now c.args.work.now given (facts_of (promise_of c.args.promise)) _ description.told;
       area = area_cleared c.args.b.now c.args.work.now given _ description.area;

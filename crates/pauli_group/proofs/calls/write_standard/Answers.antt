@@ -2,22 +2,29 @@
 use Rattle.std.proofs.Common.{ℕ, List, ap, ◌∙◌, arith}
 use Rattle.pauli.specs.Told.{answer}
 use Rattle.pauli.specs.Writing.{told_bytes, left_in}
-use Rattle.pauli_group.proofs.group.GroupedLaws.{cleared_whole, group_total, group_places, group_on}
+use Rattle.pauli_group.proofs.area.AreaLaws.{span_list}
+use Rattle.pauli_group.proofs.group.GroupedLaws.{cleared_whole, group_on}
 use Rattle.pauli_group.proofs.member.FactorLaws.{places_known}
 use Rattle.pauli_group.proofs.calls.CallLaws.{group_written}
 use Rattle.pauli_group.proofs.calls.write_standard.Goals as goal
 
 pub write_roll-wrote-requires : goal.write_roll-wrote-requires
 write_roll-wrote-requires c =
-    let count = c.args.roll.accepted in
-    let group = c.group_of-g.ensures.group in
-    let total = group_total _ _ count group in
-    let places = group_places _ _ count group in
-    (omega arith, omega arith, rw (c.qubits.ensures.list, ← places_known group) places, rw (c.qubits.ensures.list, ← places_known group) (group_on _ _ count group))
+    let g = c.group_of-g in
+    let few = g.result.few in
+    let list = span_list _ c.paulis.ensures.list c.standards.ensures in
+    let known = places_known g.ensures.group in (
+      omega (arith, c.paulis.ensures.count, c.standards.ensures, few),
+      rw (c.qubits.ensures.list, ← known) few.1,
+      rw (list, c.qubits.ensures.list, ← known) (group_on _ _ c.args.roll.accepted g.ensures.group),
+    )
 
 pub returns : goal.returns
 returns c =
     let out = c.args.out.now in
-    let group = c.group_of-g in
-    let wrote = c.write_roll-wrote.ensures in
-    let roll = rw (← c.qubits.ensures.list) at (group_written _ group.ensures.group) in record { told = wrote.told ∙ ap (λ (bs : List ℕ). told_bytes (answer bs) out) roll; left = wrote.left ∙ ap (λ (bs : List ℕ). left_in (answer bs) out) roll; area = c.clear_bits.ensures ∙ cleared_whole _ _ (group.auto.w ∙ c.requires) c.requires }
+    let wrote = rw (span_list _ c.paulis.ensures.list c.standards.ensures, c.qubits.ensures.list) at c.write_roll-wrote.ensures in
+    let roll = group_written _ c.group_of-g.ensures.group in record {
+      told = wrote.told ∙ ap (λ (bs : List ℕ). told_bytes (answer bs) out) roll;
+      left = wrote.left ∙ ap (λ (bs : List ℕ). left_in (answer bs) out) roll;
+      area = c.clear_bits.ensures ∙ cleared_whole _ _ c.group_of-g.array_long c.told-w;
+    }

@@ -3,4 +3,4 @@ use Rattle.pauli_group.proofs.group.GroupedLaws.{cleared_whole}
 use Rattle.pauli_group.proofs.group.describe_once.Goals as goal
 
 pub returns : goal.returns
-returns c = record { told = c.describe-d.ensures; area = c.clear_bits.ensures ∙ cleared_whole _ c.args.w.now (c.describe-d.auto.w ∙ c.requires) c.requires }
+returns c = record { told = c.describe-d.ensures; area = c.clear_bits.ensures ∙ cleared_whole _ c.args.w.now c.describe-d.array_long c.told-w }

@@ -14,7 +14,7 @@ read_list-requires c =
     let few = own_few c.args.roll.bytes.now c.args.roll.count c.args.roll.accepted in (
       part_readable _ _ g few c.args.roll.bytes.now c.args.roll.count c.args.roll.accepted (λ p m. m),
       places_few _ _ g few,
-      omega (arith, c.requires, accepted_few c.args.roll.bytes.now c.args.roll.count c.args.roll.accepted),
+      omega (arith, accepted_few c.args.roll.bytes.now c.args.roll.count c.args.roll.accepted),
     )
 
 pub build-requires : goal.build-requires
@@ -22,7 +22,6 @@ unfolding most_paulis
 build-requires c =
     let g = own_gathered c.args.roll.bytes.now _ (rw (c.new.ensures, ← c.qubits-qubits.ensures.list) at c.gather.ensures) in
     let few = own_few c.args.roll.bytes.now c.args.roll.count c.args.roll.accepted in (
-      c.read_list.ensures.rest.size ∙ c.requires,
       accepted_few c.args.roll.bytes.now c.args.roll.count c.args.roll.accepted,
       places_few _ _ g few,
       on_places _ _ g few _ c.args.roll.count c.read_list.ensures.list,
@@ -33,6 +32,7 @@ unfolding most_paulis
 returns c =
     let g = own_gathered c.args.roll.bytes.now _ (rw (c.new.ensures, ← c.qubits-qubits.ensures.list) at c.gather.ensures) in
     let few = own_few c.args.roll.bytes.now c.args.roll.count c.args.roll.accepted in record {
+      count = c.build.ensures.count;
       group = rw (← c.qubits-qubits.ensures.list, c.build.ensures.places) (grouped _ _ g few _ c.args.roll.count c.read_list.ensures.list _ _ _ (accepted c.args.roll.bytes.now c.args.roll.count c.args.roll.accepted).1 c.build.ensures.built);
       rest = outside_join (outside_wider 0 further_at c.read_list.ensures.rest (omega arith) (omega (arith, accepted_few c.args.roll.bytes.now c.args.roll.count c.args.roll.accepted))) c.build.ensures.built.rest;
     }

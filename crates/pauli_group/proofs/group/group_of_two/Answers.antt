@@ -10,7 +10,7 @@ read_list-requires c =
     let g = rw (← c.qubits-qubits.ensures.list) at c.join_support.ensures in (
       part_readable _ _ g c.args.pair.qubits c.args.pair.left.bytes.now c.args.pair.left.count c.args.pair.left.accepted (λ p m. Memᴰ.append_left (list_of c.args.pair.right.bytes.now) m),
       places_few _ _ g c.args.pair.qubits,
-      omega (arith, c.args.pair.few, c.requires),
+      omega (arith, c.args.pair.few),
     )
 
 pub read_list-requires-2 : goal.read_list-requires-2
@@ -18,13 +18,12 @@ read_list-requires-2 c =
     let g = rw (← c.qubits-qubits.ensures.list) at c.join_support.ensures in (
       part_readable _ _ g c.args.pair.qubits c.args.pair.right.bytes.now c.args.pair.right.count c.args.pair.right.accepted (λ p m. Memᴰ.append_right (list_of c.args.pair.left.bytes.now) m),
       places_few _ _ g c.args.pair.qubits,
-      omega (arith, c.args.pair.few, c.requires, c.read_list.ensures.rest.size),
+      omega (arith, c.args.pair.few),
     )
 
 pub build-requires : goal.build-requires
 build-requires c =
     let g = rw (← c.qubits-qubits.ensures.list) at c.join_support.ensures in (
-      c.read_list-2.ensures.rest.size ∙ c.read_list.ensures.rest.size ∙ c.requires,
       c.args.pair.few,
       places_few _ _ g c.args.pair.qubits,
       on_places _ _ g c.args.pair.qubits _ (c.args.pair.left.count + c.args.pair.right.count) (two_listed _ (list_of c.args.pair.left.bytes.now) (list_of c.args.pair.right.bytes.now) c.args.pair.left.count c.args.pair.right.count _ _ c.read_list.ensures.list c.read_list-2.ensures.list c.read_list-2.ensures.rest),

@@ -1,20 +1,25 @@
-use Rattle.std.proofs.Common.{◌≡◌, ℕ, ◌+◌, ◌*◌, ◌-◌, true, false, Bool, refl, ap, ◌∙◌, arith, rules, tests}
-use Rattle.std.proofs.lemmas.Iterator.{cases_from_any, YieldsList-from_range}
-use Rattle.pauli.specs.Signed.{held, list_in}
-use Rattle.pauli_theory.specs.Standard.{anticommutes_with_some}
-use Rattle.pauli_group.specs.Inner.Lists.{Tested}
-use Rattle.pauli_group.specs.Answers.{yes_number}
-use Rattle.pauli_group.proofs.scan.ScanLaws.{by_number, some_told, at_read, two_anticommute, list_behind}
+use Rattle.std.proofs.Common.{◌≡◌, List, ℕ, sym, refl, ap, ◌∙◌}
+use Rattle.std.proofs.lemmas.List.{nil_from_length}
+use Rattle.pauli.specs.Signed.{paulis_in}
+use Rattle.pauli_theory.specs.Standard.{some_anticommute}
+use Rattle.pauli_group.proofs.scan.ScanLaws.{two_anticommute, found_first, past_first}
 use Rattle.pauli_group.proofs.scan.some_anticommute.Goals as goal
 
+pub loop-words-init : goal.loop-words-init
+loop-words-init c = refl
+
+pub returns-then-anticommutes_with_some : goal.returns-then-anticommutes_with_some
+unfolding paulis_in
+returns-then-anticommutes_with_some c =
+    found_first two_anticommute c.from_words.result _ _ c.from_words.ensures c.if-anticommutes_with_some.ensures
+    ∙ sym (c.loop-words.invariant ∙ ap (λ (ls : List (List ℕ)). some_anticommute (paulis_in ls)) c.in-Some.ensures.cases.0)
+
+pub loop-words-preserved : goal.loop-words-preserved
+unfolding paulis_in
+loop-words-preserved c =
+    c.loop-words.invariant ∙ ap (λ (ls : List (List ℕ)). some_anticommute (paulis_in ls)) c.in-Some.ensures.cases.0
+    ∙ past_first two_anticommute c.from_words.result _ _ c.from_words.ensures c.if-anticommutes_with_some.ensures
+
 pub returns : goal.returns
-returns c =
-    let w = c.args.w.now in
-    let base = c.args.base in
-    let n = c.args.n in
-    let answers : ℕ → Bool → Type 0 = λ i r. Tested (λ p s. yes_number s ≡ anticommutes_with_some (held p) (list_in w (base + 5 * i + 5) (n - i - 1))) w (base + 5 * i) r in
-    some_told two_anticommute w base n answers (λ i r h. h.told ∙ ap (anticommutes_with_some (held h.pauli)) (list_behind w base n i) ∙ at_read two_anticommute w base n i h.pauli h.read) _
-    (by_number c.any.result n (λ i. answers i true) (λ i. answers i false)
-    (cases_from_any _ _ _ (λ i. answers i true) (λ i. answers i false) c.any.ensures.ran (YieldsList-from_range 0 n n refl (omega arith))
-    (λ x q k. search (rules, tests))
-    (λ x q k. (search rules, search (rules, tests)))))
+unfolding paulis_in
+returns c = sym (c.loop-words.invariant ∙ ap (λ (ls : List (List ℕ)). some_anticommute (paulis_in ls)) (nil_from_length _ c.in_default.ensures.cases) ∙ two_anticommute.none)

@@ -1,6 +1,5 @@
 use Rattle.std.proofs.Common.{◌≡◌, not, ◌&&◌, ap, ◌∙◌, rules, tests}
-use Rattle.pauli.specs.Signed.{list_in}
-use Rattle.pauli_group.specs.Inner.Area.{standard_at}
+use Rattle.pauli.specs.Signed.{paulis_in}
 use Rattle.pauli_group.specs.Inner.Lists.{stabilizer_of, clash_of}
 use Rattle.pauli_group.specs.Answers.{yes_number}
 use Rattle.pauli_group.specs.Promises.{promise_of}
@@ -9,7 +8,7 @@ use Rattle.pauli_group.proofs.standard.signs_of.Goals as goal
 
 pub returns : goal.returns
 returns c =
-    let ps = list_in c.args.w.now standard_at c.args.n in
+    let ps = paulis_in c.args.list.now in
     let clash = clash_of (promise_of c.args.promise) ps in
     let told = c.if-not-order_four.stabilizer in
     let tests_are : told ≡ ((not c.clash_of-clash.result && not c.some_order_four-order_four.result) && not c.some_minus-minus.result) = search (rules, tests) in
