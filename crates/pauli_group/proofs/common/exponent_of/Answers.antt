@@ -1,5 +1,6 @@
 use Rattle.std.proofs.Common.{ap, ◌∙◌, arith}
 use Rattle.pauli.specs.Pauli.{indexed_product}
+use Rattle.pauli_group.proofs.area.AreaLaws.{span_list}
 use Rattle.pauli_group.proofs.moved.MoveLaws.{loaded_movable}
 use Rattle.pauli_group.proofs.common.SharedLaws.{target_low, exponent_none, exponent_set}
 use Rattle.pauli_group.proofs.common.exponent_of.Goals as goal
@@ -27,7 +28,7 @@ returns-in-None c =
 pub returns-in-Some : goal.returns-in-Some
 returns-in-Some c =
     let p = c.requires in
-    let list = rw (c.generators.ensures.0, c.generators.ensures.1) at c.paulis.ensures.list in record {
+    let list = span_list _ c.paulis.ensures.list c.generators.ensures in record {
       told = exponent_set _ _ _ c.args.at _ _ _ p.1 p.2 _ _ c.load.ensures c.move_pauli-p.ensures _ c.in-Some.ensures.told _ c.solve.ensures.rest _
           (c.indexed_product-product.ensures ∙ ap (indexed_product _) list);
       low = omega arith;

@@ -1,6 +1,6 @@
 -- The element over the places of the support is solved for by the form; the exponent left is held to the phases.
 use Rattle.pauli.specs.Pauli.{indexed_product}
-use Rattle.pauli_group.proofs.area.AreaLaws.{form_room}
+use Rattle.pauli_group.proofs.area.AreaLaws.{form_room, span_list}
 use Rattle.pauli_group.proofs.member.FactorLaws.{covered_readable, places_known, known_rises, asked_solvable, asked_on}
 use Rattle.pauli_group.proofs.member.FactorLaws.{factored_off, factored_none, factored_found, factored_phase}
 use Rattle.pauli_group.proofs.list.ListLaws.{outside_refl, list_kept_after}
@@ -38,7 +38,7 @@ returns-then-left-step-ne0 c =
     let inside = sym c.is_supported.ensures ∙ c.if-not-is_supported.false in
     let solved = c.in_ok-set.ensures in
     let kept = list_kept_after solved.rest list_at c.args.group.count (omega (arith, (form_room _ c.args.group.few.0).1)) in
-    let list = rw (c.generators.ensures.0, c.generators.ensures.1) at c.paulis.ensures.list in
+    let list = span_list _ c.paulis.ensures.list c.generators.ensures in
     let over = rw c.step.ensures.0 at c.if-left-step-ne0.true in
     record {
       told = λ g. factored_phase g _ inside _ c.condense_from-p.ensures _ solved.told
@@ -52,7 +52,7 @@ returns c =
     let inside = sym c.is_supported.ensures ∙ c.if-not-is_supported.false in
     let solved = c.in_ok-set.ensures in
     let kept = list_kept_after solved.rest list_at c.args.group.count (omega (arith, (form_room _ c.args.group.few.0).1)) in
-    let list = rw (c.generators.ensures.0, c.generators.ensures.1) at c.paulis.ensures.list in
+    let list = span_list _ c.paulis.ensures.list c.generators.ensures in
     let whole = rw c.step.ensures.0 at c.if-left-step-ne0.false in
     record {
       told = λ g. factored_found g _ inside _ c.condense_from-p.ensures _ solved.told

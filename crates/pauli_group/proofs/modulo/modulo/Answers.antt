@@ -15,9 +15,6 @@ returns-in_err-pair c =
     let e = ends_refused c.args.left.now c.args.right.now c.args.work.now c.args.out.now (map_told (modulo_bytes (promise_of c.args.promises.right))) refl none in
     record { told = ap told_of (handed_on _ _ c.from_residual.ensures.1) ∙ e.answered; written = e.written; area = e.area }
 
-pub area_of-requires : goal.area_of-requires
-area_of-requires c = c.in_ok-pair.ensures.room
-
 pub returns : goal.returns
 unfolding modulo_call modulo_bytes map_told
 returns c =

@@ -3,6 +3,7 @@ use Rattle.pauli.specs.Condense.{list_of}
 use Rattle.pauli_group.specs.Inner.Area.{further_at}
 use Rattle.pauli_group.specs.Calls.{paulis}
 use Rattle.pauli_group.specs.Promises.{promise_of}
+use Rattle.pauli_group.proofs.area.AreaLaws.{span_list}
 use Rattle.pauli_group.proofs.group.GroupLaws.{described}
 use Rattle.pauli_group.proofs.group.GroupedLaws.{list_length, list_few, group_total, group_places, group_on}
 use Rattle.pauli_group.proofs.list.ListLaws.{list_kept_after}
@@ -42,7 +43,7 @@ returns c =
     let left = c.group_of-a in
     let few = group_total _ _ c.args.pair.left.accepted left.ensures.group in
     let n = list_length _ _ c.args.pair.right.accepted ∙ sym group.ensures.count in
-    let standards = rw (c.standards-2.ensures.0, c.standards-2.ensures.1) at c.paulis.ensures.list in
+    let standards = span_list _ c.paulis.ensures.list c.standards-2.ensures in
     let signs = c.signs_of-signs.ensures in
     let step = c.step.ensures.0 ∙ (described g (promise_of c.args.promise) _ _ _ (rw standards at signs.clash) (rw standards at signs.step) (rw standards at signs.stabilizer)).step_is in
     let copied = rw (c.standards.ensures.0, c.standards.ensures.1, c.qubits.ensures.list) at c.move_list.ensures.list in
