@@ -17,7 +17,7 @@ use pauli::support::{Place, place_from, qubit_at};
 
 // A set of places of the first support as the places of the same qubits in the second.
 fn move_set(set: Places, own: &[u32], joined: &[u32]) -> Places
-    requires { (length own.now ≤ 128) × (length joined.now ≤ 128) × (set_in set < 2 ^ length own.now) × Movable own.now joined.now (set_in set) }
+    requires { (length joined.now ≤ 128) × (set_in set < 2 ^ length own.now) × Movable own.now joined.now (set_in set) }
     ensures { set_in result ≡ moved_set own.now joined.now (set_in set) }
 {
     let mut moved = Places::none();
@@ -32,7 +32,7 @@ fn move_set(set: Places, own: &[u32], joined: &[u32]) -> Places
 
 // A Pauli over the places of the first support as one over those of the second.
 pub(crate) fn move_pauli(p: Pauli, own: &[u32], joined: &[u32]) -> Pauli
-    requires { (length own.now ≤ 128) × (length joined.now ≤ 128) × ((held p).x < 2 ^ length own.now) × ((held p).z < 2 ^ length own.now) × MovablePauli own.now joined.now (held p) }
+    requires { (length joined.now ≤ 128) × ((held p).x < 2 ^ length own.now) × ((held p).z < 2 ^ length own.now) × MovablePauli own.now joined.now (held p) }
     ensures { held result ≡ moved_pauli own.now joined.now (held p) }
 {
     Pauli {
@@ -50,7 +50,7 @@ pub(crate) fn move_list(
     own: &[u32],
     joined: &[u32],
 )
-    requires { (from.base + 5 * from.count ≤ to) × (to + 5 * from.count ≤ 4096) × (length own.now ≤ 128) × (length joined.now ≤ 128) × OnPlaces (length own.now) (list_in w.old from.base from.count) × All (MovablePauli own.now joined.now) (list_in w.old from.base from.count) }
+    requires { (from.base + 5 * from.count ≤ to) × (to + 5 * from.count ≤ 4096) × (length joined.now ≤ 128) × OnPlaces (length own.now) (list_in w.old from.base from.count) × All (MovablePauli own.now joined.now) (list_in w.old from.base from.count) }
     ensures list { list_in w.new to from.count ≡ map (λ p. normal (moved_pauli own.now joined.now p)) (list_in w.old from.base from.count) }
     ensures rest { Outside to (5 * from.count) w.old w.new }
 {

@@ -16,7 +16,7 @@ use Rattle.pauli.proofs.condense.Sets.{members_only}
 use Rattle.pauli_theory.proofs.OverPlaces.{up_to, up_to_length, up_to_rises, up_to_at, condense_up_to}
 
 module _ (n v : ℕ) (h : v < 2 ^ n) where
-  bit_below : (i : ℕ) → bit v i ≡ 1 → i < n
+  pub bit_below : (i : ℕ) → bit v i ≡ 1 → i < n
   bit_below i e = elim (dec_lt i n) [ yes l ↦ l | no l ↦ absurd (omega (arith, bit_past n v i h (omega arith))) ]
 
   pub members_below : All (λ i. i < n) (members v)

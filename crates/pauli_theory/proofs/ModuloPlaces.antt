@@ -8,13 +8,13 @@ use Prim.Native.Nat.{ℕ, zero, suc, ◌*◌, ◌%◌, ◌^◌, ◌≤◌, ◌<�
 use native.Mathlib.Nat.{mod-lt}
 use native.Mathlib.Omega.{arith}
 use native.Mathlib.Decide.{ℕ_discrete}
-use lib.Bits.{bit_or, or_lt}
+use lib.Bits.{bit_or}
 use lib.Dec.{ltb}
 use lib.ListN.{length, get_or, drop, drop_of_length-le, length-append, length-map}
-use lib.Pow.{pow-lt, pow_pos}
+use lib.Pow.{pow-lt}
 use Rattle.binar.specs.Row.{bit, if_bit}
 use Rattle.binar.specs.Echelon.{rank as echelon_rank}
-use Rattle.binar.proofs.row.Bits.{bit_of_zero, bit_past, bit_mod, xor_lt}
+use Rattle.binar.proofs.row.Bits.{bit_of_zero, xor_lt}
 use Rattle.binar.proofs.Lists.{all_of, all_map, all_over, all_left, all_right, map_same}
 use Rattle.binar.proofs.echelon.Span.{if_bit_case, if_bit_map}
 use Rattle.pauli.specs.Roll.{write}
@@ -105,33 +105,6 @@ condense_unit qs rises q m =
     (λ e. rw (← unit_only q (get_or qs i 0) e, place_of_qubit 0 qs rises i l) (bit_unit i))
     (λ e. rw (unit_only (place_of qs q) i e, qubit_at_place qs q m) (bit_unit q))
 
--- the first digits of a number, with one digit more
-module _ (v i : ℕ) where
-  low : v % 2 ^ i < 2 ^ i
-  low = mod-lt v (pow_pos i)
-
-  low_next : v % 2 ^ suc i < 2 ^ suc i
-  low_next = mod-lt v (pow_pos (suc i))
-
-  low_more : bit v i ≡ 1 → v % 2 ^ suc i ≡ bit_or (v % 2 ^ i) (2 ^ i)
-  low_more e =
-      ext_below (suc i) (v % 2 ^ suc i) (bit_or (v % 2 ^ i) (2 ^ i)) low_next
-      (or_lt (suc i) (v % 2 ^ i) (2 ^ i) (omega (arith, low)) (omega (arith, pow_pos i))) λ k l.
-      elim (ℕ_discrete k i) [
-        | yes d ↦
-            let past = bit_past i (v % 2 ^ i) k low (omega arith) in
-            omega (arith, bit_mod (suc i) v k l, ap (bit v) d, e, bit_or_lem (v % 2 ^ i) (2 ^ i) k, past, ap (bit (2 ^ i)) d, bit_unit i)
-        | no n ↦ omega (arith, bit_mod (suc i) v k l, bit_or_lem (v % 2 ^ i) (2 ^ i) k, bit_mod i v k (omega arith), bit_unit_other i k n)
-      ]
-
-  low_same : bit v i ≡ 0 → v % 2 ^ suc i ≡ v % 2 ^ i
-  low_same e =
-      ext_below (suc i) (v % 2 ^ suc i) (v % 2 ^ i) low_next (omega (arith, low)) λ k l.
-      elim (ℕ_discrete k i) [
-        | yes d ↦ bit_mod (suc i) v k l ∙ ap (bit v) d ∙ e ∙ sym (bit_past i (v % 2 ^ i) k low (omega arith))
-        | no n ↦ bit_mod (suc i) v k l ∙ sym (bit_mod i v k (omega arith))
-      ]
-
 module _ (own : List ℕ) (rises : Rising 0 own) (qs : List ℕ) where
   pub moved_or : (a b : ℕ) → moved_set own qs (bit_or a b) ≡ bit_or (moved_set own qs a) (moved_set own qs b)
   unfolding moved_set
@@ -141,23 +114,12 @@ module _ (own : List ℕ) (rises : Rising 0 own) (qs : List ℕ) where
   unfolding moved_set
   moved_unit h i l m = ap (condense qs) (expand_unit own rises i l) ∙ condense_unit qs h (get_or own i 0) m
 
-  -- the first i places of v, moved, where i goes up from 0
-  pub moved_none : (v : ℕ) → moved_set own qs (v % 2 ^ 0) ≡ 0
+  pub moved_none : moved_set own qs 0 ≡ 0
   unfolding moved_set
-  moved_none v =
-      let none : v % 2 ^ 0 ≡ 0 = omega arith in
-      ap (λ (r : ℕ). condense qs (expand own r)) none ∙ ap (condense qs) expand_none ∙ condense_none qs
+  moved_none = ap (condense qs) expand_none ∙ condense_none qs
     where
       expand_none : expand own 0 ≡ 0
       expand_none = ap (expand own) (sym (condense_none own)) ∙ expand_condense own rises 0 (λ q o. absurd (omega (arith, bit_of_zero q)))
-
-  pub moved_without : (v i : ℕ) → bit v i ≡ 0 → moved_set own qs (v % 2 ^ suc i) ≡ moved_set own qs (v % 2 ^ i)
-  moved_without v i e = ap (moved_set own qs) (low_same v i e)
-
-  pub moved_with : Rising 0 qs → (v i : ℕ) → i < length own → Mem (get_or own i 0) qs → bit v i ≡ 1
-      → moved_set own qs (v % 2 ^ suc i) ≡ bit_or (moved_set own qs (v % 2 ^ i)) (2 ^ place_of qs (get_or own i 0))
-  moved_with h v i l m e =
-      ap (moved_set own qs) (low_more v i e) ∙ moved_or (v % 2 ^ i) (2 ^ i) ∙ ap (bit_or (moved_set own qs (v % 2 ^ i))) (moved_unit h i l m)
 
   pub moved_lt : (v : ℕ) → moved_set own qs v < 2 ^ length qs
   unfolding moved_set

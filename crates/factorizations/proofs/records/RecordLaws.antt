@@ -1,14 +1,10 @@
 -- Laws of the records of results.
 use Rattle.std.proofs.Common.{◌≡◌, refl, sym, ap, ◌∙◌, List, [], ◌∷◌, ◌++◌, ℕ, ◌+◌, ◌*◌, ◌^◌, ◌≤◌, ◌<◌, arith, length, set}
 use mathlib.Core.Option.{Option, some, none}
-use lib.Arith.{digits_lt}
 use Rattle.binar.specs.Row.{weight}
-use Rattle.pauli.specs.declared.places.Places.{Places}
 use Rattle.pauli.specs.Bytes.{le16}
-use Rattle.pauli.specs.PlaceSet.{set_in}
 use Rattle.pauli.specs.Sets.{members}
 use Rattle.pauli.specs.Writing.{put_bytes}
-use Rattle.pauli.proofs.places.Halves.{Words}
 use Rattle.pauli.proofs.write.Puts.{put_nothing, put_byte, put_two, put_append}
 use Rattle.pauli_theory.specs.Membership.{Factorization}
 use Rattle.pauli_group.specs.Calls.{le16s, index_bytes, factored}
@@ -16,10 +12,6 @@ use Rattle.pauli_group.proofs.member.MemberLaws.{length_indexes}
 use Rattle.factorizations.specs.Put.{Put}
 use Rattle.factorizations.specs.Records.{result_bytes, results_bytes}
 use Rattle.factorizations.proofs.stored.PieceLaws.{Pieces}
-
-pub two_words : (s : Places) → Words s → set_in s < 2 ^ 128
-unfolding set_in
-two_words s f = digits_lt {m = 2 ^ 64} f.high f.low
 
 -- ---- one record
 

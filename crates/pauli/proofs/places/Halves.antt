@@ -1,6 +1,7 @@
 -- Laws of a set of places held in two words.
 use Rattle.std.proofs.Common.{◌≡◌, ℕ, ◌+◌, ◌-◌, ◌*◌, ◌%◌, ◌^◌, ◌<◌, ◌≤◌, eqb, sym, ap, ◌∙◌, add_comm, arith, eq-eqb, ne_eqb}
 use native.Mathlib.Decide.{dec_lt}
+use lib.Arith.{digits_lt}
 use lib.Bits.{bit_and, bit_or, bit_xor, and_block, or_block, xor_block, and_lt, and_le_l, and_le_r, or_add_and}
 use lib.Count.{ones, ones_cat}
 use Rattle.binar.specs.Row.{◌⊕◌, bit, dot, weight}
@@ -15,6 +16,10 @@ pub record Words (s : Places) : Type 0 where
   pub high : s.high < 2 ^ 64
 
 module _ (s : Places) (f : Words s) where
+  pub two_words : set_in s < 2 ^ 128
+  unfolding set_in
+  two_words = digits_lt {m = 2 ^ 64} f.high f.low
+
   pub index_low : (p : ℕ) → p < 64 → bit (set_in s) p ≡ bit s.low p
   unfolding set_in
   index_low p h = bit_low 64 s.high s.low p h f.low

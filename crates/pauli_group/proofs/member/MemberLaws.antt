@@ -1,7 +1,7 @@
 -- Laws of numbers that are all in a support, and of index sets written.
-use Rattle.std.proofs.Common.{◌≡◌, ℕ, zero, suc, ◌+◌, ◌-◌, ◌*◌, ◌^◌, ◌<◌, ◌≤◌, true, false, cond, ltb, List, [], ◌∷◌, ◌++◌, length, get_or, sym, refl, ap, ◌∙◌, ap₂, arith, length-append, le-ltb, lt-ltb}
+use Rattle.std.proofs.Common.{◌≡◌, ℕ, zero, suc, ◌+◌, ◌-◌, ◌*◌, ◌<◌, ◌≤◌, true, false, cond, ltb, List, [], ◌∷◌, ◌++◌, length, get_or, sym, refl, ap, ◌∙◌, ap₂, arith, length-append, le-ltb, lt-ltb}
 use mathlib.Core.List.{Memᴰ as Mem}
-use Rattle.binar.specs.Row.{bit, weight}
+use Rattle.binar.specs.Row.{weight}
 use Rattle.pauli.specs.declared.roll.Entry.{Entry}
 use Rattle.pauli.specs.RollAnswers.{told_entry}
 use Rattle.pauli.specs.Bytes.{u32_at, numbers_at, le16}
@@ -15,14 +15,11 @@ use Rattle.pauli.specs.Writing.{put_bytes}
 use Rattle.pauli.proofs.condense.BodyLaws.{xs_is, zs_is}
 use Rattle.pauli.proofs.roll.BytesLaws.{length_le16}
 use Rattle.pauli.proofs.joined.JoinLaws.{accepted}
-use Rattle.pauli.proofs.places.Firsts.{First}
-use Rattle.pauli.proofs.write.Puts.{chosen_from, chosen_start, chosen_end, chosen_hit, chosen_skip, Left, left_start, left_done, left_same, left_room, left_step}
+use Rattle.pauli.proofs.write.Puts.{Left, left_start, left_done, left_room, left_step}
 use Rattle.pauli.proofs.condense.Sets.{members_count}
 use Rattle.pauli.proofs.condense.Places.{place_in, qubit_at_place, no_place}
 use Rattle.pauli.proofs.support.Lists.{in_get_or}
 use Rattle.pauli.proofs.support.Walk.{lower_here, lower_next, insert_there, numbers_next, numbers_end}
-use Rattle.pauli_theory.proofs.IndexSets.{members_up_to}
-use Rattle.pauli_theory.proofs.OverPlaces.{up_to, up_to_length, up_to_at}
 use Rattle.pauli_group.specs.Inner.Members.{covered}
 use Rattle.pauli_group.specs.Calls.{le16s}
 
@@ -103,36 +100,26 @@ length_le16s (n ∷ ns) = length-append (le16 n) (le16s ns) ∙ omega (arith, le
 pub length_indexes : (s : ℕ) → length (le16s (members s)) ≡ 2 * weight s
 length_indexes s = length_le16s (members s) ∙ ap (2 *◌) (members_count s)
 
-module _ (s n : ℕ) (h : s < 2 ^ n) where
-  all_indexes : members s ≡ chosen_from s (up_to n) 0
-  all_indexes = members_up_to n s h ∙ sym (chosen_start s (up_to n))
+pub indexes_start : (first : List ℕ) (start s : ℕ) → start + 2 * weight s ≤ length first
+    → Left first start (le16s (members s)) first start (le16s (members s))
+indexes_start first start s room = left_start first start _ _ refl (omega (arith, length_indexes s))
 
-  pub indexes_start : (out : List ℕ) (at : ℕ) → at + 2 * weight s ≤ length out
-      → Left out at (le16s (members s)) out at (le16s (chosen_from s (up_to n) 0))
-  indexes_start out at room = left_start out at _ _ (ap le16s all_indexes) (omega (arith, length_indexes s))
+-- the indexes of a set are being written, and those in `left` are left
+module _ (s : ℕ) {first : List ℕ} {start : ℕ} {out : List ℕ} {next : ℕ} (left : List ℕ)
+    (r : Left first start (le16s (members s)) out next (le16s left)) where
+  pub indexes_done : left ≡ [] → out ≡ put_bytes first start (le16s (members s))
+  unfolding le16s
+  indexes_done e = (left_done r (ap le16s e)).0
 
-  -- the indexes are being written, and those from i on are left
-  module _ {first out : List ℕ} {at next : ℕ} (i : ℕ)
-      (r : Left first at (le16s (members s)) out next (le16s (chosen_from s (up_to n) i))) where
-    pub indexes_done : n ≤ i → out ≡ put_bytes first at (le16s (members s))
+  -- the next is i
+  module _ (i : ℕ) (more : List ℕ) (e : left ≡ i ∷ more) where
+    index : le16s left ≡ le16 i ++ le16s more
     unfolding le16s
-    indexes_done l = (left_done r (ap le16s (chosen_end s (up_to n) i (rw up_to_length l)))).0
+    index = ap le16s e
 
-    pub indexes_skip : {m k : ℕ} → First m s i k → Left first at (le16s (members s)) out next (le16s (chosen_from s (up_to n) k))
-    indexes_skip f = left_same r _ (ap le16s (chosen_skip s (up_to n) f))
+    pub indexes_room : next + 2 ≤ length out
+    indexes_room = left_room r (le16 i) _ 2 index (length_le16 i)
 
-    module _ (l : i < n) where
-      within : i < length (up_to n)
-      within = rw up_to_length l
-
-      module _ (o : bit s i ≡ 1) where
-        index : le16s (chosen_from s (up_to n) i) ≡ le16 i ++ le16s (chosen_from s (up_to n) (i + 1))
-        unfolding le16s
-        index = ap le16s (chosen_hit s (up_to n) i within o ∙ ap (◌∷ chosen_from s (up_to n) (i + 1)) (up_to_at n i l))
-
-        pub indexes_room : next + 2 ≤ length out
-        indexes_room = left_room r (le16 i) _ 2 index (length_le16 i)
-
-        pub indexes_hit : (u : List ℕ) → u ≡ put_bytes out next (le16 i) → length u ≡ length out
-            → Left first at (le16s (members s)) u (next + 2) (le16s (chosen_from s (up_to n) (i + 1)))
-        indexes_hit = left_step r (le16 i) _ 2 index (length_le16 i)
+    pub indexes_next : (u : List ℕ) → u ≡ put_bytes out next (le16 i) → length u ≡ length out
+        → Left first start (le16s (members s)) u (next + 2) (le16s more)
+    indexes_next = left_step r (le16 i) _ 2 index (length_le16 i)

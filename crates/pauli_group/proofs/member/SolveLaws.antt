@@ -106,6 +106,9 @@ module _ (l : List ℕ) (f : AreWords l) (n s rank : ℕ) (p : Held) (few : s �
         (swept (stride_of n) n rank target_at (put_row l target_at (stride_of n) v))
     left_in_lem = rw (e, target) at ey
 
+    pub pauli_words : AreWords y
+    pauli_words = subst AreWords (sym left_in_lem) (words_put _ _ _ _ (words_put l target_at (stride_of n) v f))
+
     pub pauli_rest : Outside target_at (stride_of n) l y
     pauli_rest = solved_outside l f (stride_of n) n 4 (2 * s) rank target_at S (omega arith) four v v_lt y left_in_lem
 

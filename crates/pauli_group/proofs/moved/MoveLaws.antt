@@ -1,14 +1,15 @@
 -- Laws of Paulis moved from the places of one list of qubits to those of another.
-use Rattle.std.proofs.Common.{◌≡◌, ℕ, zero, suc, ◌+◌, ◌*◌, ◌%◌, ◌^◌, ◌<◌, ◌≤◌, List, [], ◌∷◌, length, get_or, sym, ap, ◌∙◌, lt_of_lt_of_le, mod-eq_of_lt, add-one, arith, pow_mono, eq-eqb, ne_eqb}
+use Rattle.std.proofs.Common.{◌≡◌, ℕ, zero, suc, ◌+◌, ◌*◌, ◌%◌, ◌^◌, ◌<◌, ◌≤◌, List, [], ◌∷◌, length, get_or, sym, ap, ◌∙◌, subst, arith, eq-eqb, ne_eqb}
 use mathlib.Core.List.Memᴰ.{head as here}
 use mathlib.Core.List.Memᴰ.{tail as there}
 use mathlib.Core.List.{Memᴰ as Mem}
-use lib.Bits.{bit_or}
-use Rattle.binar.specs.Row.{bit}
+use lib.Bits.{bit_or, or_zero_r}
+use Rattle.binar.proofs.row.Bits.{ext}
 use Rattle.binar.proofs.Lists.{all_get}
 use Rattle.pauli.specs.Known.{place_of, lower}
 use Rattle.pauli.specs.Support.{All, Rising}
-use Rattle.pauli.proofs.support.Lists.{in_get_or}
+use Rattle.pauli.specs.Sets.{set_of, members}
+use Rattle.pauli.proofs.support.Lists.{all_in, in_get_or}
 use Rattle.pauli.proofs.support.SupportLaws.{rising_least, insert_known}
 use Rattle.pauli.proofs.support.Walk.{lower_stop, lower_go, lower_next}
 use Rattle.pauli.specs.declared.signed.Pauli.{Pauli as Held}
@@ -17,10 +18,12 @@ use Rattle.pauli.specs.Signed.{held, pauli_in, list_in}
 use Rattle.pauli.specs.Writing.{OnPlaces}
 use Rattle.pauli.proofs.signed.Algebra.{pauli_path}
 use Rattle.pauli.proofs.condense.CondenseLaws.{lower_at}
-use Rattle.pauli.proofs.places.Firsts.{First, skip}
+use Rattle.pauli.proofs.condense.MoreBits.{bit_or_lem}
+use Rattle.pauli.proofs.condense.Sets.{set_members, members_rise, members_only}
 use Rattle.pauli.proofs.write.Writers.{length_list}
 use Rattle.pauli_theory.specs.Inner.ModuloPlaces.{moved_set, moved_pauli}
-use Rattle.pauli_theory.proofs.ModuloPlaces.{moved_none, moved_with, moved_without}
+use Rattle.pauli_theory.proofs.IndexSets.{bit_below}
+use Rattle.pauli_theory.proofs.ModuloPlaces.{moved_none, moved_or, moved_unit}
 use Rattle.pauli_group.specs.Inner.Area.{Outside}
 use Rattle.pauli_group.proofs.list.ListLaws.{list_at_lem, on_places_at, pauli_kept}
 use Rattle.pauli_group.specs.Inner.Moved.{Movable, MovablePauli}
@@ -41,36 +44,76 @@ lower_place least (r ∷ rs) h q (there m) =
     let past : suc r ≤ q = rising_least (suc r) rs h.1 m in
     lower_go q r rs past ∙ rw (ne_eqb r q (λ e. omega arith)) (ap suc (lower_place (suc r) rs h.1 q m))
 
--- a set moved, place by place
-module _ (own qs : List ℕ) (v : ℕ) (few : length qs ≤ 128) (m : Movable own qs v) where
-  -- the qubit q at the place i of the set
-  module _ (i q : ℕ) (h : i < length own) (e : bit v i ≡ 1) (met : q ≡ get_or own i 0) where
-    met_inside : Mem q qs
-    met_inside = rw met (m.inside i h e)
+or_assoc : (a b c : ℕ) → bit_or (bit_or a b) c ≡ bit_or a (bit_or b c)
+or_assoc a b c = ext (bit_or (bit_or a b) c) (bit_or a (bit_or b c)) λ k. simp bit_or_lem (omega arith)
 
-    pub move_place : lower q qs < 128
-    move_place = omega (arith, (lower_at 0 qs m.rises q met_inside).0)
+-- ---- a set moved, place by place
 
-    -- the next is further on
-    pub move_further : (k : ℕ) → i < k → k < length own → lower q qs ≤ lower (get_or own k 0) qs
-    move_further k lt u =
-        let above : q < get_or own k 0 = rw met (rising_at 0 own m.own_rises i k lt u) in
-        omega (arith, rw (insert_known 0 q qs m.rises met_inside) at (lower_next q (get_or own k 0) qs above))
+-- of the set v the places `left` are left to move, rising; each one's qubit is in qs, at the place `from` or after it
+pub record Moving (own qs : List ℕ) (v : ℕ) (left : List ℕ) (from moved : ℕ) : Type 0 where
+  pub least : ℕ
+  pub rises : Rising least left
+  pub inside : All (λ i. (i < length own) × Mem (get_or own i 0) qs) left
+  pub ahead : (k : ℕ) → least ≤ k → k < length own → from ≤ lower (get_or own k 0) qs
+  pub value : moved_set own qs v ≡ bit_or moved (moved_set own qs (set_of left))
 
-    pub move_with : (r set place : ℕ) → set ≡ moved_set own qs (v % 2 ^ i) → place ≡ lower q qs → r ≡ bit_or set (2 ^ place)
-        → r ≡ moved_set own qs (v % 2 ^ (i + 1))
-    move_with r set place a b c =
-        let there : place ≡ place_of qs (get_or own i 0) = b ∙ lower_place 0 qs m.rises q met_inside ∙ ap (place_of qs) met in
-        c ∙ rw (a, there, add-one i) (sym (moved_with own m.own_rises qs m.rises v i h (m.inside i h e) e))
+pub moving_start : (own qs : List ℕ) (v moved : ℕ) → v < 2 ^ length own → Movable own qs v → moved ≡ 0 → Moving own qs v (members v) 0 moved
+moving_start own qs v moved small m e = record {
+  least = 0;
+  rises = members_rise v;
+  inside = all_in (λ i. (i < length own) × Mem (get_or own i 0) qs) (members v) λ i h.
+      let one = members_only v i h in
+      let l = bit_below (length own) v small i one in
+      (l, m.inside i l one);
+  ahead = λ k _ _. omega arith;
+  value = rw (e, set_members v);
+}
 
-  pub move_start : (set : ℕ) → set ≡ 0 → set ≡ moved_set own qs (v % 2 ^ 0)
-  move_start set e = e ∙ sym (moved_none own m.own_rises qs v)
+module _ {own qs : List ℕ} {v : ℕ} {left : List ℕ} {from moved : ℕ} (m : Movable own qs v) (r : Moving own qs v left from moved) where
+  pub moving_end : left ≡ [] → moved ≡ moved_set own qs v
+  unfolding set_of
+  moving_end e =
+      sym (r.value ∙ ap (λ (is : List ℕ). bit_or moved (moved_set own qs (set_of is))) e ∙ ap (bit_or moved) (moved_none own m.own_rises qs) ∙ or_zero_r moved)
 
-  pub move_skip : {n i k r : ℕ} → First n v i k → r ≡ moved_set own qs (v % 2 ^ i) → r ≡ moved_set own qs (v % 2 ^ k)
-  move_skip f a = a ∙ skip (λ j. moved_set own qs (v % 2 ^ j)) f (λ j z. rw (add-one j) (sym (moved_without own m.own_rises qs v j z)))
+  -- the next is the place i
+  module _ (i : ℕ) (more : List ℕ) (e : left ≡ i ∷ more) where
+    next : Moving own qs v (i ∷ more) from moved
+    next = subst (λ (is : List ℕ). Moving own qs v is from moved) e r
 
-  pub move_end : (i r : ℕ) → v < 2 ^ length own → length own ≤ i → r ≡ moved_set own qs (v % 2 ^ i) → r ≡ moved_set own qs v
-  move_end i r l b e = e ∙ ap (moved_set own qs) (mod-eq_of_lt (lt_of_lt_of_le l (pow_mono b)))
+    pub moving_in : i < length own
+    moving_in = next.inside.0.0
+
+    -- of the qubit q
+    module _ (few : length qs ≤ 128) (q : ℕ) (met : q ≡ get_or own i 0) where
+      inside : Mem q qs
+      inside = rw met next.inside.0.1
+
+      pub moving_from : from ≤ lower q qs
+      moving_from = rw met (next.ahead i next.rises.0 moving_in)
+
+      pub moving_place : lower q qs < 128
+      moving_place = omega (arith, (lower_at 0 qs m.rises q inside).0)
+
+      further : (k : ℕ) → i < k → k < length own → lower q qs ≤ lower (get_or own k 0) qs
+      further k lt u =
+          let above : q < get_or own k 0 = rw met (rising_at 0 own m.own_rises i k lt u) in
+          omega (arith, rw (insert_known 0 q qs m.rises inside) at (lower_next q (get_or own k 0) qs above))
+
+      pub moving_next : (set place : ℕ) → place ≡ lower q qs → set ≡ bit_or moved (2 ^ place) → Moving own qs v more place set
+      unfolding set_of
+      moving_next set place a b =
+          let there : place ≡ place_of qs (get_or own i 0) = a ∙ lower_place 0 qs m.rises q inside ∙ ap (place_of qs) met in
+          let one = moved_unit own m.own_rises qs m.rises i moving_in next.inside.0.1 ∙ ap (2 ^◌) (sym there) in
+          let rest = moved_set own qs (set_of more) in
+          record {
+            least = suc i;
+            rises = next.rises.1;
+            inside = next.inside.1;
+            ahead = λ k lt u. rw a (further k lt u);
+            value =
+                next.value ∙ ap (bit_or moved) (moved_or own m.own_rises qs (2 ^ i) (set_of more) ∙ ap (λ (w : ℕ). bit_or w rest) one)
+                ∙ sym (or_assoc moved (2 ^ place) rest) ∙ ap (λ (w : ℕ). bit_or w rest) (sym b);
+          }
 
 -- ---- a Pauli loaded and moved
 

@@ -18,12 +18,12 @@ put_u16-requires c =
     let room = member_room c.args.out.now c.args.at (set_in c.args.set) c.args.exponent c.requires in
     (simp length-set (omega (arith, room)), omega (arith, c.weight-count.ensures.1))
 
-pub put_indexes_at-requires : goal.put_indexes_at-requires
-put_indexes_at-requires c =
+pub put_indexes-requires : goal.put_indexes-requires
+put_indexes-requires c =
     let room = member_room c.args.out.now c.args.at (set_in c.args.set) c.args.exponent c.requires in
     rw c.put_u16.auto.out (simp length-set (omega (arith, room)))
 
 pub returns : goal.returns
 returns c =
     member_put c.args.out.now c.args.at (set_in c.args.set) c.args.exponent c.requires _ c.weight-count.ensures.0 _ _
-    c.put_u16.ensures c.put_indexes_at.ensures
+    c.put_u16.ensures c.put_indexes.ensures

@@ -16,8 +16,5 @@ loop-k-preserved c = let l = c.loop-k in
       | else-k-a-eq0 w ↦ rw (w.w-is, w.total-is) (phases_skip _ _ _ _ _ _ _ l.invariant c.loop-k-test.true (rw (c.step-a.ensures.0, c.step-b.ensures.0) at w.if-k-a-eq0.false))
     ]
 
-pub shape_of-w : goal.shape_of-w
-shape_of-w c = c.loop-k.invariant.size
-
 pub returns : goal.returns
 returns c = let all = phases_all _ _ _ _ _ _ _ c.loop-k.invariant c.loop-k-test.false in record { few = all.0; list = all.1 }

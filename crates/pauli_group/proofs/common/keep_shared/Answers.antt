@@ -11,12 +11,9 @@ pub loop-i-preserved : goal.loop-i-preserved
 loop-i-preserved c = let l = c.loop-i in
     let told = found_noted (step_told c.args.first) (step_told c.args.second) c.args.m c.args.w.now l.w (2368 + 5 * l.i) _ c.shared_exponent.ensures.first in
     elim c.match-shared_exponent.branch [
-      | in-Some w ↦ rw (w.w-is, w.kept-is) (kept_more _ _ _ _ _ _ _ l.invariant c.loop-i-test.true _ told _ (ap found (sym w.in-Some.is)) w.in-Some.ensures.below (omega (arith, c.requires.0, c.requires.1)) _ _ w.load-p.ensures w.with_exponent.ensures _ w.store.ensures)
+      | in-Some w ↦ rw (w.w-is, w.kept-is) (kept_more _ _ _ _ _ _ _ l.invariant c.loop-i-test.true _ told _ (ap found (sym w.in-Some.is)) w.in-Some.ensures.below (omega (arith, c.requires, c.told-w)) _ _ w.load-p.ensures w.with_exponent.ensures _ w.store.ensures)
       | in_default w ↦ rw (w.w-is, w.kept-is) (kept_dropped _ _ _ _ _ _ _ l.invariant c.loop-i-test.true _ told (ap found (sym w.in_default.is)))
     ]
-
-pub shape_of-w : goal.shape_of-w
-shape_of-w c = c.loop-i.invariant.rest.size
 
 pub returns : goal.returns
 returns c = let l = c.loop-i in record { few = omega (arith, l.invariant.low, l.invariant.within); list = kept_all _ _ _ _ _ _ _ l.invariant c.loop-i-test.false }

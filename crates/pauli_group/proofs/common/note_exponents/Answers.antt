@@ -3,22 +3,21 @@ use Rattle.pauli_group.proofs.common.SharedLaws.{noted_none, noted_solving, note
 use Rattle.pauli_group.proofs.common.note_exponents.Goals as goal
 
 pub loop-i-init : goal.loop-i-init
-loop-i-init c = (omega arith, noted_none c.args.w.now c.args.joint.now c.args.own.now c.args.n c.args.group.places c.args.group.rank c.requires.2)
+loop-i-init c = (omega arith, noted_none _ c.args.joint.now c.args.own.now _ _ _ c.requires.1)
 
 pub exponent_of-e-requires : goal.exponent_of-e-requires
 exponent_of-e-requires c =
+    let p = c.requires in
     let N = c.loop-i.invariant.1 in
-    let e = noted_element c.args.w.now c.args.joint.now c.args.own.now c.args.n c.args.group.places c.args.group.rank c.requires.2 _ _ N _ c.args.m c.loop-i-test.true c.requires.5 _ _ c.requires.6 in
-    (N.size ∙ c.requires.0, omega (arith, c.requires.1, c.loop-i-test.true), noted_solving c.args.w.now c.args.joint.now c.args.own.now c.args.n c.args.group.places c.args.group.rank c.requires.2 _ _ N, c.requires.3, c.requires.4, e.0, e.1, e.2)
+    let e = noted_element _ c.args.joint.now c.args.own.now _ _ _ p.1 _ _ N _ c.args.m c.loop-i-test.true p.4 _ _ p.5 in
+    (omega (arith, p.0, c.loop-i-test.true), noted_solving _ c.args.joint.now c.args.own.now _ _ _ p.1 _ _ N, p.2, p.3, e.0, e.1, e.2)
 
 pub loop-i-preserved : goal.loop-i-preserved
 loop-i-preserved c =
-    let l = c.loop-i in
+    let p = c.requires in
     let told = c.exponent_of-e.ensures in
-    (omega arith, noted_next c.args.w.now c.args.joint.now c.args.own.now c.args.n c.args.group.places c.args.group.rank c.requires.2 _ _ l.invariant.1 _ told.told _ told.rest (omega (arith, c.requires.0, c.requires.1, c.loop-i-test.true)) _ refl)
-
-pub shape_of-w : goal.shape_of-w
-shape_of-w c = c.loop-i.invariant.1.size
+    (omega arith, noted_next _ c.args.joint.now c.args.own.now _ _ _ p.1 _ _ c.loop-i.invariant.1 _ told.told _ told.rest (omega (arith, p.0, c.loop-i-test.true)) _ refl)
 
 pub returns : goal.returns
-returns c = let l = c.loop-i in noted_all c.args.w.now c.args.joint.now c.args.own.now c.args.n c.args.group.places c.args.group.rank c.requires.2 _ _ l.invariant.1 _ l.invariant.0 c.loop-i-test.false
+returns c =
+    let i = c.loop-i.invariant in noted_all _ c.args.joint.now c.args.own.now _ _ _ c.requires.1 _ _ i.1 _ i.0 c.loop-i-test.false

@@ -5,4 +5,4 @@ use Rattle.pauli_group.proofs.common.SharedLaws.{NotedUpTo}
 use Rattle.pauli_group.proofs.common.note_exponents.Given as goal
 
 abbrev pub invariant-loop-i : goal.invariant-loop-i
-invariant-loop-i l = (l.i ≤ l.m) × NotedUpTo (λ p. noted (exponent_over l.joint l.own l.n l.group.places l.initial.w p) p) l.initial.w l.i l.w
+invariant-loop-i l = (l.i ≤ l.m) × NotedUpTo (λ p. noted (exponent_over l.joint l.own l.group.count l.group.places l.initial.w p) p) l.initial.w l.i l.w

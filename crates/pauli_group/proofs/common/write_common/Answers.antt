@@ -5,10 +5,11 @@ use Rattle.pauli_group.proofs.group.GroupedLaws.{cleared_whole}
 use Rattle.pauli_group.proofs.common.PartLaws.{lesser_bytes}
 use Rattle.pauli_group.proofs.common.write_common.Goals as goal
 
-pub write_lesser-wrote-requires : goal.write_lesser-wrote-requires
-write_lesser-wrote-requires c = c.order_of-order.auto.w ∙ c.requires
-
 pub returns : goal.returns
 returns c =
     let wrote = c.write_lesser-wrote.ensures in
-    let roll = lesser_bytes _ _ _ _ _ c.order_of-order.ensures in record { told = wrote.told ∙ ap (λ (bs : List ℕ). told_bytes (answer bs) c.args.out.now) roll; left = wrote.left ∙ ap (λ (bs : List ℕ). left_in (answer bs) c.args.out.now) roll; area = c.clear_bits.ensures ∙ cleared_whole _ _ (c.write_lesser-wrote.auto.w ∙ c.order_of-order.auto.w ∙ c.requires) c.requires }
+    let roll = lesser_bytes _ _ _ _ _ c.order_of-order.ensures in record {
+      told = wrote.told ∙ ap (λ (bs : List ℕ). told_bytes (answer bs) c.args.out.now) roll;
+      left = wrote.left ∙ ap (λ (bs : List ℕ). left_in (answer bs) c.args.out.now) roll;
+      area = c.clear_bits.ensures ∙ cleared_whole _ _ c.write_lesser-wrote.array_long c.told-w;
+    }

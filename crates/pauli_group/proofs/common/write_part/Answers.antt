@@ -1,61 +1,46 @@
 use Rattle.std.proofs.Common.{ℕ, List, ap, ◌∙◌, arith}
-use Rattle.pauli.specs.Writing.{told_bytes, left_in}
+use Rattle.pauli.specs.Writing.{told_bytes, left_in, roll_over}
 use Rattle.pauli.specs.Told.{answer}
+use Rattle.pauli_group.proofs.area.AreaLaws.{span_list}
 use Rattle.pauli_group.proofs.basis.BasisLaws.{joint_is}
 use Rattle.pauli_group.proofs.common.PartLaws.{part_on, part_left, once_on, once_right, part_places_lem, part_written}
 use Rattle.pauli_group.proofs.common.write_part.Goals as goal
 
 pub common_basis-m-requires : goal.common_basis-m-requires
-common_basis-m-requires c =
-    let J = joint_is _ _ _ (rw (← c.qubits-joint.ensures.list) at c.join_support-support.ensures) c.args.pair.qubits in
-    (c.requires, J)
+common_basis-m-requires c = joint_is _ _ _ (rw (← c.qubits-joint.ensures.list) at c.join_support-support.ensures) c.args.pair.qubits
 
 pub note_by-first-requires : goal.note_by-first-requires
 note_by-first-requires c =
     let J = joint_is _ _ _ (rw (← c.qubits-joint.ensures.list) at c.join_support-support.ensures) c.args.pair.qubits in
-    let B = c.common_basis-m.ensures in (
-      c.common_basis-m.auto.w ∙ c.requires,
-      B.few,
-      J.few,
-      part_on _ _ _ J _ _ B.list,
-      part_left _ _ _ J _ _ B.list,
-    )
+    let B = c.common_basis-m.ensures in
+    (B.few, J.few, part_on _ _ _ J _ _ B.list, part_left _ _ _ J _ _ B.list)
 
 pub note_by-second-requires : goal.note_by-second-requires
 note_by-second-requires c =
     let J = joint_is _ _ _ (rw (← c.qubits-joint.ensures.list) at c.join_support-support.ensures) c.args.pair.qubits in
     let B = c.common_basis-m.ensures in
-    let N = c.note_by-first.ensures in (
-      c.note_by-first.auto.w ∙ c.common_basis-m.auto.w ∙ c.requires,
-      B.few,
-      J.few,
-      once_on _ _ _ J _ _ B.list _ N.list,
-      once_right _ _ _ J _ _ B.list _ N.list,
-    )
+    let N = c.note_by-first.ensures in
+    (B.few, J.few, once_on _ _ _ J _ _ B.list _ N.list, once_right _ _ _ J _ _ B.list _ N.list)
 
 pub keep_shared-kept-requires : goal.keep_shared-kept-requires
-keep_shared-kept-requires c = (
-  c.note_by-second.auto.w ∙ c.note_by-first.auto.w ∙ c.common_basis-m.auto.w ∙ c.requires,
-  c.common_basis-m.ensures.few,
-)
+keep_shared-kept-requires c = c.common_basis-m.ensures.few
 
 pub append_phases-total-requires : goal.append_phases-total-requires
-append_phases-total-requires c = (
-  c.keep_shared-kept.auto.w ∙ c.note_by-second.auto.w ∙ c.note_by-first.auto.w ∙ c.common_basis-m.auto.w ∙ c.requires,
-  omega (arith, c.keep_shared-kept.ensures.few, c.common_basis-m.ensures.few),
-)
+append_phases-total-requires c = omega (arith, c.keep_shared-kept.ensures.few, c.common_basis-m.ensures.few)
+
+pub at-requires : goal.at-requires
+at-requires c = omega (arith, c.append_phases-total.ensures.few, c.keep_shared-kept.ensures.few, c.common_basis-m.ensures.few)
 
 pub write_roll-requires : goal.write_roll-requires
 write_roll-requires c =
     let J = joint_is _ _ _ (rw (← c.qubits-joint.ensures.list) at c.join_support-support.ensures) c.args.pair.qubits in
     let B = c.common_basis-m.ensures in
     let A = c.append_phases-total.ensures in
-    let K = c.keep_shared-kept.ensures in
-    let size = c.append_phases-total.auto.w ∙ c.keep_shared-kept.auto.w ∙ c.note_by-second.auto.w ∙ c.note_by-first.auto.w ∙ c.common_basis-m.auto.w ∙ c.requires in (
-      omega (arith, A.few, K.few, B.few, size),
+    let K = c.keep_shared-kept.ensures in (
       omega (arith, A.few, K.few, B.few),
       J.few,
-      part_places_lem _ _ _ J _ _ B.list _ c.note_by-first.ensures.list _ _ _ c.note_by-second.ensures.list _ _ c.note_by-first.ensures.step c.note_by-second.ensures.step _ _ K.list _ _ A.list,
+      rw (span_list _ c.paulis.ensures.list c.at.ensures)
+          (part_places_lem _ _ _ J _ _ B.list _ c.note_by-first.ensures.list _ _ _ c.note_by-second.ensures.list _ _ c.note_by-first.ensures.step c.note_by-second.ensures.step _ _ K.list _ _ A.list),
     )
 
 pub returns : goal.returns
@@ -63,4 +48,9 @@ returns c =
     let J = joint_is _ _ _ (rw (← c.qubits-joint.ensures.list) at c.join_support-support.ensures) c.args.pair.qubits in
     let B = c.common_basis-m.ensures in
     let wrote = c.write_roll.ensures in
-    let roll = part_written _ _ _ J _ _ B.list _ c.note_by-first.ensures.list _ _ _ c.note_by-second.ensures.list _ _ c.note_by-first.ensures.step c.note_by-second.ensures.step _ _ c.keep_shared-kept.ensures.list _ _ c.append_phases-total.ensures.list in record { told = wrote.told ∙ ap (λ (bs : List ℕ). told_bytes (answer bs) c.args.out.now) roll; left = wrote.left ∙ ap (λ (bs : List ℕ). left_in (answer bs) c.args.out.now) roll }
+    let roll =
+    ap (roll_over c.qubits-joint.result.now) (span_list _ c.paulis.ensures.list c.at.ensures)
+    ∙ part_written _ _ _ J _ _ B.list _ c.note_by-first.ensures.list _ _ _ c.note_by-second.ensures.list _ _ c.note_by-first.ensures.step c.note_by-second.ensures.step _ _ c.keep_shared-kept.ensures.list _ _ c.append_phases-total.ensures.list in record {
+      told = wrote.told ∙ ap (λ (bs : List ℕ). told_bytes (answer bs) c.args.out.now) roll;
+      left = wrote.left ∙ ap (λ (bs : List ℕ). left_in (answer bs) c.args.out.now) roll;
+    }

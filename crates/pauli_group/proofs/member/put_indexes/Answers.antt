@@ -1,38 +1,34 @@
-use Rattle.std.proofs.Common.{arith}
-use Rattle.pauli.proofs.places.Firsts.{first_told}
-use Rattle.pauli_group.proofs.member.MemberLaws.{indexes_start, indexes_done, indexes_skip, indexes_room, indexes_hit}
+use Rattle.std.proofs.Common.{◌∙◌, arith}
+use Rattle.pauli.proofs.places.Halves.{two_words}
+use Rattle.pauli_theory.proofs.IndexSets.{members_below}
+use Rattle.pauli_group.proofs.member.MemberLaws.{indexes_start, indexes_done, indexes_room, indexes_next}
 use Rattle.pauli_group.proofs.member.put_indexes.Goals as goal
 
-pub loop-i-init : goal.loop-i-init
-loop-i-init c =
-    let f = first_told (omega arith) c.first_from-i.ensures in
-    (f.found, indexes_skip _ _ c.requires.1 _ (indexes_start _ _ c.requires.1 _ 0 (omega arith)) f)
+pub loop-p-init : goal.loop-p-init
+loop-p-init c =
+    let all = c.into_iter-p-iterator.ensures.into_iter_gives ∙ c.iter-p-items.ensures in
+    let few = members_below 128 _ (two_words c.args.set (record { low = omega arith; high = omega arith })) in
+    (tt, tt, rw all few, rw all (indexes_start _ _ _ c.requires))
 
 pub put_u16-requires : goal.put_u16-requires
 put_u16-requires c =
-    let small = c.requires.1 in
-    (indexes_room _ _ small _ c.loop-i.invariant.1 c.loop-i-test.true (c.loop-i.invariant.0 (omega arith)), omega arith)
+    let i = c.loop-p.invariant in
+    let next = c.in-Some.ensures.steps in
+    let few = rw next at i.2 in
+    (indexes_room _ _ i.3 _ _ next, omega (arith, few.0))
 
 pub overflow_add-next : goal.overflow_add-next
-overflow_add-next c =
-    let small = c.requires.1 in
-    omega (arith, indexes_room _ _ small _ c.loop-i.invariant.1 c.loop-i-test.true (c.loop-i.invariant.0 (omega arith)))
+overflow_add-next c = omega (arith, indexes_room _ _ c.loop-p.invariant.3 _ _ c.in-Some.ensures.steps)
 
-pub loop-i-smaller : goal.loop-i-smaller
-loop-i-smaller c = omega (arith, (first_told (omega arith) c.first_from-i-in-loop-i.ensures).from)
-
-pub loop-i-preserved : goal.loop-i-preserved
-loop-i-preserved c =
-    let small = c.requires.1 in
-    let put = c.put_u16 in
-    let f = first_told (omega arith) c.first_from-i-in-loop-i.ensures in (
-      f.found,
-      indexes_skip _ _ small _ (indexes_hit _ _ small _ c.loop-i.invariant.1 c.loop-i-test.true (c.loop-i.invariant.0 (omega arith)) _ put.ensures put.auto.out) f,
-    )
+pub loop-p-preserved : goal.loop-p-preserved
+loop-p-preserved c =
+    let i = c.loop-p.invariant in
+    let next = c.in-Some.ensures.steps in
+    let few = rw next at i.2 in
+    (tt, tt, few.1, indexes_next _ _ i.3 _ _ next _ c.put_u16.ensures c.put_u16.auto.out)
 
 pub shape_of-out : goal.shape_of-out
-shape_of-out c = c.loop-i.invariant.1.size
+shape_of-out c = c.loop-p.invariant.3.size
 
 pub returns : goal.returns
-returns c =
-    indexes_done _ _ c.requires.1 _ c.loop-i.invariant.1 c.loop-i-test.false
+returns c = indexes_done _ _ c.loop-p.invariant.3 c.in-None.ensures.steps.0

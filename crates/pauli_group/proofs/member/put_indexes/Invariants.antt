@@ -1,16 +1,14 @@
--- Invariant: i is in the set or past all, and the indexes from i on are left to write.
-use Rattle.std.proofs.Common.{◌≡◌, ◌-◌, ◌<◌}
-use Rattle.binar.specs.Row.{bit}
-use Rattle.pauli.proofs.write.Puts.{chosen_from, Left}
+-- Invariant: the indexes left, below 128, are left to write.
+use Rattle.std.proofs.Common.{◌<◌}
+use Rattle.pauli.proofs.write.Puts.{Left}
 use Rattle.pauli.specs.Sets.{members}
 use Rattle.pauli.specs.PlaceSet.{set_in}
-use Rattle.pauli_theory.proofs.OverPlaces.{up_to}
+use Rattle.pauli.specs.Support.{All}
 use Rattle.pauli_group.specs.Calls.{le16s}
 use Rattle.pauli_group.proofs.member.put_indexes.Given as goal
 
-abbrev pub invariant-loop-i : goal.invariant-loop-i
-invariant-loop-i l =
-    (l.i < 128 → bit (set_in l.set) l.i ≡ 1) × Left l.initial.out 0 (le16s (members (set_in l.set))) l.out l.next (le16s (chosen_from (set_in l.set) (up_to l.n) l.i))
-
-abbrev pub decreases-loop-i : goal.decreases-loop-i
-decreases-loop-i l = l.n - l.i
+abbrev pub invariant-loop-p : goal.invariant-loop-p
+invariant-loop-p l =
+    (goal.iterator-loop-p).can_next l.p-iterator × (goal.iterator-loop-p).is_finite l.p-iterator
+    × All (λ i. i < 128) l.p-iterator
+    × Left l.initial.out l.at (le16s (members (set_in l.fn.set))) l.out l.next (le16s l.p-iterator)

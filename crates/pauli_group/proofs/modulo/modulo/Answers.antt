@@ -1,5 +1,5 @@
 -- The refusal of the checks is told on; else the remainder is written.
-use Rattle.std.proofs.Common.{sym, refl, length-take-le, ap, ◌∙◌}
+use Rattle.std.proofs.Common.{refl, ap, ◌∙◌}
 use Rattle.pauli.specs.Told.{map_told}
 use Rattle.pauli_group.specs.Calls.{modulo_bytes, modulo_call}
 use Rattle.pauli_group.specs.Promises.{promise_of}
@@ -12,19 +12,13 @@ pub returns-in_err-pair : goal.returns-in_err-pair
 unfolding modulo_call modulo_bytes map_told
 returns-in_err-pair c =
     let none = pair_none c.args.left.now c.args.right.now _ c.in_err-pair.ensures.counts in
-    let e = ends_refused c.args.left.now c.args.right.now c.args.work.now c.args.out.now (map_told (modulo_bytes (promise_of c.args.right_promise))) refl none in
+    let e = ends_refused c.args.left.now c.args.right.now c.args.work.now c.args.out.now (map_told (modulo_bytes (promise_of c.args.promises.right))) refl none in
     record { told = ap told_of (handed_on _ _ c.from_residual.ensures.1) ∙ e.answered; written = e.written; area = e.area }
-
-pub slice_bounds-write_modulo-end-2 : goal.slice_bounds-write_modulo-end-2
-slice_bounds-write_modulo-end-2 c = sym (length-take-le 4096 c.args.work.now c.in_ok-pair.ensures.room)
-
-pub write_modulo-requires : goal.write_modulo-requires
-write_modulo-requires c = length-take-le 4096 c.args.work.now c.in_ok-pair.ensures.room
 
 pub returns : goal.returns
 unfolding modulo_call modulo_bytes map_told
 returns c =
     let g = paired _ _ _ _ c.in_ok-pair.ensures.counts in
-    let write = rw (c.in_ok-pair.ensures.rolls.0, c.in_ok-pair.ensures.rolls.1) at c.write_modulo.ensures in
-    let e = ends_answered c.args.left.now c.args.right.now c.args.work.now c.args.out.now (map_told (modulo_bytes (promise_of c.args.right_promise))) g.joining g.room _ refl _ _ _ write.told write.left write.area in
+    let write = rw (c.in_ok-pair.ensures.rolls.0, c.in_ok-pair.ensures.rolls.1, c.area_of.ensures.value) at c.write_modulo.ensures in
+    let e = ends_answered c.args.left.now c.args.right.now c.args.work.now c.args.out.now (map_told (modulo_bytes (promise_of c.args.promises.right))) g.joining g.room _ refl _ _ _ write.told write.left write.area in
     record { told = e.answered; written = e.written; area = e.area }

@@ -12,16 +12,13 @@ pub loop-i-preserved : goal.loop-i-preserved
 loop-i-preserved c =
     let l = c.loop-i in
     let first = c.args.w.now in
-    let same = c.load-p.ensures ∙ ap normal (pauli_kept_after l.invariant.2 _ (omega arith) ∙ sym (list_at_lem first c.args.base c.args.n l.i I c.loop-i-test.true)) in (
+    let same = c.load-p.ensures ∙ ap normal (pauli_kept_after l.invariant.2 _ (omega arith) ∙ sym (list_at_lem first c.args.list.base c.args.list.count l.i I c.loop-i-test.true)) in (
       omega arith,
-      stored_step _ _ _ _ _ _ _ l.invariant.1 (length_list first c.args.base c.args.n) I _ c.loop-i-test.true c.requires.0
+      stored_step _ _ _ _ _ _ _ l.invariant.1 (length_list first c.args.list.base c.args.list.count) I _ c.loop-i-test.true (rw c.told-w c.args.list.inside)
           (c.multiplied.ensures ∙ multiplied_value _ _ _ _ _ same) _ c.store.ensures,
-      store_further first l.w c.args.base l.i _ l.invariant.2 _ c.store.ensures,
+      store_further first l.w c.args.list.base l.i _ l.invariant.2 _ c.store.ensures,
     )
-
-pub shape_of-w : goal.shape_of-w
-shape_of-w c = c.loop-i.invariant.2.size
 
 pub returns : goal.returns
 returns c =
-    let l = c.loop-i in record { list = stored_all _ _ _ _ _ _ _ l.invariant.1 (length_list c.args.w.now c.args.base c.args.n) l.invariant.0 c.loop-i-test.false; rest = l.invariant.1.rest }
+    let l = c.loop-i in record { list = stored_all _ _ _ _ _ _ _ l.invariant.1 (length_list c.args.w.now c.args.list.base c.args.list.count) l.invariant.0 c.loop-i-test.false; rest = l.invariant.1.rest }

@@ -8,4 +8,4 @@ use Rattle.pauli_group.proofs.list.ListLaws.{StoredUpTo}
 use Rattle.pauli_group.proofs.modulo.multiply_at.Given as goal
 
 abbrev pub invariant-loop-i : goal.invariant-loop-i
-invariant-loop-i l = (l.i ≤ l.n) × StoredUpTo (λ p. normal (multiplied_at l.is_x l.place.0 (held l.other) p)) (list_in l.initial.w l.base l.n) l.base l.n l.initial.w l.i l.w × Outside l.base (5 * l.i) l.initial.w l.w
+invariant-loop-i l = (l.i ≤ l.list.count) × StoredUpTo (λ p. normal (multiplied_at l.is_x l.place.0 (held l.other) p)) (list_in l.initial.w l.list.base l.list.count) l.list.base l.list.count l.initial.w l.i l.w × Outside l.list.base (5 * l.i) l.initial.w l.w

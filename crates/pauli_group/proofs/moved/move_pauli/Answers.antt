@@ -7,11 +7,11 @@ use Rattle.pauli_group.proofs.moved.move_pauli.Goals as goal
 
 pub move_set-requires : goal.move_set-requires
 unfolding set_in held
-move_set-requires c = (c.requires.0, c.requires.1, c.requires.2, c.requires.4.0)
+move_set-requires c = (c.requires.0, c.requires.1, c.requires.3.0)
 
 pub move_set-requires-2 : goal.move_set-requires-2
 unfolding set_in held
-move_set-requires-2 c = (c.requires.0, c.requires.1, c.requires.3, c.requires.4.1)
+move_set-requires-2 c = (c.requires.0, c.requires.2, c.requires.3.1)
 
 pub returns : goal.returns
 unfolding held moved_pauli

@@ -1,5 +1,5 @@
 -- The refusal of the checks is told on; else the order is told.
-use Rattle.std.proofs.Common.{sym, length-take-le, ap, ◌∙◌}
+use Rattle.std.proofs.Common.{ap, ◌∙◌}
 use Rattle.pauli_group.proofs.checks.TwoLists.{paired, pair_none, pair_kept, pair_cleared}
 use Rattle.pauli_group.proofs.order.OrderLaws.{order_refused, order_answered}
 use Rattle.pauli.proofs.refusal.HandedOn.{handed_on}
@@ -15,16 +15,10 @@ returns-in_err-pair c =
       area = pair_kept c.args.left.now c.args.right.now c.args.work.now none;
     }
 
-pub slice_bounds-compare-end-2 : goal.slice_bounds-compare-end-2
-slice_bounds-compare-end-2 c = sym (length-take-le 4096 c.args.work.now c.in_ok-pair.ensures.room)
-
-pub compare-order-requires : goal.compare-order-requires
-compare-order-requires c = length-take-le 4096 c.args.work.now c.in_ok-pair.ensures.room
-
 pub returns : goal.returns
 returns c =
     let g = paired _ _ _ _ c.in_ok-pair.ensures.counts in
-    let order = rw (c.in_ok-pair.ensures.rolls.0, c.in_ok-pair.ensures.rolls.1) at c.compare-order.ensures in
+    let order = rw (c.in_ok-pair.ensures.rolls.0, c.in_ok-pair.ensures.rolls.1, c.area_of.ensures.value) at c.compare-order.ensures in
     record {
       told = order_answered c.args.left.now c.args.right.now c.args.work.now _ _ g.joining g.room _ _ _ order.told;
       area = pair_cleared c.args.left.now c.args.right.now c.args.work.now _ _ g.joining g.room _ order.area;

@@ -1,5 +1,5 @@
 -- The refusal of the checks is told on; else the quotient is written or refused.
-use Rattle.std.proofs.Common.{sym, refl, length-take-le, ap, ◌∙◌}
+use Rattle.std.proofs.Common.{refl, ap, ◌∙◌}
 use Rattle.pauli.specs.Told.{and_then}
 use Rattle.pauli_theory.specs.Modulo.{try_quotient}
 use Rattle.pauli_group.specs.Calls.{quotient_bytes, quotient_call}
@@ -13,19 +13,13 @@ pub returns-in_err-pair : goal.returns-in_err-pair
 unfolding quotient_call and_then
 returns-in_err-pair c =
     let none = pair_none c.args.left.now c.args.right.now _ c.in_err-pair.ensures.counts in
-    let e = ends_refused c.args.left.now c.args.right.now c.args.work.now c.args.out.now (λ t. and_then t λ b. quotient_bytes (try_quotient (promise_of c.args.left_promise) (promise_of c.args.right_promise) b.left b.right)) refl none in
+    let e = ends_refused c.args.left.now c.args.right.now c.args.work.now c.args.out.now (λ t. and_then t λ b. quotient_bytes (try_quotient (promise_of c.args.promises.left) (promise_of c.args.promises.right) b.left b.right)) refl none in
     record { told = ap told_of (handed_on _ _ c.from_residual.ensures.1) ∙ e.answered; written = e.written; area = e.area }
-
-pub slice_bounds-write_quotient-end-2 : goal.slice_bounds-write_quotient-end-2
-slice_bounds-write_quotient-end-2 c = sym (length-take-le 4096 c.args.work.now c.in_ok-pair.ensures.room)
-
-pub write_quotient-requires : goal.write_quotient-requires
-write_quotient-requires c = length-take-le 4096 c.args.work.now c.in_ok-pair.ensures.room
 
 pub returns : goal.returns
 unfolding quotient_call and_then
 returns c =
     let g = paired _ _ _ _ c.in_ok-pair.ensures.counts in
-    let write = rw (c.in_ok-pair.ensures.rolls.0, c.in_ok-pair.ensures.rolls.1) at c.write_quotient.ensures in
-    let e = ends_answered c.args.left.now c.args.right.now c.args.work.now c.args.out.now (λ t. and_then t λ b. quotient_bytes (try_quotient (promise_of c.args.left_promise) (promise_of c.args.right_promise) b.left b.right)) g.joining g.room _ refl _ _ _ write.told write.left write.area in
+    let write = rw (c.in_ok-pair.ensures.rolls.0, c.in_ok-pair.ensures.rolls.1, c.area_of.ensures.value) at c.write_quotient.ensures in
+    let e = ends_answered c.args.left.now c.args.right.now c.args.work.now c.args.out.now (λ t. and_then t λ b. quotient_bytes (try_quotient (promise_of c.args.promises.left) (promise_of c.args.promises.right) b.left b.right)) g.joining g.room _ refl _ _ _ write.told write.left write.area in
     record { told = e.answered; written = e.written; area = e.area }
