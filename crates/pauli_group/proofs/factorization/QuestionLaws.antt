@@ -73,9 +73,6 @@ module _ (promise : Promise) (b e : List ℕ) (number : ℕ) (work out : List �
       same : factorization_call promise b e number (length work) ≡ answer (some f)
       same = call_is ∙ ap answer (sym h)
 
-      pub set_below : f.indexes < 2 ^ n
-      set_below = rw (list_length b n a.generators) at (indexes_below promise _ _ f h)
-
       bytes : length (index_bytes f) ≡ 2 * weight f.indexes
       unfolding index_bytes
       bytes = length_indexes f.indexes

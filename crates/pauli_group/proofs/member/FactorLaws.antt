@@ -174,9 +174,6 @@ module _ {known w : List ℕ} {n places r total step : ℕ} (g : Asked known w n
   asked_solvable few small size =
       rw g.size (grouped_solvable g.grouped (rw (← g.size) few) small size)
 
-  pub asked_step : 0 < step
-  asked_step = rw g.step_is (step_kinds g.promise gs).0
-
   -- the element e of a roll
   module _ (e : Sparse) where
     pub factored_off : covered known (e.xs ++ e.zs) ≡ false → none ≡ factorization_of g.promise gs (pauli_of e)

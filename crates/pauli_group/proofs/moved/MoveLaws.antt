@@ -62,9 +62,9 @@ moving_start own qs v moved small m e = record {
   least = 0;
   rises = members_rise v;
   inside = all_in (λ i. (i < length own) × Mem (get_or own i 0) qs) (members v) λ i h.
-    let one = members_only v i h in
-    let l = bit_below (length own) v small i one in
-    (l, m.inside i l one);
+      let one = members_only v i h in
+      let l = bit_below (length own) v small i one in
+      (l, m.inside i l one);
   ahead = λ k _ _. omega arith;
   value = rw (e, set_members v);
 }
