@@ -1,21 +1,24 @@
 -- Laws of symplectic pairing in the work area.
-use Rattle.std.proofs.Common.{◌≡◌, ℕ, zero, suc, ◌+◌, ◌-◌, ◌*◌, ◌<◌, ◌≤◌, List, [], ◌∷◌, ◌++◌, map, length, get_or, take, drop, set, sym, refl, ap, ◌∙◌, subst, ap₂, append_assoc, arith, length-append, length-set, length-take, take_at}
+use Rattle.std.proofs.Common.{◌≡◌, ◌==◌, Bool, true, false, Option as CodeOption, Some, None, IfSome, MatchOption, eqb-true, zero-add, ℕ, zero, suc, ◌+◌, ◌-◌, ◌*◌, ◌<◌, ◌≤◌, List, [], ◌∷◌, ◌++◌, map, length, get_or, take, drop, set, sym, refl, ap, ◌∙◌, subst, ap₂, append_assoc, arith, length-append, length-set, length-take, take_at}
 use mathlib.Core.List.{map-append}
 use mathlib.Core.Option.{Option, some, none}
+use borrow.Author.Tests.{eqb-false}
+use Rattle.std.specs.List.{HoldsAt, AllWithin}
 use native.Mathlib.Nat.{mod-mod}
 use lib.Seq.{sets, get_or_at}
 use Rattle.binar.specs.Row.{if_bit}
 use Rattle.binar.proofs.Lists.{map_drop, map_set}
 use Rattle.pauli.specs.declared.signed.Pauli.{Pauli as Held}
 use Rattle.pauli.specs.Pauli.{Pauli, I, normal, times, anticommute}
-use Rattle.pauli.specs.Signed.{held, pauli_in, pauli_words, list_in}
+use Rattle.pauli.specs.Signed.{held, pauli_in, pauli_words, list_in, paulis_in}
 use Rattle.pauli.specs.Condense.{list_of}
 use Rattle.pauli.specs.Known.{Gathered}
 use Rattle.pauli.specs.Roll.{support, count_of}
 use Rattle.pauli.specs.Told.{answer}
 use Rattle.pauli.specs.Writing.{OnPlaces, roll_over}
-use Rattle.pauli.proofs.signed.Algebra.{pauli_path, normal_times, times_normal_l, times_normal_r}
-use Rattle.pauli.proofs.write.Writers.{list_from, list_start, list_next, list_end, length_list}
+use Rattle.pauli.proofs.signed.Algebra.{anticommute_lt, pauli_path, normal_times, times_normal_l, times_normal_r}
+use Rattle.pauli.proofs.signed.SignedLaws.{zero_bit}
+use Rattle.pauli.proofs.write.Writers.{length_list}
 use Rattle.pauli_theory.specs.Symplectic.{position, swap_remove, times_if, cleared, on_position, paired_from, symplectic_form}
 use Rattle.pauli_theory.proofs.Form.{map_take}
 use Rattle.pauli_theory.proofs.Symplectic.{cleared_length, removed_length}
@@ -25,7 +28,7 @@ use Rattle.pauli_theory.proofs.SymplecticPlaces.{paired_alike, written_symplecti
 use Rattle.pauli_theory.proofs.Written.{support_of_lem}
 use Rattle.pauli_group.specs.Inner.Groups.{over_support}
 use Rattle.pauli_group.specs.Calls.{paulis, symplectic_bytes}
-use Rattle.pauli_group.specs.Inner.Lists.{over_places}
+use Rattle.pauli_group.specs.Inner.Lists.{found, over_places, Tested}
 use Rattle.pauli_group.specs.Inner.Pairs.{paired_in, Plain, PairedTo}
 use Rattle.pauli_group.specs.declared.symplectic.Pairing.{Pairing}
 use Rattle.pauli_group.proofs.group.GroupLaws.{own_few, known_is, listed, size_same}
@@ -62,43 +65,43 @@ module _ (p q g : Pauli) where
 
 -- ---- the first that anticommutes
 
--- of the n Paulis from word base on, the first that anticommutes with x is the first from number i on
-pub record FirstFrom (x : Pauli) (w : List ℕ) (base n i : ℕ) : Type 0 where
-  pub within : i ≤ n
-  pub same : position x 0 (list_in w base n) ≡ position x i (list_from w base n i)
-
-pub first_start : (x : Pauli) (w : List ℕ) (base n : ℕ) → FirstFrom x w base n 0
-first_start x w base n = record { within = omega arith; same = ap (position x 0) (list_start w base n) }
-
 sets_value : (x p q : Pauli) → normal p ≡ normal q → anticommute x p ≡ anticommute x q
 unfolding anticommute normal
 sets_value x p q h = ap (λ (r : Pauli). anticommute x r) h
 
-at_hit : (x g : Pauli) (i : ℕ) (gs : List Pauli) → anticommute x g ≡ 1 → position x i (g ∷ gs) ≡ some i
-unfolding position if_bit
-at_hit x g i gs h = rw h
+-- the test by x tells r of the Pauli of five words
+abbrev pub Answered : Pauli → Bool → List ℕ → Type 0
+Answered x r words = Tested (λ p t. t ≡ (anticommute x (held p) == 1)) words r
 
-at_miss : (x g : Pauli) (i : ℕ) (gs : List Pauli) → anticommute x g ≡ 0 → position x i (g ∷ gs) ≡ position x (i + 1) gs
-unfolding position if_bit
-at_miss x g i gs h = let e : suc i ≡ i + 1 = omega arith in rw (h, e)
+module _ (x : Pauli) where
+  hit : (l : List ℕ) → Answered x true l → anticommute x (pauli_in l 0) ≡ 1
+  hit l a = sets_value x _ _ (sym a.read) ∙ eqb-true _ 1 (sym a.told)
 
-module _ {x : Pauli} {w : List ℕ} {base n i : ℕ} (f : FirstFrom x w base n i) where
-  pub first_end : n ≤ i → none ≡ position x 0 (list_in w base n)
-  unfolding position
-  first_end h = sym (f.same ∙ ap (position x i) (list_end w base n i h))
+  miss : (l : List ℕ) → Answered x false l → anticommute x (pauli_in l 0) ≡ 0
+  miss l a = sets_value x _ _ (sym a.read) ∙ zero_bit _ (anticommute_lt x (held a.pauli)) (eqb-false _ 1 (sym a.told))
 
-  module _ (h : i < n) (r : Held) (l : normal (held r) ≡ normal (pauli_in w (base + 5 * i))) where
-    next : position x 0 (list_in w base n) ≡ position x i (pauli_in w (base + 5 * i) ∷ list_from w base n (i + 1))
-    next = f.same ∙ ap (position x i) (list_next w base n i h)
+  position_none : (i : ℕ) (ls : List (List ℕ)) → AllWithin (Answered x false) ls 0 (length ls) → none ≡ position x i (paulis_in ls)
+  unfolding position if_bit paulis_in
+  position_none i [] f = refl
+  position_none i (l ∷ ls) f =
+      rw (miss l (f 0 l (omega arith) (omega arith))) (position_none (suc i) ls (λ k d b e. f (suc k) d (omega arith) (omega arith)))
 
-    pub first_hit : anticommute x (held r) ≡ 1 → some i ≡ position x 0 (list_in w base n)
-    first_hit e = sym (next ∙ at_hit x _ i (list_from w base n (i + 1)) (sets_value x _ _ (sym l) ∙ e))
+  position_some : (i : ℕ) (ls : List (List ℕ)) (k : ℕ) → k < length ls → HoldsAt (Answered x true) ls k → AllWithin (Answered x false) ls 0 k
+      → some (i + k) ≡ position x i (paulis_in ls)
+  unfolding position if_bit paulis_in
+  position_some i [] k h a f = absurd (omega arith)
+  position_some i (l ∷ ls) zero h a f = let e : i + 0 ≡ i = omega arith in rw (hit l (a l), e)
+  position_some i (l ∷ ls) (suc k) h a f =
+      let e : i + suc k ≡ suc i + k = omega arith in
+      rw (miss l (f 0 l (omega arith) (omega arith)), e)
+      (position_some (suc i) ls k (omega arith) a (λ j d b g. f (suc j) d (omega arith) (omega arith)))
 
-    pub first_miss : anticommute x (held r) ≡ 0 → FirstFrom x w base n (i + 1)
-    first_miss e = record {
-      within = omega arith;
-      same = next ∙ at_miss x _ i (list_from w base n (i + 1)) (sets_value x _ _ (sym l) ∙ e);
-    }
+  -- what a search of the words by the test finds
+  pub position_found : (ls : List (List ℕ)) (r : CodeOption ℕ)
+      → MatchOption r (AllWithin (Answered x false) ls 0 (length ls)) (λ k. (k < length ls) × HoldsAt (Answered x true) ls k × AllWithin (Answered x false) ls 0 k)
+      → (found r ≡ position x 0 (paulis_in ls)) × IfSome r (λ k. k < length ls)
+  position_found ls None f = (position_none 0 ls f, tt)
+  position_found ls (Some k) (h, a, f) = (ap some (sym (zero-add k)) ∙ position_some 0 ls k h a f, h)
 
 -- ---- what is cleared, Pauli by Pauli
 
@@ -415,7 +418,6 @@ pub record PairedUpTo (first : List ℕ) (n : ℕ) (w : List ℕ) (p : Pairing) 
   pub same : paired_in w p ≡ map normal (symplectic_form (list_in first list_at n))
   pub count : p.left + p.conjugate + p.commuting ≡ n
   pub plain : Plain w p
-  pub size : length w ≡ length first
 
 pub paired_start : (w : List ℕ) (n : ℕ) → PairedUpTo w n w (record { left = n; conjugate = 0; commuting = 0 })
 unfolding paired_in Plain symplectic_form list_in
@@ -423,16 +425,14 @@ paired_start w n = record {
   same = ap (λ (m : ℕ). map normal (paired_from m (list_in w list_at n) [] [])) (sym (length_list w list_at n));
   count = omega arith;
   plain = refl;
-  size = refl;
 }
 
-pub paired_next : {first w u : List ℕ} {n : ℕ} {p q : Pairing} → PairedUpTo first n w p → PairedTo w p u q → length u ≡ length w
+pub paired_next : {first w u : List ℕ} {n : ℕ} {p q : Pairing} → PairedUpTo first n w p → PairedTo w p u q
     → PairedUpTo first n u q
-paired_next s t e = record {
+paired_next s t = record {
   same = t.same ∙ s.same;
   count = t.count ∙ s.count;
   plain = t.plain s.plain;
-  size = e ∙ s.size;
 }
 
 pub paired_end : (first : List ℕ) (n : ℕ) (w : List ℕ) (p : Pairing) → PairedUpTo first n w p → p.left ≡ 0 → (u : List ℕ)

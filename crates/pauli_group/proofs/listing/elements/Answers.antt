@@ -1,5 +1,5 @@
 -- The refusal of the checks is told on; else the page is written.
-use Rattle.std.proofs.Common.{ℕ, List, sym, ap, ◌∙◌, length-take-le}
+use Rattle.std.proofs.Common.{ℕ, List, sym, ap, ◌∙◌}
 use Rattle.pauli.specs.Told.{Told}
 use Rattle.pauli.specs.Writing.{told_bytes, left_in}
 use Rattle.pauli_group.specs.Promises.{promise_of}
@@ -23,12 +23,6 @@ returns-in_err-roll c =
       area = area_kept b work none;
     }
 
-pub slice_bounds-write_page-end-2 : goal.slice_bounds-write_page-end-2
-slice_bounds-write_page-end-2 c = sym (length-take-le 4096 c.args.work.now c.in_ok-roll.ensures.room)
-
-pub write_page-requires : goal.write_page-requires
-write_page-requires c = length-take-le 4096 c.args.work.now c.in_ok-roll.ensures.room
-
 pub returns : goal.returns
 returns c =
     let b = c.args.b.now in
@@ -36,7 +30,7 @@ returns c =
     let out = c.args.out.now in
     let given = given _ _ _ c.in_ok-roll.ensures.count in
     let same = sym (call_answered (promise_of c.args.promise) c.args.start c.args.count b _ _ given.told) in
-    let written = rw c.in_ok-roll.ensures.bytes at c.write_page.ensures in
+    let written = rw (c.in_ok-roll.ensures.bytes, c.area_of.ensures.value) at c.write_page.ensures in
     record {
       told = written.told ∙ ap (λ (t : Told (List ℕ)). told_bytes t out) same;
       left = written.left ∙ ap (λ (t : Told (List ℕ)). left_in t out) same;

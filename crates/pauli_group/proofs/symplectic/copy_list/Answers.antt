@@ -6,20 +6,23 @@ use Rattle.pauli.proofs.write.Writers.{length_list}
 use Rattle.pauli_group.proofs.symplectic.copy_list.Goals as goal
 
 pub loop-i-init : goal.loop-i-init
-loop-i-init c = (omega arith, stored_none normal _ _ _ _)
+loop-i-init c = stored_none normal _ _ _ _
 
 pub loop-i-preserved : goal.loop-i-preserved
-loop-i-preserved c = let loop = c.loop-i in
-    let w = c.args.w.now in let from = c.args.from in let n = c.args.n in (
-      omega arith,
-      stored_step normal (list_in w from n) _ n w loop.i loop.w loop.invariant.1 (length_list w from n) I c.load.result c.loop-i-test.true (omega arith)
-          (c.load.ensures ∙ ap normal (pauli_kept_after loop.invariant.1.rest _ (omega arith) ∙ sym (list_at_lem w from n loop.i I c.loop-i-test.true)))
-          _ c.store.ensures,
-    )
-
-pub shape_of-w : goal.shape_of-w
-shape_of-w c = c.loop-i.invariant.1.rest.size
+loop-i-preserved c =
+    let loop = c.loop-i in
+    let w = c.args.w.now in
+    let from = c.args.from.base in
+    let n = c.args.from.count in
+    stored_step normal (list_in w from n) _ n w loop.i loop.w loop.invariant (length_list w from n) I c.load-p.result c.loop-i-test.true
+    (omega (arith, c.told-w, c.args.from.inside, c.requires))
+    (c.load-p.ensures ∙ ap normal (pauli_kept_after loop.invariant.rest _ (omega (arith, c.requires)) ∙ sym (list_at_lem w from n loop.i I c.loop-i-test.true)))
+    _ c.store.ensures
 
 pub returns : goal.returns
-returns c = let loop = c.loop-i in
-    let w = c.args.w.now in let from = c.args.from in let n = c.args.n in record { list = stored_all normal (list_in w from n) _ n w loop.i loop.w loop.invariant.1 (length_list w from n) loop.invariant.0 c.loop-i-test.false; rest = loop.invariant.1.rest }
+returns c =
+    let loop = c.loop-i in
+    let w = c.args.w.now in
+    let from = c.args.from.base in
+    let n = c.args.from.count in
+    record { list = stored_all normal (list_in w from n) _ n w loop.i loop.w loop.invariant (length_list w from n) loop.auto.i-end c.loop-i-test.false; rest = loop.invariant.rest }

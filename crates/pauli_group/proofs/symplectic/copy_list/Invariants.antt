@@ -1,9 +1,8 @@
 -- Invariant: the first i Paulis are copied.
-use Rattle.std.proofs.Common.{◌≤◌}
 use Rattle.pauli.specs.Pauli.{normal}
 use Rattle.pauli.specs.Signed.{list_in}
 use Rattle.pauli_group.proofs.list.ListLaws.{StoredUpTo}
 use Rattle.pauli_group.proofs.symplectic.copy_list.Given as goal
 
 abbrev pub invariant-loop-i : goal.invariant-loop-i
-invariant-loop-i l = (l.i ≤ l.n) × StoredUpTo normal (list_in l.initial.w l.from l.n) l.to l.n l.initial.w l.i l.w
+invariant-loop-i l = StoredUpTo normal (list_in l.initial.w l.from.base l.from.count) l.to l.from.count l.initial.w l.i l.w

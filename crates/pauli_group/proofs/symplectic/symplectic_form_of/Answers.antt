@@ -1,5 +1,5 @@
 -- The refusal of the checks is told on; else the roll is written.
-use Rattle.std.proofs.Common.{ℕ, List, sym, refl, ap, ◌∙◌, length-take-le}
+use Rattle.std.proofs.Common.{ℕ, List, refl, ap, ◌∙◌}
 use Rattle.pauli.specs.Told.{Told}
 use Rattle.pauli.specs.Writing.{told_bytes, left_in}
 use Rattle.pauli_group.specs.Calls.{symplectic_bytes, symplectic_call}
@@ -22,12 +22,6 @@ returns-in_err-roll c =
       area = area_kept b work none;
     }
 
-pub slice_bounds-write_symplectic-end-2 : goal.slice_bounds-write_symplectic-end-2
-slice_bounds-write_symplectic-end-2 c = sym (length-take-le 4096 c.args.work.now c.in_ok-roll.ensures.room)
-
-pub write_symplectic-requires : goal.write_symplectic-requires
-write_symplectic-requires c = length-take-le 4096 c.args.work.now c.in_ok-roll.ensures.room
-
 pub returns : goal.returns
 unfolding symplectic_call
 returns c =
@@ -36,7 +30,7 @@ returns c =
     let out = c.args.out.now in
     let given = given _ _ _ c.in_ok-roll.ensures.count in
     let same = answers b work given symplectic_bytes _ refl in
-    let written = rw c.in_ok-roll.ensures.bytes at c.write_symplectic.ensures in
+    let written = rw (c.in_ok-roll.ensures.bytes, c.area_of.ensures.value) at c.write_symplectic.ensures in
     record {
       told = written.told ∙ ap (λ (t : Told (List ℕ)). told_bytes t out) same;
       left = written.left ∙ ap (λ (t : Told (List ℕ)). left_in t out) same;
