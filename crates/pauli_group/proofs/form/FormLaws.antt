@@ -1,5 +1,5 @@
 -- Laws of the echelon form in the work area, and of the products that its T names.
-use Rattle.std.proofs.Common.{◌≡◌, ℕ, zero, suc, ◌+◌, ◌-◌, ◌*◌, ◌/◌, ◌%◌, ◌^◌, ◌<◌, ◌≤◌, ◌⊎◌, List, length, get_or, take, drop, sym, refl, ap, ◌∙◌, ap₂, ⊎_elim, lt_of_lt_of_le, add-zero, mod-eq_of_lt, zero-add, arith, length-drop, length-take-le, get_or-drop, get_or-take, pow_mono, shr-shr, shr_lt}
+use Rattle.std.proofs.Common.{◌≡◌, ℕ, zero, suc, ◌+◌, ◌-◌, ◌*◌, ◌/◌, ◌%◌, ◌^◌, ◌<◌, ◌≤◌, ◌⊎◌, List, length, get_or, take, drop, sym, ap, ◌∙◌, ap₂, ⊎_elim, lt_of_lt_of_le, add-zero, mod-eq_of_lt, zero-add, arith, length-drop, length-take-le, get_or-drop, get_or-take, pow_mono, shr-shr, shr_lt}
 use lib.Pow.{high, low, mod-pow-add}
 use Rattle.binar.proofs.row.Slice.{AreWords, row_next}
 use Rattle.binar.specs.Layout.{form_stride}

@@ -45,7 +45,7 @@ use Rattle.pauli_group.specs.Calls.{paulis}
 use Rattle.pauli_group.specs.Inner.Lists.{row_over, clash_of, stabilizer_of}
 use Rattle.pauli_group.specs.Inner.Members.{covered, Asked}
 use Rattle.pauli_group.proofs.area.AreaLaws.{form_room}
-use Rattle.pauli_group.proofs.group.GroupedLaws.{step_kinds, list_length}
+use Rattle.pauli_group.proofs.group.GroupedLaws.{list_length}
 use Rattle.pauli_group.proofs.group.GroupLaws.{described}
 use Rattle.pauli_group.proofs.scan.ScanLaws.{more_than}
 
