@@ -21,7 +21,7 @@ use Rattle.pauli_group.specs.WorkArea.{work_words, cleared, area_after}
 use Rattle.pauli_group.specs.Calls.{paulis, question, factorization_call, index_bytes, factored, told_member, member_left, le16s}
 use Rattle.pauli_group.specs.CallContracts.{MemberCall}
 use Rattle.pauli_group.proofs.checks.Question.{Asking, question_told}
-use Rattle.pauli_group.proofs.group.GroupedLaws.{cleared_part, list_length}
+use Rattle.pauli_group.proofs.group.GroupedLaws.{cleared_part}
 use Rattle.pauli_group.proofs.member.MemberLaws.{length_indexes}
 
 -- ---- an index set is one of generators
@@ -72,9 +72,6 @@ module _ (promise : Promise) (b e : List ℕ) (number : ℕ) (work out : List �
     module _ (f : Factorization) (h : some f ≡ F) where
       same : factorization_call promise b e number (length work) ≡ answer (some f)
       same = call_is ∙ ap answer (sym h)
-
-      pub set_below : f.indexes < 2 ^ n
-      set_below = rw (list_length b n a.generators) at (indexes_below promise _ _ f h)
 
       bytes : length (index_bytes f) ≡ 2 * weight f.indexes
       unfolding index_bytes

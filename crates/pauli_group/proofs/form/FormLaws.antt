@@ -1,10 +1,9 @@
 -- Laws of the echelon form in the work area, and of the products that its T names.
-use Rattle.std.proofs.Common.{◌≡◌, ℕ, zero, suc, ◌+◌, ◌-◌, ◌*◌, ◌/◌, ◌%◌, ◌^◌, ◌<◌, ◌≤◌, ◌⊎◌, List, length, get_or, take, drop, sym, refl, ap, ◌∙◌, ap₂, ⊎_elim, lt_of_lt_of_le, add-zero, mod-eq_of_lt, zero-add, arith, length-drop, length-take-le, get_or-drop, get_or-take, pow_mono, shr-shr, shr_lt}
+use Rattle.std.proofs.Common.{◌≡◌, ℕ, zero, suc, ◌+◌, ◌-◌, ◌*◌, ◌/◌, ◌%◌, ◌^◌, ◌<◌, ◌≤◌, ◌⊎◌, List, length, get_or, take, drop, sym, ap, ◌∙◌, ap₂, ⊎_elim, lt_of_lt_of_le, add-zero, mod-eq_of_lt, zero-add, arith, length-drop, length-take-le, get_or-drop, get_or-take, pow_mono, shr-shr, shr_lt}
 use lib.Pow.{high, low, mod-pow-add}
 use Rattle.binar.proofs.row.Slice.{AreWords, row_next}
 use Rattle.binar.specs.Layout.{form_stride}
 use Rattle.binar.specs.Words.{value, row_at, matrix}
-use Rattle.pauli_theory.specs.Standard.{if_zero}
 use Rattle.pauli_theory.proofs.CommonPlaces.{product_mod}
 use Rattle.binar.proofs.echelon.Matrix.{length_matrix, matrix_row, row_in, row_lt}
 use Rattle.pauli.specs.declared.signed.Pauli.{Pauli as Held}
@@ -76,15 +75,6 @@ unfolding stride_of form_stride
 names_whole l at n f h few =
     let wide : 64 * stride_of n ≤ 128 + 256 = omega arith in
     mod-eq_of_lt (shr_lt 128 256 (lt_of_lt_of_le (row_lt l at (stride_of n) f h) (pow_mono wide)))
-
-pub zero_picks : (n : ℕ) → n ≡ 0 → 1 ≡ if_zero {X = ℕ} n 1 0
-unfolding if_zero
-zero_picks n e = rw e
-
-pub other_picks : (n : ℕ) → (n ≡ 0 → ⊥) → 0 ≡ if_zero {X = ℕ} n 1 0
-unfolding if_zero
-other_picks zero d = absurd (d refl)
-other_picks (suc n) d = refl
 
 -- ---- the products that T names
 

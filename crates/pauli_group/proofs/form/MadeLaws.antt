@@ -1,5 +1,5 @@
 -- The echelon form that is made of the rows of a list.
-use Rattle.std.proofs.Common.{◌≡◌, ℕ, zero, suc, ◌+◌, ◌-◌, ◌*◌, ◌^◌, ◌<◌, ◌≤◌, true, cond, Option, Some, IsSome, List, ◌++◌, map, length, get_or, drop, sym, refl, ap, ◌∙◌, subst, ap₂, lt_of_lt_of_le, arith, length-append, length-drop, get_or-drop, get_or-append-add, pow_pos, pow_mono, le-leb}
+use Rattle.std.proofs.Common.{◌≡◌, ℕ, ◌+◌, ◌-◌, ◌*◌, ◌^◌, ◌<◌, ◌≤◌, true, cond, Option, Some, IsSome, List, ◌++◌, map, length, get_or, drop, sym, ap, ◌∙◌, subst, ap₂, lt_of_lt_of_le, arith, length-append, length-drop, get_or-drop, get_or-append-add, pow_pos, pow_mono, le-leb}
 use native.Mathlib.Decide.{dec_lt}
 use lib.ListN.{length-map, get_or-eq_default}
 use Rattle.binar.specs.Echelon.{echelon, rank as echelon_rank}

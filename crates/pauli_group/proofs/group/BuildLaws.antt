@@ -1,5 +1,5 @@
 -- What is in the work area once the form and the standard generators of a list are made.
-use Rattle.std.proofs.Common.{◌≡◌, ℕ, zero, suc, ◌+◌, ◌*◌, ◌/◌, ◌%◌, ◌^◌, ◌≤◌, List, map, length, take, drop, sym, refl, ap, ◌∙◌, ap₂, arith, take_all}
+use Rattle.std.proofs.Common.{◌≡◌, ℕ, ◌+◌, ◌*◌, ◌/◌, ◌%◌, ◌^◌, ◌≤◌, List, map, length, take, drop, sym, ap, ◌∙◌, ap₂, arith, take_all}
 use mathlib.Core.List.{map-map}
 use lib.ListN.{length-map}
 use Rattle.binar.specs.Echelon.{Row, rank as echelon_rank}

@@ -1,5 +1,5 @@
 -- The group of a list in the work area: from the roll's Paulis over the places of their support.
-use Rattle.std.proofs.Common.{◌≡◌, ℕ, ◌+◌, ◌*◌, ◌≤◌, List, [], ◌++◌, map, length, sym, refl, ap, ◌∙◌, ap₂, arith, length-append}
+use Rattle.std.proofs.Common.{◌≡◌, ℕ, ◌+◌, ◌*◌, ◌≤◌, List, [], ◌++◌, map, length, sym, refl, ap, ◌∙◌, ap₂, arith}
 use mathlib.Core.List.{map-append, Memᴰ as Mem}
 use lib.ListN.{length-map}
 use Rattle.binar.specs.Echelon.{rank as echelon_rank}
@@ -155,11 +155,6 @@ module _ {gs : List Pauli} {known x : List ℕ} {places r total : ℕ} (G : Grou
         clash_is = ec ∙ same ∙ places_nonabelian gs promise;
         stabilizer_is = et ∙ ap₂ stabilizer_of same G.standards ∙ places_stabilizer gs promise;
       }
-
-pub two_few : (l : List ℕ) (m : ℕ) (r : List ℕ) (n : ℕ) → count_of l ≡ answer m → count_of r ≡ answer n → m + n ≤ 128 → length (paulis (list_of l ++ list_of r)) ≤ 128
-unfolding paulis
-two_few l m r n el er few =
-    omega (arith, length-map (list_of l ++ list_of r) pauli_of, length-append (list_of l) (list_of r), (accepted l m el).1, (accepted r n er).1)
 
 pub paulis_append : (ps qs : List Sparse) → paulis (ps ++ qs) ≡ paulis ps ++ paulis qs
 unfolding paulis

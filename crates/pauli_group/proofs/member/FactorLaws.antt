@@ -45,7 +45,7 @@ use Rattle.pauli_group.specs.Calls.{paulis}
 use Rattle.pauli_group.specs.Inner.Lists.{row_over, clash_of, stabilizer_of}
 use Rattle.pauli_group.specs.Inner.Members.{covered, Asked}
 use Rattle.pauli_group.proofs.area.AreaLaws.{form_room}
-use Rattle.pauli_group.proofs.group.GroupedLaws.{step_kinds, list_length}
+use Rattle.pauli_group.proofs.group.GroupedLaws.{list_length}
 use Rattle.pauli_group.proofs.group.GroupLaws.{described}
 use Rattle.pauli_group.proofs.scan.ScanLaws.{more_than}
 
@@ -173,9 +173,6 @@ module _ {known w : List ℕ} {n places r total step : ℕ} (g : Asked known w n
   pub asked_solvable : n ≤ 128 → places ≤ 128 → length w ≡ 4096 → FormLeft w (stride_of n) n (2 * places) r target_at
   asked_solvable few small size =
       rw g.size (grouped_solvable g.grouped (rw (← g.size) few) small size)
-
-  pub asked_step : 0 < step
-  asked_step = rw g.step_is (step_kinds g.promise gs).0
 
   -- the element e of a roll
   module _ (e : Sparse) where

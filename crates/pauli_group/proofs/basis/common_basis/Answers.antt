@@ -1,4 +1,4 @@
-use Rattle.std.proofs.Common.{◌∙◌, inl, inr, arith}
+use Rattle.std.proofs.Common.{inl, inr, arith}
 use Rattle.pauli_group.proofs.basis.BasisLaws.{stack_count, stack_first, stack_on, stack_rank, stack_zeros, dependencies_on, basis_count, basis_is}
 use Rattle.pauli_group.proofs.common.PartLaws.{lists_few}
 use Rattle.pauli_group.proofs.basis.common_basis.Goals as goal

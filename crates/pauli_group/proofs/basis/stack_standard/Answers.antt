@@ -1,4 +1,4 @@
-use Rattle.std.proofs.Common.{◌∙◌, arith}
+use Rattle.std.proofs.Common.{arith}
 use Rattle.pauli_group.proofs.member.FactorLaws.{places_known}
 use Rattle.pauli_group.proofs.group.GroupedLaws.{group_total, group_on}
 use Rattle.pauli_group.proofs.basis.BasisLaws.{grouped_movable, joint_rises, joint_left, joint_right, stack_is}

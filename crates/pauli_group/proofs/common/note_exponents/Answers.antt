@@ -1,4 +1,4 @@
-use Rattle.std.proofs.Common.{refl, ◌∙◌, arith}
+use Rattle.std.proofs.Common.{refl, arith}
 use Rattle.pauli_group.proofs.common.SharedLaws.{noted_none, noted_solving, noted_element, noted_next, noted_all}
 use Rattle.pauli_group.proofs.common.note_exponents.Goals as goal
 

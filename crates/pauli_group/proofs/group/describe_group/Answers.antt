@@ -1,4 +1,3 @@
-use Rattle.std.proofs.Common.{ap, ap₂, ◌∙◌}
 use Rattle.pauli_group.proofs.area.AreaLaws.{span_list}
 use Rattle.pauli_group.proofs.group.GroupLaws.{described, facts_are}
 use Rattle.pauli_group.proofs.group.describe_group.Goals as goal

@@ -1,7 +1,7 @@
 -- The numbers of the roll are gathered, its Paulis are read over their places, and the group is built.
 use Rattle.pauli_group.proofs.list.ListLaws.{outside_join, outside_wider}
 use Rattle.pauli_group.specs.Inner.Area.{further_at}
-use Rattle.std.proofs.Common.{◌∙◌, arith}
+use Rattle.std.proofs.Common.{arith}
 use Rattle.pauli.proofs.joined.JoinLaws.{accepted, accepted_few}
 use Rattle.pauli.specs.Roll.{most_paulis}
 use Rattle.pauli_group.proofs.group.GroupLaws.{own_gathered, own_few, places_few, part_readable, on_places, grouped}

@@ -5,7 +5,7 @@ use Rattle.pauli_group.specs.Calls.{paulis}
 use Rattle.pauli_group.specs.Promises.{promise_of}
 use Rattle.pauli_group.proofs.area.AreaLaws.{span_list}
 use Rattle.pauli_group.proofs.group.GroupLaws.{described}
-use Rattle.pauli_group.proofs.group.GroupedLaws.{list_length, list_few, group_total, group_places, group_on}
+use Rattle.pauli_group.proofs.group.GroupedLaws.{list_length, list_few, group_total, group_on}
 use Rattle.pauli_group.proofs.list.ListLaws.{list_kept_after}
 use Rattle.pauli_group.proofs.member.FactorLaws.{places_known}
 use Rattle.pauli_group.proofs.modulo.ModuloLaws.{left_moves, moved_low, left_list, right_other, remainder_left}

@@ -1,4 +1,4 @@
-use Rattle.std.proofs.Common.{◌≡◌, List, ℕ, sym, refl, ap, ◌∙◌}
+use Rattle.std.proofs.Common.{List, ℕ, sym, refl, ap, ◌∙◌}
 use Rattle.std.proofs.lemmas.List.{nil_from_length}
 use Rattle.pauli.specs.Signed.{paulis_in}
 use Rattle.pauli_theory.specs.Standard.{some_anticommute}
