@@ -1,7 +1,6 @@
 -- Laws for the call: what the checks tell, and the contract from what is then written.
 use Rattle.std.proofs.Common.{◌≡◌, refl, sym, ap, ◌∙◌, subst, List, ◌++◌, map, ℕ, ◌≤◌, ◌<◌, ltb, length, take, drop, Err, Ok, Result}
 use mathlib.Core.Option.{Option}
-use borrow.Author.Tests.{lt-ltb, le-ltb, ltb-false}
 use lib.ListN.{length-map}
 use Rattle.pauli.specs.declared.refusal.Refusal.{Refusal}
 use Rattle.pauli.specs.Condense.{list_of}
@@ -10,12 +9,13 @@ use Rattle.pauli.specs.Refusals.{told_refusal, told_of}
 use Rattle.pauli.specs.Told.{Told, answer, refused, and_then, map_told}
 use Rattle.pauli.specs.Writing.{told_bytes, left_in}
 use Rattle.pauli.proofs.joined.JoinLaws.{accepted}
-use Rattle.pauli.proofs.roll.Told.{refused_none, test_pass, test_refuses, test_passed, map_test, map_refused, map_answer}
+use Rattle.pauli.proofs.roll.Told.{refused_none, map_test, map_refused, map_answer}
 use Rattle.pauli_theory.specs.Group.{Promise}
 use Rattle.pauli_theory.specs.Membership.{Factorization, factorization_of}
 use Rattle.pauli_group.specs.Calls.{paulis, roll_counts}
 use Rattle.pauli_group.specs.WorkArea.{work_words, enough, cleared, area_after}
 use Rattle.pauli_group.proofs.checks.RollsLaws.{Accepted, both}
+use Rattle.pauli_group.proofs.checks.Room.{room_told, room_enough, room_passed, room_refused}
 use Rattle.pauli_group.proofs.group.GroupedLaws.{cleared_part, list_length}
 use Rattle.factorizations.specs.Calls.{questions, questions_counts, results_of, factorizations_call, Totals, totals, told_results}
 use Rattle.factorizations.specs.Contract.{FactorizationsCall}
@@ -33,23 +33,18 @@ module _ (b e : List ℕ) (words : ℕ) where
     unfolding questions read_both and_then
     read = rw ((accepted b n a.generators).0, (accepted e m a.elements).0)
 
-    questions_short : words < work_words → questions b e words ≡ refused 9 0
-    unfolding enough
-    questions_short h = read ∙ test_refuses (ltb words work_words) 9 0 _ (lt-ltb words work_words h)
-
     pub questions_long : work_words ≤ words
         → questions b e words ≡ answer (record { generators = paulis (list_of b); elements = paulis (list_of e) })
-    unfolding enough
-    questions_long h = read ∙ test_pass (ltb words work_words) 9 0 _ (le-ltb words work_words h)
+    questions_long h = read ∙ room_enough words _ h
 
   pub counted_refused : (m p : ℕ) → read_both b e ≡ refused m p → refused m p ≡ map_told questions_counts (questions b e words)
   unfolding map_told
   counted_refused m p h = rw (questions_refused m p h)
 
   module _ (n m : ℕ) (a : Accepted b e n m) where
-    pub counted_short : words < work_words → refused 9 0 ≡ map_told questions_counts (questions b e words)
+    pub counted_short : (k p : ℕ) → refused k p ≡ room_told words → refused k p ≡ map_told questions_counts (questions b e words)
     unfolding map_told
-    counted_short h = rw (questions_short n m a h)
+    counted_short k p h = rw (read n m a ∙ room_refused words _ h)
 
     pub counted_long : work_words ≤ words → answer (record { left = n; right = m }) ≡ map_told questions_counts (questions b e words)
     unfolding map_told questions_counts
@@ -61,7 +56,7 @@ module _ (b e : List ℕ) (words : ℕ) where
     pub room : work_words ≤ words
 
   pub asking : (c : Counts) → answer c ≡ map_told questions_counts (questions b e words) → Asking c.left c.right
-  unfolding roll_counts enough
+  unfolding roll_counts
   asking c h = go (roll_counts b e) refl
     where
       go : (t : Told Counts) → roll_counts b e ≡ t → Asking c.left c.right
@@ -69,8 +64,7 @@ module _ (b e : List ℕ) (words : ℕ) where
       go (answer d) f =
           let a = both b e d.left d.right (sym f) in
           let (q, told, counts) = map_answer questions_counts (questions b e words) c (sym h) in
-          let (large, same) = test_passed (ltb words work_words) 9 0 _ q (sym (read d.left d.right a) ∙ told) in
-          let room : work_words ≤ words = ltb-false words work_words large in
+          let (room, same) = room_passed words _ q (sym (read d.left d.right a) ∙ told) in
           let told_same : answer d ≡ answer c = counted_long d.left d.right a room ∙ sym h in
           let counts_same : d ≡ c = cc in
           subst (λ (x : Counts). Asking x.left x.right) counts_same (record { rolls = a; room = room })

@@ -69,7 +69,7 @@ module _ (l : List ℕ) (i : ℕ) (h : i + 5 ≤ length l) (e low high : ℕ) wh
 -- ---- results one after the other
 
 -- a result by the Pauli that its five words would be
-by_words : Pauli → Option Factorization
+abbrev by_words : Pauli → Option Factorization
 by_words p = cond (nat_lt p.e 4) (some (record { indexes = p.x; exponent = p.e })) none
 
 results_words : (ls : List (List ℕ)) → results_in ls ≡ map by_words (paulis_in ls)

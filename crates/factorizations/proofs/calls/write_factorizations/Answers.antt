@@ -10,14 +10,20 @@ use Rattle.pauli_group.proofs.group.GroupedLaws.{cleared_whole}
 use Rattle.factorizations.specs.Records.{results_bytes}
 use Rattle.factorizations.proofs.calls.write_factorizations.Goals as goal
 
+pub results-requires : goal.results-requires
+unfolding most_paulis
+results-requires c = omega (arith, accepted_few _ _ c.args.rolls.elements.accepted)
+
 pub write_records-wrote-requires : goal.write_records-wrote-requires
 unfolding most_paulis
-write_records-wrote-requires c =
-    let few = accepted_few _ _ c.args.rolls.elements.accepted in
-    (omega (arith, few, c.factor_rolls.auto.w, c.requires), omega (arith, few))
+write_records-wrote-requires c = omega (arith, accepted_few _ _ c.args.rolls.elements.accepted, c.results.ensures.count)
 
 pub returns : goal.returns
 returns c =
     let wrote = c.write_records-wrote.ensures in
-    let results = c.factor_rolls.ensures.results in
-    let out = c.args.out.now in record { told = wrote.told ∙ ap (λ (os : List (Option Factorization)). told_bytes (answer (results_bytes os)) out) results; left = wrote.left ∙ ap (λ (os : List (Option Factorization)). left_in (answer (results_bytes os)) out) results; area = c.clear_bits.ensures ∙ cleared_whole _ _ (c.factor_rolls.auto.w ∙ c.requires) c.requires }
+    let results = c.results.ensures.list ∙ c.factor_rolls.ensures.results in
+    let out = c.args.out.now in record {
+      told = wrote.told ∙ ap (λ (os : List (Option Factorization)). told_bytes (answer (results_bytes os)) out) results;
+      left = wrote.left ∙ ap (λ (os : List (Option Factorization)). left_in (answer (results_bytes os)) out) results;
+      area = c.clear_bits.ensures ∙ cleared_whole _ _ c.factor_rolls.array_long c.told-w;
+    }

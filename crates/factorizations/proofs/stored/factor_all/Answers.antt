@@ -5,7 +5,7 @@ use Rattle.factorizations.proofs.stored.ResultLaws.{storable, factored_start, as
 use Rattle.factorizations.proofs.stored.factor_all.Goals as goal
 
 pub loop-k-init : goal.loop-k-init
-loop-k-init c = (omega arith, c.requires.1, λ g. factored_start g _)
+loop-k-init c = (omega arith, λ g. factored_start g _)
 
 pub overflow_mul-k : goal.overflow_mul-k
 unfolding most_paulis
@@ -17,13 +17,17 @@ unfolding most_paulis
 overflow_add-k c =
     omega (arith, accepted_few _ _ c.args.roll.accepted, c.loop-k-test.true)
 
+pub factor-factoring-requires : goal.factor-factoring-requires
+unfolding asked_now
+factor-factoring-requires c = (omega (arith, c.loop-k-test.true), asked_now c.requires _ (c.loop-k.invariant.1 c.requires))
+
 pub store_result-requires : goal.store_result-requires
 unfolding most_paulis asked_now
 store_result-requires c =
     let inv = c.loop-k.invariant in
     let factor = c.factor-factoring.ensures in (
-      omega (arith, accepted_few _ _ c.args.roll.accepted, c.loop-k-test.true, factor.rest.size, inv.1),
-      storable _ _ _ _ (sym (factor.told (asked_now c.requires.3 _ (inv.2 c.requires.3)))),
+      omega (arith, accepted_few _ _ c.args.roll.accepted, c.loop-k-test.true, c.factor-factoring.array_long),
+      storable _ _ _ _ (sym (factor.told (asked_now c.requires _ (inv.1 c.requires)))),
     )
 
 pub loop-k-preserved : goal.loop-k-preserved
@@ -35,11 +39,10 @@ loop-k-preserved c =
     let size = (accepted _ _ c.args.roll.accepted).1 in
     let taken = c.loop-k-test.true in (
       omega arith,
-      stored.rest.size ∙ factor.rest.size ∙ inv.1,
-      λ g. let f = inv.2 g in factored_next g _ f c.requires.0 inv.1 (omega (arith, size, taken)) (factor.told (asked_now g _ f)) factor.rest stored,
+      λ g. let f = inv.1 g in factored_next g _ f c.args.group.few.0 (sym factor.rest.size ∙ c.factor-factoring.array_long) (omega (arith, size, taken)) (factor.told (asked_now g _ f)) factor.rest stored,
     )
 
 pub returns : goal.returns
 returns c =
     let inv = c.loop-k.invariant in
-    λ g. factored_all g _ (inv.2 g) _ (accepted _ _ c.args.roll.accepted).1 inv.0 c.loop-k-test.false
+    λ g. factored_all g _ (inv.1 g) _ (accepted _ _ c.args.roll.accepted).1 inv.0 c.loop-k-test.false
