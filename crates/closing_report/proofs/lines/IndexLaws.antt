@@ -1,5 +1,5 @@
 -- The indexes of a member line, one after the other.
-use Rattle.std.proofs.Common.{◌≡◌, ap, ◌∙◌, List, [], ◌∷◌, ◌++◌, ℕ, ◌+◌, ◌*◌, ◌≤◌, arith, length, length-append}
+use Rattle.std.proofs.Common.{◌≡◌, refl, ap, ◌∙◌, List, [], ◌∷◌, ◌++◌, ℕ, ◌+◌, ◌*◌, ◌≤◌, arith, length, length-append}
 use Rattle.pauli.specs.Sets.{members}
 use Rattle.pauli.proofs.condense.Sets.{members_count}
 use Rattle.pauli.proofs.write.Puts.{Left, left_done, left_room, left_step}
@@ -39,9 +39,9 @@ module _ {s total : ℕ} {left : List ℕ} (c : Counted s left total) where
 
 -- ---- their writing
 
-module _ {first : List ℕ} {start : ℕ} {out : List ℕ} {next s : ℕ} {left : List ℕ}
-    (r : Left first start (indexes_text (members s)) out next (indexes_text left)) where
-  pub put_end : left ≡ [] → Put first start (indexes_text (members s)) out next
+module _ {first : List ℕ} {start : ℕ} {out : List ℕ} {next : ℕ} {whole left : List ℕ}
+    (r : Left first start whole out next (indexes_text left)) where
+  pub put_end : left ≡ [] → Put first start whole out next
   put_end e = let all = left_done r (no_text e) in record { bytes = all.0; past = all.1 }
 
   module _ {i : ℕ} {more : List ℕ} (e : left ≡ i ∷ more) where
@@ -49,7 +49,7 @@ module _ {first : List ℕ} {start : ℕ} {out : List ℕ} {next s : ℕ} {left 
     put_fits = left_room r (labelled (ascii " ") i) (indexes_text more) (length (labelled (ascii " ") i)) (next_text e) refl
 
     pub put_next : (u : List ℕ) (m : ℕ) → Put out next (labelled (ascii " ") i) u m → length u ≡ length out
-        → Left first start (indexes_text (members s)) u m (indexes_text more)
+        → Left first start whole u m (indexes_text more)
     put_next u m p k =
         rw p.past
         (left_step r (labelled (ascii " ") i) (indexes_text more) (length (labelled (ascii " ") i)) (next_text e) refl u p.bytes k)

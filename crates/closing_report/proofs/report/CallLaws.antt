@@ -2,22 +2,22 @@
 use mathlib.Core.Path.{◌≡◌, ap, ◌∙◌}
 use mathlib.Core.List.{List, ◌++◌, map}
 use mathlib.Core.Option.{Option}
-use Prim.Native.Nat.{ℕ, ◌≤◌, ◌<◌}
-use borrow.Author.Tests.{lt-ltb, le-ltb}
+use Prim.Native.Nat.{ℕ, ◌≤◌}
 use lib.ListN.{length, take, drop}
 use Rattle.pauli.specs.declared.refusal.Refusal.{Refusal}
 use Rattle.pauli.specs.Refusals.{told_refusal, told_of}
 use Rattle.pauli.specs.Condense.{list_of}
 use Rattle.pauli.specs.Pauli.{Pauli}
 use Rattle.pauli.specs.Roll.{count_of}
-use Rattle.pauli.specs.Told.{Told, answer, refused, refuse_if}
+use Rattle.pauli.specs.Told.{Told, answer, refused}
 use Rattle.pauli.specs.Writing.{put_bytes, told_bytes, left_in}
 use Rattle.pauli.proofs.joined.JoinLaws.{accepted, count_refused}
 use Rattle.pauli_theory.specs.Group.{none}
 use Rattle.pauli_theory.specs.Membership.{Factorization, factorization_of}
 use Rattle.pauli_theory.specs.Standard.{rank, nonabelian, phase_step}
-use Rattle.pauli_group.specs.WorkArea.{work_words, enough, cleared, area_after}
+use Rattle.pauli_group.specs.WorkArea.{work_words, cleared, area_after}
 use Rattle.pauli_group.specs.Calls.{paulis}
+use Rattle.pauli_group.proofs.checks.Room.{room_told, room_enough, room_refused}
 use Rattle.pauli_group.proofs.group.GroupedLaws.{cleared_part}
 use Rattle.closing_report.specs.Contract.{ReportCall}
 use Rattle.closing_report.specs.Lines.{first_line, member_lines, refused_line}
@@ -53,13 +53,13 @@ module _ (input : List ℕ) where
   text_written out e t w = rw e (t, w)
 
   module _ (words : ℕ) where
-    pub work_short : words < work_words → listing input words ≡ refused 9 0
-    unfolding listing enough refuse_if
-    work_short h = rw (lt-ltb words work_words h)
+    pub work_refused : {m p : ℕ} → refused m p ≡ room_told words → listing input words ≡ refused m p
+    unfolding listing
+    work_refused h = room_refused words _ h
 
     pub work_enough : work_words ≤ words → listing input words ≡ answer (text_of input)
-    unfolding listing enough refuse_if
-    work_enough h = rw (le-ltb words work_words h)
+    unfolding listing
+    work_enough h = room_enough words _ h
 
 -- the text that is written for a group and its results
 pub report_text : (gs es : List Pauli) (rank' step clash : ℕ) (os : List (Option Factorization))

@@ -5,4 +5,4 @@ use Rattle.closing_report.proofs.report.write_and_clear.Goals as goal
 
 pub returns : goal.returns
 returns c =
-    let wrote = c.write_text-wrote.ensures in record { told = wrote.told; left = wrote.left; area = c.clear_bits.ensures ∙ cleared_whole _ _ (c.write_text-wrote.auto.w ∙ c.requires) c.requires }
+    let wrote = c.write_text-wrote.ensures in record { told = wrote.told; left = wrote.left; area = c.clear_bits.ensures ∙ cleared_whole _ _ c.write_text-wrote.array_long c.told-w }
