@@ -48,7 +48,7 @@ fn exponent_of(
     own: &[u32],
     joint: &[u32],
 ) -> u64
-    requires { (at + 5 ≤ 4096) × Solving w.old group.count group.places group.rank × (group.places ≡ length own.now) × (length joint.now ≤ 128) × ((pauli_in w.old at).x < 2 ^ length joint.now) × ((pauli_in w.old at).z < 2 ^ length joint.now) × MovablePauli joint.now own.now (pauli_in w.old at) }
+    requires { (at + 5 ≤ 4096) × Solving w.old group.count group.places group.rank × (group.places ≡ length own.now) × ((pauli_in w.old at).x < 2 ^ length joint.now) × ((pauli_in w.old at).z < 2 ^ length joint.now) × MovablePauli joint.now own.now (pauli_in w.old at) }
     ensures told { result ≡ exponent_over joint.now own.now group.count group.places w.old (pauli_in w.old at) }
     ensures low { result < 4 }
     ensures rest { Outside target_at (stride_of group.count) w.old w.new }
@@ -65,7 +65,7 @@ fn exponent_of(
 
 // Notes with each of the m Paulis of the further list the exponent of the product that solves for it.
 fn note_exponents(w: &mut [u64; WORK_WORDS], m: usize, group: Group, own: &[u32], joint: &[u32])
-    requires { (m ≤ 128) × Solving w.old group.count group.places group.rank × (group.places ≡ length own.now) × (length joint.now ≤ 128) × OnPlaces (length joint.now) (list_in w.old further_at m) × All (MovablePauli joint.now own.now) (list_in w.old further_at m) }
+    requires { (m ≤ 128) × Solving w.old group.count group.places group.rank × (group.places ≡ length own.now) × OnPlaces (length joint.now) (list_in w.old further_at m) × All (MovablePauli joint.now own.now) (list_in w.old further_at m) }
     ensures { list_in w.new further_at m ≡ map (λ p. noted (exponent_over joint.now own.now group.count group.places w.old p) p) (list_in w.old further_at m) }
 {
     for i in 0..m {
@@ -83,7 +83,7 @@ fn note_by(
     w: &mut [u64; WORK_WORDS],
     m: usize,
 ) -> Phases
-    requires { (m ≤ 128) × (length joint.now ≤ 128) × OnPlaces (length joint.now) (list_in w.old further_at m) × All (MovablePauli joint.now (support_of (paulis (list_of roll.bytes.now)))) (list_in w.old further_at m) }
+    requires { (m ≤ 128) × OnPlaces (length joint.now) (list_in w.old further_at m) × All (MovablePauli joint.now (support_of (paulis (list_of roll.bytes.now)))) (list_in w.old further_at m) }
     ensures step { step_told result ≡ phase_step (promise_of promise) (paulis (list_of roll.entry.bytes.now)) }
     ensures list { list_in w.new further_at m ≡ map (λ p. noted (exponent_for joint.now (paulis (list_of roll.entry.bytes.now)) p) p) (list_in w.old further_at m) }
 {

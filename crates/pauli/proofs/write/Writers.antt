@@ -1,5 +1,5 @@
 -- Laws of the writer of rolls: the Paulis of a list, taken one by one.
-use Rattle.std.proofs.Common.{◌≡◌, ℕ, zero, suc, ◌+◌, ◌-◌, ◌*◌, ◌/◌, ◌%◌, ◌^◌, ◌<◌, ◌≤◌, List, [], ◌∷◌, ◌++◌, map, length, get_or, drop, sym, refl, ap, ◌∙◌, subst, ap₂, append_assoc, zero-add, add-one, arith, drop-cons, drop_of_length-le, length-append, le-ltb, lt-ltb}
+use Rattle.std.proofs.Common.{◌≡◌, ℕ, zero, suc, ◌+◌, ◌*◌, ◌/◌, ◌%◌, ◌^◌, ◌<◌, ◌≤◌, List, [], ◌∷◌, ◌++◌, map, length, get_or, drop, sym, refl, ap, ◌∙◌, subst, ap₂, append_assoc, zero-add, add-one, arith, drop-cons, drop_of_length-le, length-append, le-ltb, lt-ltb}
 use lib.Count.{ones, ones_step}
 use lib.ListN.{length-map}
 use Rattle.binar.specs.Row.{weight}
@@ -27,29 +27,7 @@ pub loaded : (r : Held) (p : Pauli) → normal (held r) ≡ normal p → Loaded 
 unfolding normal held
 loaded r p h = record { e = ap (λ (q : Pauli). q.e) h; x = ap (λ (q : Pauli). q.x) h; z = ap (λ (q : Pauli). q.z) h }
 
--- ---- the Paulis of words, from number i on
-
-unfoldable pub list_from : List ℕ → ℕ → ℕ → ℕ → List Pauli
-list_from w base n i = list_in w (base + 5 * i) (n - i)
-
-module _ (w : List ℕ) (base n : ℕ) where
-  pub list_start : list_in w base n ≡ list_from w base n 0
-  unfolding list_from
-  list_start =
-      let here : base + 5 * 0 ≡ base = omega arith in
-      let all : n - 0 ≡ n = omega arith in
-      rw (here, all)
-
-  pub list_next : (i : ℕ) → i < n → list_from w base n i ≡ pauli_in w (base + 5 * i) ∷ list_from w base n (i + 1)
-  unfolding list_from list_in
-  list_next i h =
-      let e : n - i ≡ suc (n - (i + 1)) = omega arith in
-      let five : base + 5 * i + 5 ≡ base + 5 * (i + 1) = omega arith in
-      rw (e, five)
-
-  pub list_end : (i : ℕ) → n ≤ i → list_from w base n i ≡ []
-  unfolding list_from list_in
-  list_end i h = let e : n - i ≡ 0 = omega arith in rw e
+-- ---- the Paulis of words
 
 pub length_list : (w : List ℕ) (base n : ℕ) → length (list_in w base n) ≡ n
 unfolding list_in

@@ -3,10 +3,10 @@ use Rattle.std.proofs.Common.{◌≡◌, ℕ, ◌<◌, ◌≤◌, Bool, true, fa
 use borrow.Author.Tests.{lt-leb}
 use Rattle.pauli.specs.JoinCalls.{Lists, read_both, within, Counts}
 use Rattle.pauli.specs.Condense.{list_of, nothing}
-use Rattle.pauli.specs.Roll.{most_paulis, count_of}
+use Rattle.pauli.specs.Roll.{count_of}
 use Rattle.pauli.specs.Sets.{pauli_of}
 use Rattle.pauli.specs.Told.{Told, answer, refused, refuse_if, and_then, map_told}
-use Rattle.pauli.proofs.joined.JoinLaws.{accepted, accepted_few}
+use Rattle.pauli.proofs.joined.JoinLaws.{accepted}
 use Rattle.pauli.proofs.roll.Told.{refused_none, test_pass, test_refuses, test_passed, map_refused}
 use Rattle.pauli_group.specs.WorkArea.{work_words, enough}
 use Rattle.pauli_group.specs.Calls.{paulis, question, roll_counts, question_counts}
@@ -66,10 +66,6 @@ module _ (b e : List ℕ) (number words : ℕ) where
     pub elements : count_of e ≡ answer m
     pub inside : number < m
     pub room : work_words ≤ words
-
-  pub asking_few : {n m : ℕ} → Asking n m → n ≤ 128
-  unfolding most_paulis
-  asking_few {n} a = accepted_few b n a.generators
 
   pub asking : (n m : ℕ) → answer (record { left = n; right = m }) ≡ question_counts b e number words → Asking n m
   unfolding roll_counts

@@ -1,5 +1,5 @@
--- Laws of a group in the area, and of the numbers that are told of it.
-use Rattle.std.proofs.Common.{◌≡◌, ℕ, ◌+◌, ◌<◌, ◌≤◌, List, [], ◌++◌, length, take, drop, sym, ap, ◌∙◌, append-nil, arith, drop_of_length-le, length-take-le}
+-- Laws of a group in the area.
+use Rattle.std.proofs.Common.{◌≡◌, ℕ, ◌+◌, ◌≤◌, List, [], ◌++◌, length, take, drop, sym, ap, ◌∙◌, append-nil, arith, drop_of_length-le, length-take-le}
 use lib.ListN.{length-map}
 use Rattle.binar.specs.Words.{words, put_row}
 use Rattle.pauli.specs.Condense.{list_of}
@@ -12,9 +12,7 @@ use Rattle.pauli.specs.Told.{answer}
 use Rattle.pauli.specs.Writing.{OnPlaces}
 use Rattle.pauli.proofs.joined.JoinLaws.{accepted, accepted_few}
 use Rattle.pauli.proofs.roll.RollLaws.{answer_parts}
-use Rattle.pauli_theory.specs.Group.{Promise}
-use Rattle.pauli_theory.specs.Standard.{support_of, standard, rank, phase_step}
-use Rattle.pauli_theory.proofs.Phases.{phases_cases}
+use Rattle.pauli_theory.specs.Standard.{support_of, standard, rank}
 use Rattle.pauli_theory.proofs.ByProducts.{rank_le}
 use Rattle.pauli_theory.proofs.OverPlaces.{placed, places_standard_on}
 use Rattle.pauli_theory.proofs.Written.{support_of_lem}
@@ -52,14 +50,6 @@ cleared_part work h = front_part work_words 0 work h
 pub cleared_whole : (x work : List ℕ) → length x ≡ work_words → length work ≡ work_words → put_row x 0 work_words 0 ≡ cleared work
 unfolding cleared
 cleared_whole x work a b = front_whole work_words 0 x work a b
-
--- ---- the numbers that are told of a group
-
-module _ (promise : Promise) (gs : List Pauli) where
-  pub step_kinds : (0 < phase_step promise gs) × (phase_step promise gs ≤ 4) × (phase_step promise gs ≡ 3 → ⊥)
-  step_kinds =
-      phases_cases (λ ks s. (0 < s) × (s ≤ 4) × (s ≡ 3 → ⊥))
-      (omega arith, omega arith, λ e. omega arith) (omega arith, omega arith, λ e. omega arith) (omega arith, omega arith, λ e. omega arith) promise gs
 
 -- ---- the list of an accepted roll
 

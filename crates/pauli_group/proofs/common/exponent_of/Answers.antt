@@ -8,7 +8,7 @@ use Rattle.pauli_group.proofs.common.exponent_of.Goals as goal
 pub move_pauli-p-requires : goal.move_pauli-p-requires
 move_pauli-p-requires c =
     let p = c.requires in
-    let m = loaded_movable _ _ c.load.ensures _ _ _ (p.4, p.5) p.6 in
+    let m = loaded_movable _ _ c.load.ensures _ _ _ (p.3, p.4) p.5 in
     (omega (arith, p.1.small, p.2), m.0, m.1, m.2)
 
 pub solve-requires : goal.solve-requires

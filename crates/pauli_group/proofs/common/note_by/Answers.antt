@@ -11,9 +11,8 @@ note_exponents-requires c =
       p.0,
       rw g.count (group_solving _ _ c.args.roll.accepted g.group c.group_of-group.array_long),
       rw c.qubits.ensures.list (places_known g.group),
-      p.1,
-      group_further _ _ c.args.roll.accepted g.group c.group_of-group.array_long g.rest c.args.joint.now _ _ p.2,
-      rw c.qubits.ensures.list (group_movable _ _ c.args.roll.accepted g.group c.group_of-group.array_long g.rest _ _ p.3),
+      group_further _ _ c.args.roll.accepted g.group c.group_of-group.array_long g.rest c.args.joint.now _ _ p.1,
+      rw c.qubits.ensures.list (group_movable _ _ c.args.roll.accepted g.group c.group_of-group.array_long g.rest _ _ p.2),
     )
 
 pub returns : goal.returns

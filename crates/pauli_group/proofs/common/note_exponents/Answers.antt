@@ -9,8 +9,8 @@ pub exponent_of-e-requires : goal.exponent_of-e-requires
 exponent_of-e-requires c =
     let p = c.requires in
     let N = c.loop-i.invariant.1 in
-    let e = noted_element _ c.args.joint.now c.args.own.now _ _ _ p.1 _ _ N _ c.args.m c.loop-i-test.true p.4 _ _ p.5 in
-    (omega (arith, p.0, c.loop-i-test.true), noted_solving _ c.args.joint.now c.args.own.now _ _ _ p.1 _ _ N, p.2, p.3, e.0, e.1, e.2)
+    let e = noted_element _ c.args.joint.now c.args.own.now _ _ _ p.1 _ _ N _ c.args.m c.loop-i-test.true p.3 _ _ p.4 in
+    (omega (arith, p.0, c.loop-i-test.true), noted_solving _ c.args.joint.now c.args.own.now _ _ _ p.1 _ _ N, p.2, e.0, e.1, e.2)
 
 pub loop-i-preserved : goal.loop-i-preserved
 loop-i-preserved c =

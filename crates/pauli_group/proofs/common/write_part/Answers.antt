@@ -13,14 +13,14 @@ pub note_by-first-requires : goal.note_by-first-requires
 note_by-first-requires c =
     let J = joint_is _ _ _ (rw (← c.qubits-joint.ensures.list) at c.join_support-support.ensures) c.args.pair.qubits in
     let B = c.common_basis-m.ensures in
-    (B.few, J.few, part_on _ _ _ J _ _ B.list, part_left _ _ _ J _ _ B.list)
+    (B.few, part_on _ _ _ J _ _ B.list, part_left _ _ _ J _ _ B.list)
 
 pub note_by-second-requires : goal.note_by-second-requires
 note_by-second-requires c =
     let J = joint_is _ _ _ (rw (← c.qubits-joint.ensures.list) at c.join_support-support.ensures) c.args.pair.qubits in
     let B = c.common_basis-m.ensures in
     let N = c.note_by-first.ensures in
-    (B.few, J.few, once_on _ _ _ J _ _ B.list _ N.list, once_right _ _ _ J _ _ B.list _ N.list)
+    (B.few, once_on _ _ _ J _ _ B.list _ N.list, once_right _ _ _ J _ _ B.list _ N.list)
 
 pub keep_shared-kept-requires : goal.keep_shared-kept-requires
 keep_shared-kept-requires c = c.common_basis-m.ensures.few
