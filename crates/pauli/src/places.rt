@@ -2,7 +2,7 @@
 ghost use Rattle.std.specs.Prelude.{◌≡◌, ◌+◌, ◌%◌, ◌^◌, ◌<◌, ◌≤◌, ◌==◌, bit_or};
 ghost use Rattle.std.specs.Iterator.{YieldsFirstBy, item_count};
 ghost use Rattle.binar.specs.Row.{◌⊕◌, bit, dot, weight};
-ghost use Rattle.pauli.specs.PlaceSet.{set_in, first_from};
+ghost use Rattle.pauli.specs.PlaceSet.{set_in};
 ghost use Rattle.pauli.specs.Sets.{members};
 
 use crate::support::Place;
@@ -33,28 +33,6 @@ impl Places {
             return (self.low >> i) % 2 == 1;
         }
         (self.high >> (i - 64)) % 2 == 1
-    }
-
-    // The first place of the set from p on, or 128: past the last place, as a search by index tells that it found none.
-    pub fn first_from(self, p: Place) -> Place
-        requires { p.0 ≤ 128 }
-        ensures { result.0 ≡ first_from (set_in self) p.0 }
-    {
-        let i = p.0;
-        if i < 64 {
-            let rest = self.low >> i;
-            if rest != 0 {
-                return Place(i + (u64::trailing_zeros(rest) as usize));
-            }
-            return Place(64 + (u64::trailing_zeros(self.high) as usize));
-        }
-        if i < 128 {
-            let rest = self.high >> (i - 64);
-            if rest != 0 {
-                return Place(i + (u64::trailing_zeros(rest) as usize));
-            }
-        }
-        Place(128)
     }
 
     // The places of the set, rising.

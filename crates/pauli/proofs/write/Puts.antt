@@ -1,14 +1,11 @@
 -- Laws of bytes put into an output, one after the other.
-use Rattle.std.proofs.Common.{◌≡◌, ℕ, suc, ◌+◌, ◌*◌, ◌/◌, ◌%◌, ◌^◌, ◌<◌, ◌≤◌, List, [], ◌∷◌, ◌++◌, length, get_or, take, drop, set, sym, refl, ap, ◌∙◌, ap₂, append_assoc, add-zero, add_assoc, add-one, arith, length-append, length-drop, length-set, take-append-drop, drop_of_length-le, length-take-le, drop-cons, drop-drop, take-suc-set, take_at, drop-set-lt, shr-shr}
-use native.Mathlib.Decide.{dec_lt}
+use Rattle.std.proofs.Common.{◌≡◌, ℕ, suc, ◌+◌, ◌*◌, ◌%◌, ◌<◌, ◌≤◌, List, [], ◌∷◌, ◌++◌, length, get_or, take, drop, set, sym, refl, ap, ◌∙◌, ap₂, append_assoc, add-zero, add_assoc, add-one, arith, length-append, length-drop, length-set, take-append-drop, length-take-le, drop-drop, take-suc-set, take_at, drop-set-lt}
 use lib.Seq.{take-append-add, drop-append-add}
 use borrow.Rule.Slice.PartMut.{put_mid}
-use Rattle.binar.specs.Row.{bit}
 use Rattle.pauli.specs.Bytes.{le16, le32, le32s}
-use Rattle.pauli.specs.Pauli.{cons_if, select}
+use Rattle.pauli.specs.Pauli.{select}
 use Rattle.pauli.specs.Writing.{put_bytes, entry_bytes}
 use Rattle.pauli.proofs.roll.BytesLaws.{length_le32, length_le32s}
-use Rattle.pauli.proofs.places.Firsts.{First, skip}
 use Rattle.pauli.specs.Sets.{members}
 use Rattle.pauli.proofs.places.Members.{at_indexes, at_hit, at_past, select_members}
 
@@ -84,42 +81,6 @@ pub entry_all : (out : List ℕ) (i e start xcount zcount : ℕ) → i + 10 ≤ 
     → c ≡ put_bytes out i (entry_bytes e start xcount zcount)
 entry_all out i e start xcount zcount h a b c p q r =
     r ∙ ap (λ (o : List ℕ). put_bytes o (i + 8) (le16 zcount)) (q ∙ ap (λ (o : List ℕ). put_bytes o (i + 6) (le16 xcount)) p) ∙ entry_puts out i e start xcount zcount h
-
--- ---- the numbers of a set of places, place by place
-
--- the qubits at the places from p on that are in the set s
-unfoldable pub chosen_from : ℕ → List ℕ → ℕ → List ℕ
-chosen_from s qs p = select (s / 2 ^ p) (drop p qs)
-
-module _ (s : ℕ) (qs : List ℕ) where
-  pub chosen_start : chosen_from s qs 0 ≡ select s qs
-  unfolding chosen_from
-  chosen_start = let e : s / 2 ^ 0 ≡ s = omega arith in ap (λ (k : ℕ). select k qs) e
-
-  module _ (p : ℕ) where
-    pub chosen_end : length qs ≤ p → chosen_from s qs p ≡ []
-    unfolding chosen_from select
-    chosen_end h = rw (drop_of_length-le qs h)
-
-    module _ (h : p < length qs) where
-      next : chosen_from s qs p ≡ cons_if (bit s p) (get_or qs p 0) (chosen_from s qs (p + 1))
-      unfolding chosen_from select bit
-      next = rw (drop-cons qs p 0 h, shr-shr s p 1, add-one p)
-
-      pub chosen_hit : bit s p ≡ 1 → chosen_from s qs p ≡ get_or qs p 0 ∷ chosen_from s qs (p + 1)
-      unfolding cons_if
-      chosen_hit o = next ∙ ap (λ (d : ℕ). cons_if d (get_or qs p 0) (chosen_from s qs (p + 1))) o
-
-  pub chosen_miss : (p : ℕ) → bit s p ≡ 0 → chosen_from s qs p ≡ chosen_from s qs (p + 1)
-  unfolding cons_if
-  chosen_miss p z =
-      elim (dec_lt p (length qs)) [
-        | yes h ↦ next p h ∙ ap (λ (d : ℕ). cons_if d (get_or qs p 0) (chosen_from s qs (p + 1))) z
-        | no n ↦ chosen_end p (omega arith) ∙ sym (chosen_end (p + 1) (omega arith))
-      ]
-
-  pub chosen_skip : {n p k : ℕ} → First n s p k → chosen_from s qs p ≡ chosen_from s qs k
-  chosen_skip f = skip (chosen_from s qs) f chosen_miss
 
 -- ---- writing piece by piece
 
