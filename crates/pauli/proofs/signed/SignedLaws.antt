@@ -41,6 +41,10 @@ five l i a b c d e =
     let four : i + 4 ≡ suc (suc (suc (suc i))) = omega arith in
     rw (add-one i, two, three, four)
 
+pub zero_bit : (b : ℕ) → b < 2 → (b ≡ 1 → ⊥) → b ≡ 0
+zero_bit zero h n = refl
+zero_bit (suc b) h n = absurd (n (omega arith))
+
 -- ---- lists of Paulis
 
 pub length_paulis : (ls : List (List ℕ)) → length (paulis_in ls) ≡ length ls
