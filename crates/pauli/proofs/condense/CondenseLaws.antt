@@ -112,13 +112,6 @@ placing_end {qs} {set} p = sym (ap (bit_or set) (condense_zero qs 0 0 p.support 
 
 -- ---- the same for numbers in bytes, by a counter k
 
-pub bytes_start : (b : List ℕ) (at total : ℕ) (qs : List ℕ) (set : ℕ) → set ≡ 0 → Covered (numbers_at b at total) qs
-    → Placing (numbers_at b (at + 4 * 0) (total - 0)) qs (condense qs (set_of (numbers_at b at total))) set 0
-bytes_start b at total qs set z c =
-    let here : at + 4 * 0 ≡ at = omega arith in
-    let all : total - 0 ≡ total = omega arith in
-    rw (here, all) (placing_start (numbers_at b at total) qs set z c)
-
 module _ (b : List ℕ) (at total : ℕ) (qs : List ℕ) (whole set from k : ℕ) (p : Placing (numbers_at b (at + 4 * k) (total - k)) qs whole set from) where
   pub bytes_end : total ≤ k → set ≡ whole
   bytes_end h = placing_end (subst (λ (ns : List ℕ). Placing ns qs whole set from) (numbers_end b at total k h) p)
