@@ -1,5 +1,5 @@
 -- Laws for the call: what the checks tell, and the contract from what is then written.
-use Rattle.std.proofs.Common.{◌≡◌, refl, sym, ap, ◌∙◌, subst, List, ◌++◌, map, ℕ, ◌≤◌, ◌<◌, ltb, length, take, drop, Err, Ok, Result}
+use Rattle.std.proofs.Common.{◌≡◌, refl, sym, ap, ◌∙◌, subst, List, ◌++◌, map, ℕ, ◌≤◌, ltb, length, take, drop, Err, Ok, Result}
 use mathlib.Core.Option.{Option}
 use lib.ListN.{length-map}
 use Rattle.pauli.specs.declared.refusal.Refusal.{Refusal}

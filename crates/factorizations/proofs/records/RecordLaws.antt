@@ -1,5 +1,5 @@
 -- Laws of the records of results.
-use Rattle.std.proofs.Common.{◌≡◌, refl, sym, ap, ◌∙◌, List, [], ◌∷◌, ◌++◌, ℕ, ◌+◌, ◌*◌, ◌^◌, ◌≤◌, ◌<◌, arith, length, set}
+use Rattle.std.proofs.Common.{◌≡◌, refl, sym, ap, ◌∙◌, List, [], ◌∷◌, ◌++◌, ℕ, ◌+◌, ◌*◌, ◌≤◌, arith, length, set}
 use mathlib.Core.Option.{Option, some, none}
 use Rattle.binar.specs.Row.{weight}
 use Rattle.pauli.specs.Bytes.{le16}

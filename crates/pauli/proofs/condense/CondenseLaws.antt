@@ -3,7 +3,7 @@ use Rattle.std.proofs.Common.{◌≡◌, ℕ, suc, ◌+◌, ◌-◌, ◌*◌, �
 use mathlib.Core.List.Memᴰ.{head as here}
 use mathlib.Core.List.Memᴰ.{tail as there}
 use mathlib.Core.List.{Memᴰ as Mem}
-use lib.Bits.{bit_or, or_block, or_zero_l, or_zero_r}
+use lib.Bits.{bit_or, or_block, or_zero_r}
 use lib.Pow.{pow-lt}
 use Rattle.binar.specs.Row.{bit}
 use Rattle.binar.proofs.row.Bits.{bit_of_zero, ext}
@@ -14,7 +14,6 @@ use Rattle.pauli.specs.Support.{All, Rising}
 use Rattle.pauli.specs.Known.{lower}
 use Rattle.pauli.specs.Sets.{set_of, condense}
 use Rattle.pauli.specs.PlaceSet.{set_in}
-use Rattle.pauli.specs.Condense.{Covered}
 use Rattle.pauli.proofs.places.Halves.{Words}
 use Rattle.pauli.proofs.condense.MoreBits.{bit_or_lem, bit_unit, bit_unit_other}
 use Rattle.pauli.proofs.condense.Places.{condense_or}
@@ -75,16 +74,6 @@ pub record Placing (ns qs : List ℕ) (whole set from : ℕ) : Type 0 where
   pub walk : (s : ℕ) → least ≤ s → from ≤ lower s qs
   pub value : bit_or set (condense qs (set_of ns)) ≡ whole
 
-pub placing_start : (ns qs : List ℕ) (set : ℕ) → set ≡ 0 → Covered ns qs → Placing ns qs (condense qs (set_of ns)) set 0
-placing_start ns qs set z c = record {
-  least = 0;
-  rise = c.rise;
-  support = c.support;
-  covers = c.in_support;
-  walk = λ s l. omega arith;
-  value = ap (λ (a : ℕ). bit_or a (condense qs (set_of ns))) z ∙ or_zero_l (condense qs (set_of ns));
-}
-
 module _ {ns qs : List ℕ} {whole set from q : ℕ} (p : Placing (q ∷ ns) qs whole set from) where
   pub placing_from : from ≤ lower q qs
   placing_from = p.walk q p.rise.0
@@ -111,13 +100,6 @@ unfolding set_of
 placing_end {qs} {set} p = sym (ap (bit_or set) (condense_zero qs 0 0 p.support (λ q l. bit_of_zero q)) ∙ or_zero_r set) ∙ p.value
 
 -- ---- the same for numbers in bytes, by a counter k
-
-pub bytes_start : (b : List ℕ) (at total : ℕ) (qs : List ℕ) (set : ℕ) → set ≡ 0 → Covered (numbers_at b at total) qs
-    → Placing (numbers_at b (at + 4 * 0) (total - 0)) qs (condense qs (set_of (numbers_at b at total))) set 0
-bytes_start b at total qs set z c =
-    let here : at + 4 * 0 ≡ at = omega arith in
-    let all : total - 0 ≡ total = omega arith in
-    rw (here, all) (placing_start (numbers_at b at total) qs set z c)
 
 module _ (b : List ℕ) (at total : ℕ) (qs : List ℕ) (whole set from k : ℕ) (p : Placing (numbers_at b (at + 4 * k) (total - k)) qs whole set from) where
   pub bytes_end : total ≤ k → set ≡ whole

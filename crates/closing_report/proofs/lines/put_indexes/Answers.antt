@@ -1,13 +1,6 @@
-use Rattle.std.proofs.Common.{◌∙◌, refl, arith}
-use Rattle.pauli.proofs.write.Puts.{left_start}
 use Rattle.closing_report.specs.Decimal.{ascii}
 use Rattle.closing_report.proofs.lines.IndexLaws.{put_end, put_fits, put_next}
 use Rattle.closing_report.proofs.lines.put_indexes.Goals as goal
-
-pub loop-p-init : goal.loop-p-init
-loop-p-init c =
-    let all = c.into_iter-p-iterator.ensures.into_iter_gives ∙ c.iter-p-items.ensures in
-    (tt, tt, rw all (left_start _ _ _ _ refl c.requires))
 
 pub put_labelled-next-requires : goal.put_labelled-next-requires
 unfolding ascii

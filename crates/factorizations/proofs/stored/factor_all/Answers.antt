@@ -17,10 +17,6 @@ unfolding most_paulis
 overflow_add-k c =
     omega (arith, accepted_few _ _ c.args.roll.accepted, c.loop-k-test.true)
 
-pub factor-factoring-requires : goal.factor-factoring-requires
-unfolding asked_now
-factor-factoring-requires c = (omega (arith, c.loop-k-test.true), asked_now c.requires _ (c.loop-k.invariant.1 c.requires))
-
 pub store_result-requires : goal.store_result-requires
 unfolding most_paulis asked_now
 store_result-requires c =

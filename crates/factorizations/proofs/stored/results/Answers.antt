@@ -1,11 +1,7 @@
 -- The Paulis that the words would be.
-use Rattle.std.proofs.Common.{◌∙◌}
 use Rattle.pauli_group.proofs.area.AreaLaws.{span_list}
 use Rattle.factorizations.proofs.stored.StoredLaws.{results_stored}
 use Rattle.factorizations.proofs.stored.results.Goals as goal
 
 pub returns-clause-list : goal.returns-clause-list
 returns-clause-list c = results_stored _ _ _ _ (span_list _ c.paulis.ensures.list c.at.ensures)
-
-pub returns-clause-count : goal.returns-clause-count
-returns-clause-count c = c.paulis.ensures.count ∙ c.at.ensures.1

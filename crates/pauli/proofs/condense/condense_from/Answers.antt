@@ -22,9 +22,6 @@ overflow_add-at-2 c = omega (arith, body_room c.args.roll.bytes.now (list_of c.a
 pub places_of-x-requires : goal.places_of-x-requires
 places_of-x-requires c = (omega (arith, body_room c.args.roll.bytes.now (list_of c.args.roll.bytes.now) c.requires.0.accepted c.args.roll.count c.requires.0.count c.args.i c.requires.0.number c.entry-e.result c.entry-e.ensures.0), c.requires.1, rw (xs_is c.args.roll.bytes.now (list_of c.args.roll.bytes.now) c.requires.0.accepted c.args.roll.count c.requires.0.count c.args.i c.requires.0.number c.entry-e.result c.entry-e.ensures.0 nothing) at c.requires.0.x)
 
-pub overflow_mul-e : goal.overflow_mul-e
-overflow_mul-e c = omega (arith, body_room c.args.roll.bytes.now (list_of c.args.roll.bytes.now) c.requires.0.accepted c.args.roll.count c.requires.0.count c.args.i c.requires.0.number c.entry-e.result c.entry-e.ensures.0)
-
 pub overflow_add-at-3 : goal.overflow_add-at-3
 overflow_add-at-3 c = omega (arith, body_room c.args.roll.bytes.now (list_of c.args.roll.bytes.now) c.requires.0.accepted c.args.roll.count c.requires.0.count c.args.i c.requires.0.number c.entry-e.result c.entry-e.ensures.0)
 

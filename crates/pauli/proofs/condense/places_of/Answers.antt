@@ -1,21 +1,9 @@
 use Rattle.std.proofs.Common.{arith}
-use Rattle.pauli.proofs.condense.CondenseLaws.{bytes_start, bytes_end, bytes_from, bytes_in, bytes_next}
+use Rattle.pauli.proofs.condense.CondenseLaws.{bytes_end, bytes_from, bytes_in, bytes_next}
 use Rattle.pauli.specs.Bytes.{numbers_at}
 use Rattle.pauli.specs.Sets.{set_of, condense}
 use Rattle.pauli.specs.PlaceSet.{set_in}
 use Rattle.pauli.proofs.condense.places_of.Goals as goal
-
-pub loop-k-init : goal.loop-k-init
-loop-k-init c = (omega arith, bytes_start c.args.b.now c.args.at c.args.total c.args.support.now _ c.none-set.ensures c.requires.2)
-
-pub overflow_mul-k : goal.overflow_mul-k
-overflow_mul-k c = omega arith
-
-pub overflow_add-at : goal.overflow_add-at
-overflow_add-at c = omega arith
-
-pub u32_at-requires : goal.u32_at-requires
-u32_at-requires c = omega arith
 
 pub place_from-place-requires : goal.place_from-place-requires
 place_from-place-requires c = (bytes_from c.args.b.now c.args.at c.args.total c.args.support.now (condense c.args.support.now (set_of (numbers_at c.args.b.now c.args.at c.args.total))) (set_in c.loop-k.set) c.loop-k.from.0 c.loop-k.k c.loop-k.invariant.1 c.loop-k-test.true c.u32_at.result c.u32_at.ensures, c.loop-k.invariant.1.support)

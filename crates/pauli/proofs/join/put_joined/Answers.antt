@@ -39,10 +39,6 @@ copy_entries-requires-2 c = (omega (arith, joined_size c.args.left.bytes.now c.a
 pub copy_bodies-requires : goal.copy_bodies-requires
 copy_bodies-requires c = omega (arith, joined_size c.args.left.bytes.now c.args.right.bytes.now c.args.left.count c.args.right.count c.args.left.accepted c.args.right.accepted c.numbers-kl.result c.numbers-kl.ensures.0 (length (numbers (list_of c.args.right.bytes.now))) refl, c.requires, c.numbers-kl.ensures.0, c.copy_entries-2.auto.out, c.copy_entries.auto.out, c.put_u16.auto.out)
 
-pub overflow_mul-kl : goal.overflow_mul-kl
-unfolding most_paulis
-overflow_mul-kl c = omega (arith, accepted_few c.args.left.bytes.now c.args.left.count c.args.left.accepted, accepted_few c.args.right.bytes.now c.args.right.count c.args.right.accepted, accepted_bound c.args.left.bytes.now c.args.left.count c.args.left.accepted c.args.left.low, c.numbers-kl.ensures.0)
-
 pub overflow_add-end-2 : goal.overflow_add-end-2
 unfolding most_paulis
 overflow_add-end-2 c = omega (arith, accepted_few c.args.left.bytes.now c.args.left.count c.args.left.accepted, accepted_few c.args.right.bytes.now c.args.right.count c.args.right.accepted, accepted_bound c.args.left.bytes.now c.args.left.count c.args.left.accepted c.args.left.low, c.numbers-kl.ensures.0)

@@ -16,14 +16,6 @@ pub overflow_add-result-2 : goal.overflow_add-result-2
 unfolding most_paulis
 overflow_add-result-2 c = omega (arith, accepted_few _ _ c.args.left.accepted, accepted_few _ _ c.args.right.accepted)
 
-pub overflow_add-result-3 : goal.overflow_add-result-3
-unfolding most_paulis
-overflow_add-result-3 c = omega (arith, accepted_few _ _ c.args.left.accepted, accepted_few _ _ c.args.right.accepted, accepted_bound _ _ c.args.left.accepted c.args.left.low, accepted_bound _ _ c.args.right.accepted c.args.right.low, c.numbers.ensures.0, c.numbers-2.ensures.0)
-
-pub overflow_mul-result-2 : goal.overflow_mul-result-2
-unfolding most_paulis
-overflow_mul-result-2 c = omega (arith, accepted_few _ _ c.args.left.accepted, accepted_few _ _ c.args.right.accepted, accepted_bound _ _ c.args.left.accepted c.args.left.low, accepted_bound _ _ c.args.right.accepted c.args.right.low, c.numbers.ensures.0, c.numbers-2.ensures.0)
-
 pub overflow_add-result-4 : goal.overflow_add-result-4
 unfolding most_paulis
 overflow_add-result-4 c = omega (arith, accepted_few _ _ c.args.left.accepted, accepted_few _ _ c.args.right.accepted, accepted_bound _ _ c.args.left.accepted c.args.left.low, accepted_bound _ _ c.args.right.accepted c.args.right.low, c.numbers.ensures.0, c.numbers-2.ensures.0)

@@ -6,10 +6,6 @@ use Rattle.pauli.proofs.roll.check_entries.Goals as goal
 pub loop-i-init : goal.loop-i-init
 loop-i-init c = (omega arith, omega arith, ap (check_entries 0 0) (entries_start _ _))
 
-pub entry_at-e-requires : goal.entry_at-e-requires
-unfolding most_paulis
-entry_at-e-requires c = omega arith
-
 pub returns-then-e-gt1 : goal.returns-then-e-gt1
 returns-then-e-gt1 c = sym (c.loop-i.invariant.2 ∙ entry_wrong _ _ _ c.loop-i-test.true _ c.entry_at-e.ensures.0 _ c.if-e-gt1.true)
 

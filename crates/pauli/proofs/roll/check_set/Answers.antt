@@ -1,19 +1,7 @@
 use Rattle.std.proofs.Common.{sym, ◌∙◌, arith}
-use Rattle.pauli.proofs.roll.ReaderLaws.{set_start, set_high, set_falls, set_rises, set_end}
+use Rattle.pauli.proofs.roll.ReaderLaws.{set_high, set_falls, set_rises, set_end}
 use Rattle.pauli.specs.Roll.{highest_qubit}
 use Rattle.pauli.proofs.roll.check_set.Goals as goal
-
-pub loop-k-init : goal.loop-k-init
-loop-k-init c = (omega arith, set_start _ _ _ _)
-
-pub overflow_mul-k : goal.overflow_mul-k
-overflow_mul-k c = omega arith
-
-pub overflow_add-at : goal.overflow_add-at
-overflow_add-at c = omega arith
-
-pub u32_at-number-requires : goal.u32_at-number-requires
-u32_at-number-requires c = omega arith
 
 pub returns-then-number-gt-HIGHEST_QUBIT : goal.returns-then-number-gt-HIGHEST_QUBIT
 unfolding highest_qubit
@@ -22,9 +10,6 @@ returns-then-number-gt-HIGHEST_QUBIT c = sym (c.loop-k.invariant.1 ∙ set_high 
 pub returns-then-number-least : goal.returns-then-number-least
 unfolding highest_qubit
 returns-then-number-least c = sym (c.loop-k.invariant.1 ∙ set_falls _ _ _ _ _ c.loop-k-test.true _ _ c.u32_at-number.ensures c.if-number-gt-HIGHEST_QUBIT.false c.if-number-least.true)
-
-pub overflow_add-least : goal.overflow_add-least
-overflow_add-least c = omega arith
 
 pub loop-k-preserved : goal.loop-k-preserved
 unfolding highest_qubit

@@ -4,17 +4,8 @@ use Rattle.pauli.specs.Refusals.{told_of}
 use Rattle.pauli.proofs.refusal.HandedOn.{handed_on}
 use Rattle.pauli.proofs.roll.check_sets.Goals as goal
 
-pub overflow_mul-at : goal.overflow_mul-at
-overflow_mul-at c = omega (arith, c.requires)
-
-pub overflow_add-at : goal.overflow_add-at
-overflow_add-at c = omega (arith, c.requires)
-
 pub loop-i-init : goal.loop-i-init
 loop-i-init c = (filled_start _ _ c.requires, sets_start _ _)
-
-pub entry_at-e-requires : goal.entry_at-e-requires
-entry_at-e-requires c = omega (arith, c.loop-i.invariant.0.table, c.loop-i.invariant.0.bodies)
 
 pub check_set-requires : goal.check_set-requires
 check_set-requires c = omega (arith, c.requires, c.loop-i.invariant.0.table, c.loop-i.invariant.0.bodies, bodies_next c.args.b.now c.args.n c.loop-i.at c.loop-i.i c.loop-i-test.true c.entry_at-e.result c.entry_at-e.ensures.0)
@@ -22,26 +13,11 @@ check_set-requires c = omega (arith, c.requires, c.loop-i.invariant.0.table, c.l
 pub returns-in_err-check_set : goal.returns-in_err-check_set
 returns-in_err-check_set c = ap told_of (handed_on _ _ c.from_residual.ensures.1) ∙ sym (c.loop-i.invariant.1 ∙ sets_x _ _ _ _ c.loop-i-test.true _ c.entry_at-e.ensures.0 _ _ (sym c.in_err-check_set.ensures))
 
-pub overflow_mul-e : goal.overflow_mul-e
-overflow_mul-e c = omega (arith, c.requires, c.loop-i.invariant.0.table, c.loop-i.invariant.0.bodies, bodies_next c.args.b.now c.args.n c.loop-i.at c.loop-i.i c.loop-i-test.true c.entry_at-e.result c.entry_at-e.ensures.0)
-
-pub overflow_add-at-in-loop-i : goal.overflow_add-at-in-loop-i
-overflow_add-at-in-loop-i c = omega (arith, c.requires, c.loop-i.invariant.0.table, c.loop-i.invariant.0.bodies, bodies_next c.args.b.now c.args.n c.loop-i.at c.loop-i.i c.loop-i-test.true c.entry_at-e.result c.entry_at-e.ensures.0)
-
 pub check_set-requires-in-loop-i : goal.check_set-requires-in-loop-i
 check_set-requires-in-loop-i c = omega (arith, c.requires, c.loop-i.invariant.0.table, c.loop-i.invariant.0.bodies, bodies_next c.args.b.now c.args.n c.loop-i.at c.loop-i.i c.loop-i-test.true c.entry_at-e.result c.entry_at-e.ensures.0)
 
 pub returns-in_err-check_set-2 : goal.returns-in_err-check_set-2
 returns-in_err-check_set-2 c = ap told_of (handed_on _ _ c.from_residual-in_err-check_set-2.ensures.1) ∙ sym (c.loop-i.invariant.1 ∙ sets_z _ _ _ _ c.loop-i-test.true _ c.entry_at-e.ensures.0 _ (sym c.in_ok-check_set.ensures) _ _ (sym c.in_err-check_set-2.ensures))
-
-pub overflow_add-at-in-loop-i-2 : goal.overflow_add-at-in-loop-i-2
-overflow_add-at-in-loop-i-2 c = omega (arith, c.requires, c.loop-i.invariant.0.table, c.loop-i.invariant.0.bodies, bodies_next c.args.b.now c.args.n c.loop-i.at c.loop-i.i c.loop-i-test.true c.entry_at-e.result c.entry_at-e.ensures.0)
-
-pub overflow_mul-at-in-loop-i : goal.overflow_mul-at-in-loop-i
-overflow_mul-at-in-loop-i c = omega (arith, c.requires, c.loop-i.invariant.0.table, c.loop-i.invariant.0.bodies, bodies_next c.args.b.now c.args.n c.loop-i.at c.loop-i.i c.loop-i-test.true c.entry_at-e.result c.entry_at-e.ensures.0)
-
-pub overflow_add-at-in-loop-i-3 : goal.overflow_add-at-in-loop-i-3
-overflow_add-at-in-loop-i-3 c = omega (arith, c.requires, c.loop-i.invariant.0.table, c.loop-i.invariant.0.bodies, bodies_next c.args.b.now c.args.n c.loop-i.at c.loop-i.i c.loop-i-test.true c.entry_at-e.result c.entry_at-e.ensures.0)
 
 pub loop-i-preserved : goal.loop-i-preserved
 loop-i-preserved c = (filled_next _ _ _ _ c.loop-i-test.true _ c.entry_at-e.ensures.0 c.loop-i.invariant.0, c.loop-i.invariant.1 ∙ sets_next _ _ _ _ c.loop-i-test.true _ c.entry_at-e.ensures.0 _ (sym c.in_ok-check_set.ensures) _ (sym c.in_ok-check_set-2.ensures))

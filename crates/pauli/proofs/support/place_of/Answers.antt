@@ -2,9 +2,6 @@ use Rattle.std.proofs.Common.{arith}
 use Rattle.pauli.proofs.support.Walk.{place_le, place_hit, place_miss}
 use Rattle.pauli.proofs.support.place_of.Goals as goal
 
-pub loop-i-init : goal.loop-i-init
-loop-i-init c = omega arith
-
 pub returns-then-support-i : goal.returns-then-support-i
 returns-then-support-i c = omega (arith, place_hit c.args.support.now c.args.q.0 c.loop-i.i c.loop-i-test.true c.if-support-i.true)
 

@@ -5,12 +5,6 @@ use Rattle.pauli.proofs.write.numbers_in.Goals as goal
 pub loop-words-init : goal.loop-words-init
 loop-words-init c = (omega arith, omega arith, numbers_start _)
 
-pub overflow_add-total : goal.overflow_add-total
-overflow_add-total c = omega (arith, c.weight.ensures.1, c.weight-in-loop-words.ensures.1)
-
-pub overflow_add-total-in-loop-words : goal.overflow_add-total-in-loop-words
-overflow_add-total-in-loop-words c = omega (arith, c.weight.ensures.1, c.weight-in-loop-words.ensures.1)
-
 pub loop-words-preserved : goal.loop-words-preserved
 loop-words-preserved c = (omega arith, omega (arith, c.weight.ensures.1, c.weight-in-loop-words.ensures.1), c.loop-words.invariant.2 ∙ numbers_step c.args.list.now c.loop-words.words-index c.loop-words-test.true c.from_words-p.result (loaded c.from_words-p.result _ c.from_words-p.ensures) c.weight.result c.weight-in-loop-words.result c.loop-words.total c.weight.ensures.0 c.weight-in-loop-words.ensures.0)
 

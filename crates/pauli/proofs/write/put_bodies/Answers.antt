@@ -17,9 +17,6 @@ put_set-next-requires c = (c.requires.0, rw c.put_set-middle.ensures.next (body_
 pub loop-words-preserved : goal.loop-words-preserved
 loop-words-preserved c = (omega arith, body_step c.args.list.now c.args.support.now c.loop-words.words-index c.loop-words-test.true c.from_words-p.result (loaded c.from_words-p.result _ c.from_words-p.ensures) c.loop-words.invariant.1 _ c.put_set-middle.ensures.left c.put_set-middle.auto.out _ c.put_set-middle.ensures.next _ c.put_set-next.ensures.left c.put_set-next.auto.out _ c.put_set-next.ensures.next)
 
-pub shape_of-out : goal.shape_of-out
-shape_of-out c = c.loop-words.invariant.1.size
-
 pub returns : goal.returns
 unfolding body_bytes
 returns c = (left_done c.loop-words.invariant.1 (body_end c.args.list.now c.args.support.now c.loop-words.words-index (omega arith))).0

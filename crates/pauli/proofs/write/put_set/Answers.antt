@@ -1,4 +1,4 @@
-use Rattle.std.proofs.Common.{ℕ, ap, ◌∙◌, arith}
+use Rattle.std.proofs.Common.{ℕ, ap, ◌∙◌}
 use Rattle.pauli.specs.Bytes.{le32}
 use Rattle.pauli.specs.Writing.{put_bytes}
 use Rattle.pauli.proofs.write.Puts.{set_start, set_done, set_past, set_room, set_hit}
@@ -13,9 +13,6 @@ loop-p-init c =
 pub put_u32-requires : goal.put_u32-requires
 put_u32-requires c = set_room _ _ _ c.loop-p.invariant.2 _ _ c.in-Some.ensures.steps c.if-p-support.true
 
-pub overflow_add-next : goal.overflow_add-next
-overflow_add-next c = omega (arith, set_room _ _ _ c.loop-p.invariant.2 _ _ c.in-Some.ensures.steps c.if-p-support.true)
-
 pub loop-p-preserved-then-p-support : goal.loop-p-preserved-then-p-support
 loop-p-preserved-then-p-support c =
     let number = ap (λ (n : ℕ). put_bytes c.loop-p.out c.loop-p.next (le32 n)) c.qubit_at.ensures in
@@ -23,9 +20,6 @@ loop-p-preserved-then-p-support c =
 
 pub loop-p-preserved : goal.loop-p-preserved
 loop-p-preserved c = (tt, tt, set_past _ _ _ c.loop-p.invariant.2 _ _ c.in-Some.ensures.steps c.if-p-support.false)
-
-pub shape_of-out : goal.shape_of-out
-shape_of-out c = c.loop-p.invariant.2.size
 
 pub returns : goal.returns
 returns c = let all = set_done _ _ _ c.loop-p.invariant.2 c.in-None.ensures.steps.0 in record { left = all.0; next = all.1 }

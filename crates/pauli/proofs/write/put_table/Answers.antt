@@ -1,35 +1,14 @@
 use Rattle.std.proofs.Common.{ap, arith}
 use Rattle.pauli.proofs.write.Puts.{left_start, left_done}
-use Rattle.pauli.proofs.write.Writers.{loaded, paulis_start, paulis_end, table_room, table_step, table_length}
+use Rattle.pauli.proofs.write.Writers.{loaded, paulis_start, paulis_end, table_step, table_length}
 use Rattle.pauli.specs.Writing.{table_of}
 use Rattle.pauli.proofs.write.put_table.Goals as goal
 
 pub loop-i-init : goal.loop-i-init
 loop-i-init c = (omega arith, omega arith, left_start _ _ _ _ (ap (table_of 0) (paulis_start c.args.list.now)) (rw (table_length c.args.list.now) c.requires.1))
 
-pub overflow_mul-i : goal.overflow_mul-i
-overflow_mul-i c = omega arith
-
-pub overflow_add-i : goal.overflow_add-i
-overflow_add-i c = omega arith
-
-pub overflow_cast-before : goal.overflow_cast-before
-overflow_cast-before c = omega arith
-
-pub put_entry-requires : goal.put_entry-requires
-put_entry-requires c = (table_room c.args.list.now c.loop-i.i c.loop-i.before c.loop-i-test.true c.from_words-p.result (loaded c.from_words-p.result _ c.from_words-p.ensures) c.weight-xcount.result c.weight-zcount.result c.weight-xcount.ensures.0 c.weight-zcount.ensures.0 c.loop-i.invariant.2, omega (arith, c.weight-xcount.ensures.1), omega (arith, c.weight-zcount.ensures.1))
-
-pub overflow_add-before : goal.overflow_add-before
-overflow_add-before c = omega (arith, c.weight-xcount.ensures.1, c.weight-zcount.ensures.1)
-
-pub overflow_add-before-in-loop-i : goal.overflow_add-before-in-loop-i
-overflow_add-before-in-loop-i c = omega (arith, c.weight-xcount.ensures.1, c.weight-zcount.ensures.1)
-
 pub loop-i-preserved : goal.loop-i-preserved
 loop-i-preserved c = (omega arith, omega (arith, c.weight-xcount.ensures.1, c.weight-zcount.ensures.1), table_step c.args.list.now c.loop-i.i c.loop-i.before c.loop-i-test.true c.from_words-p.result (loaded c.from_words-p.result _ c.from_words-p.ensures) c.weight-xcount.result c.weight-zcount.result c.weight-xcount.ensures.0 c.weight-zcount.ensures.0 c.loop-i.invariant.2 _ c.put_entry.ensures c.put_entry.auto.out)
-
-pub shape_of-out : goal.shape_of-out
-shape_of-out c = c.loop-i.invariant.2.size
 
 pub returns : goal.returns
 unfolding table_of

@@ -4,14 +4,5 @@ use Rattle.pauli.proofs.places.Halves.{weight_halves}
 use lib.Count.{ones-le}
 use Rattle.pauli.proofs.places.Places.weight.Goals as goal
 
-pub overflow_cast-result : goal.overflow_cast-result
-overflow_cast-result c = omega (arith, ones-le 64 c.args.self.low (omega arith))
-
-pub overflow_cast-result-2 : goal.overflow_cast-result-2
-overflow_cast-result-2 c = omega (arith, ones-le 64 c.args.self.high (omega arith))
-
-pub overflow_add-result : goal.overflow_add-result
-overflow_add-result c = omega (arith, ones-le 64 c.args.self.low (omega arith), ones-le 64 c.args.self.high (omega arith))
-
 pub returns : goal.returns
 returns c = (sym (weight_halves c.args.self (record { low = omega arith; high = omega arith })), omega (arith, ones-le 64 c.args.self.low (omega arith), ones-le 64 c.args.self.high (omega arith)))

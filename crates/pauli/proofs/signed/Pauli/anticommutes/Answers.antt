@@ -1,11 +1,8 @@
 -- By the two overlaps.
-use Rattle.std.proofs.Common.{ℕ, ◌+◌, ◌%◌, eqb, ap₂, arith}
+use Rattle.std.proofs.Common.{ℕ, ◌+◌, ◌%◌, eqb, ap₂}
 use Rattle.pauli.specs.Pauli.{anticommute}
 use Rattle.pauli.specs.Signed.{held}
 use Rattle.pauli.proofs.signed.Pauli.anticommutes.Goals as goal
-
-pub overflow_add-result : goal.overflow_add-result
-overflow_add-result c = omega (arith, c.dot.ensures.1, c.dot-2.ensures.1)
 
 pub returns : goal.returns
 unfolding held anticommute

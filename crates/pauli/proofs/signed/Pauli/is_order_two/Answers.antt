@@ -1,11 +1,8 @@
 -- By the exponent and the overlap.
-use Rattle.std.proofs.Common.{ℕ, ◌+◌, ◌%◌, eqb, ap, arith}
+use Rattle.std.proofs.Common.{ℕ, ◌+◌, ◌%◌, eqb, ap}
 use Rattle.pauli.specs.Pauli.{order_four}
 use Rattle.pauli.specs.Signed.{held}
 use Rattle.pauli.proofs.signed.Pauli.is_order_two.Goals as goal
-
-pub overflow_add-result : goal.overflow_add-result
-overflow_add-result c = omega (arith, c.dot.ensures.1)
 
 pub returns : goal.returns
 unfolding held order_four

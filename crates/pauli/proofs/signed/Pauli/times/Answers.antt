@@ -1,16 +1,10 @@
 -- The exponents wrap at 256, a multiple of 4; the rest is by the two sets.
-use Rattle.std.proofs.Common.{refl, arith}
+use Rattle.std.proofs.Common.{refl}
 use Rattle.pauli.proofs.signed.Algebra.{pauli_path}
 use Rattle.pauli.proofs.signed.SignedLaws.{wrap_value}
 use Rattle.pauli.specs.Pauli.{normal, times}
 use Rattle.pauli.specs.Signed.{held}
 use Rattle.pauli.proofs.signed.Pauli.times.Goals as goal
-
-pub overflow_mul-sign : goal.overflow_mul-sign
-overflow_mul-sign c = omega (arith, c.dot-crossed.ensures.1)
-
-pub overflow_cast-sign : goal.overflow_cast-sign
-overflow_cast-sign c = omega (arith, c.dot-crossed.ensures.1)
 
 pub returns : goal.returns
 unfolding held normal times

@@ -1,6 +1,6 @@
 use Rattle.std.proofs.Common.{sym, ◌∙◌, arith, length-take-le}
 use borrow.Author.Tests.{ltb-true, ltb-false}
-use Rattle.pauli.proofs.support.Walk.{walk_from, walking_start, walking_next, walking_full, walking_end}
+use Rattle.pauli.proofs.support.Walk.{walking_start, walking_next, walking_full, walking_end}
 use Rattle.pauli.specs.Support.{most_qubits}
 use Rattle.pauli.proofs.support.Support.gather.Goals as goal
 
@@ -12,9 +12,6 @@ loop-i-init c =
 
 pub returns-then-is_past_limit : goal.returns-then-is_past_limit
 returns-then-is_past_limit c = walking_full _ _ _ _ _ _ _ _ c.loop-i.invariant (ltb-true _ _ (sym c.is_past_limit.ensures ∙ c.if-is_past_limit.true))
-
-pub note-from-requires : goal.note-from-requires
-note-from-requires c = (ltb-false _ _ (sym c.is_past_limit.ensures ∙ c.if-is_past_limit.false), rw c.walk_start.ensures (walk_from _ _ _ c.loop-i.invariant.walk _))
 
 pub loop-i-preserved : goal.loop-i-preserved
 loop-i-preserved c =
