@@ -19,10 +19,10 @@ loop-i-preserved c =
     (c.load-p.ensures ∙ ap normal (pauli_kept_after loop.invariant.rest _ (omega (arith, c.requires)) ∙ sym (list_at_lem w from n loop.i I c.loop-i-test.true)))
     _ c.store.ensures
 
-pub returns : goal.returns
-returns c =
+pub returns-clause-list : goal.returns-clause-list
+returns-clause-list c =
     let loop = c.loop-i in
     let w = c.args.w.now in
     let from = c.args.from.base in
     let n = c.args.from.count in
-    record { list = stored_all normal (list_in w from n) _ n w loop.i loop.w loop.invariant (length_list w from n) loop.auto.i-end c.loop-i-test.false; rest = loop.invariant.rest }
+    stored_all normal (list_in w from n) _ n w loop.i loop.w loop.invariant (length_list w from n) loop.auto.i-end c.loop-i-test.false
