@@ -19,12 +19,10 @@ solve-requires c =
 
 pub returns-in-None-clause-told : goal.returns-in-None-clause-told
 returns-in-None-clause-told c =
-    let p = c.requires in
-    exponent_none _ _ _ c.args.at _ _ _ p.1 p.2 _ _ c.load.ensures c.move_pauli-p.ensures c.in-None.ensures.told
+    exponent_none _ _ _ c.args.at _ _ _ c.requires.1 c.requires.2 _ _ c.load.ensures c.move_pauli-p.ensures c.in-None.ensures.told
 
 pub returns-in-Some-clause-told : goal.returns-in-Some-clause-told
 returns-in-Some-clause-told c =
-    let p = c.requires in
     let list = span_list _ c.paulis.ensures.list c.generators.ensures in
-    exponent_set _ _ _ c.args.at _ _ _ p.1 p.2 _ _ c.load.ensures c.move_pauli-p.ensures _ c.in-Some.ensures.told _ c.solve.ensures.rest _
-          (c.indexed_product-product.ensures ∙ ap (indexed_product _) list)
+    exponent_set _ _ _ c.args.at _ _ _ c.requires.1 c.requires.2 _ _ c.load.ensures c.move_pauli-p.ensures _ c.in-Some.ensures.told _ c.solve.ensures.rest _
+      (c.indexed_product-product.ensures ∙ ap (indexed_product _) list)

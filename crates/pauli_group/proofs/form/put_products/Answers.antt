@@ -26,5 +26,4 @@ loop-i-preserved c =
 pub returns-clause-list : goal.returns-clause-list
 unfolding products_by
 returns-clause-list c =
-    let l = c.loop-i in
-    stored_all _ _ _ _ _ _ _ l.invariant (named_count _ _ _ _ _ _ _ c.requires.0 c.requires.1 c.requires.2 c.told-w c.requires.3 c.requires.4) l.auto.i-end c.loop-i-test.false
+    stored_all _ _ _ _ _ _ _ c.loop-i.invariant (named_count _ _ _ _ _ _ _ c.requires.0 c.requires.1 c.requires.2 c.told-w c.requires.3 c.requires.4) c.loop-i.auto.i-end c.loop-i-test.false

@@ -26,7 +26,6 @@ build-requires c =
     )
 
 pub returns-clause-group : goal.returns-clause-group
-unfolding most_paulis
 returns-clause-group c =
     let g = own_gathered c.args.roll.bytes.now _ (rw (c.new.ensures, ← c.qubits-qubits.ensures.list) at c.gather.ensures) in
     let few = own_few c.args.roll.bytes.now c.args.roll.count c.args.roll.accepted in

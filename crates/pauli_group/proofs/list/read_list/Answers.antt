@@ -17,5 +17,4 @@ loop-i-preserved c =
 
 pub returns-clause-list : goal.returns-clause-list
 returns-clause-list c =
-    let l = c.loop-i in
-    stored_all _ _ _ _ _ _ _ l.invariant (accepted _ _ c.args.roll.accepted).1 l.auto.i-end (omega arith)
+    stored_all _ _ _ _ _ _ _ c.loop-i.invariant (accepted _ _ c.args.roll.accepted).1 c.loop-i.auto.i-end (omega arith)

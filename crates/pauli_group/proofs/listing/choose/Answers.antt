@@ -8,9 +8,7 @@ returns-then-size-eq0-clause-same c = choose_none _ _ _ _ _ c.if-size-eq0.true
 
 pub returns-then-number-with-clause-same : goal.returns-then-number-with-clause-same
 returns-then-number-with-clause-same c =
-    let p = c.args.p in
-    let s = one_shifted p (omega arith) in
-    rw s (choose_with _ _ _ _ _ c.if-size-eq0.false (rw (← c.binomial-with.ensures) c.if-number-with.true))
+    rw (one_shifted c.args.p (omega arith)) (choose_with _ _ _ _ _ c.if-size-eq0.false (rw (← c.binomial-with.ensures) c.if-number-with.true))
 
 pub returns-clause-same : goal.returns-clause-same
 returns-clause-same c = rw c.binomial-with.ensures (choose_without _ _ _ _ _ c.if-size-eq0.false (rw (← c.binomial-with.ensures) c.if-number-with.false))

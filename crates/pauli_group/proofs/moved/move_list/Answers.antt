@@ -26,5 +26,4 @@ loop-i-preserved c =
 
 pub returns-clause-list : goal.returns-clause-list
 returns-clause-list c =
-    let l = c.loop-i in
-    stored_all _ _ _ _ _ _ _ l.invariant.1 (length_list c.args.w.now c.args.from.base c.args.from.count) l.invariant.0 c.loop-i-test.false
+    stored_all _ _ _ _ _ _ _ c.loop-i.invariant.1 (length_list _ _ _) c.loop-i.invariant.0 c.loop-i-test.false

@@ -21,8 +21,4 @@ loop-i-preserved c =
 
 pub returns-clause-list : goal.returns-clause-list
 returns-clause-list c =
-    let loop = c.loop-i in
-    let w = c.args.w.now in
-    let from = c.args.from.base in
-    let n = c.args.from.count in
-    stored_all normal (list_in w from n) _ n w loop.i loop.w loop.invariant (length_list w from n) loop.auto.i-end c.loop-i-test.false
+    stored_all _ _ _ _ _ _ _ c.loop-i.invariant (length_list _ _ _) c.loop-i.auto.i-end c.loop-i-test.false
