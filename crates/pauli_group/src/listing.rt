@@ -5,7 +5,7 @@ ghost use Rattle.pauli.specs.Signed.{list_in};
 ghost use Rattle.pauli.specs.PlaceSet.{set_in};
 ghost use Rattle.pauli.specs.Told.{answer, refuse_if};
 ghost use Rattle.pauli.specs.Writing.{told_bytes, left_in};
-ghost use Rattle.pauli_theory.specs.Listing.{binomial as binomial_of, chosen_at as chosen_at_spec, subset_at as subset_at_spec, page_size as page_size_spec};
+ghost use Rattle.pauli_theory.specs.Listing.{binomial, chosen_at, subset_at, page_size};
 ghost use Rattle.pauli_theory.specs.Standard.{rank};
 ghost use Rattle.pauli_group.specs.Promises.{promise_of};
 ghost use Rattle.pauli_group.specs.Inner.Area.{standard_at, further_at, Outside};
@@ -50,7 +50,7 @@ fn next_row(row: &mut [u64], n: usize)
 // How many subsets of size k a list of n has.
 fn binomial(n: usize, k: usize) -> u64
     requires { (n ≤ 16) × (k ≤ 16) }
-    ensures { result ≡ binomial_of n k }
+    ensures { result ≡ binomial n k }
 {
     let mut row = [0u64; 17];
     row[0] = 1;
@@ -72,7 +72,7 @@ struct Choice {
 fn choose(p: usize, left: usize, c: Choice) -> Choice
     requires { (p + left < 16) × (c.size ≤ 16) × (c.bits < 2 ^ p) }
     ensures small { (result.size ≤ 16) × (result.bits < 2 ^ (p + 1)) }
-    ensures same { result.bits + 2 ^ (p + 1) * chosen_at_spec left result.size result.number ≡ c.bits + 2 ^ p * chosen_at_spec (left + 1) c.size c.number }
+    ensures same { result.bits + 2 ^ (p + 1) * chosen_at left result.size result.number ≡ c.bits + 2 ^ p * chosen_at (left + 1) c.size c.number }
 {
     let bits = c.bits;
     let size = c.size;
@@ -98,7 +98,7 @@ fn choose(p: usize, left: usize, c: Choice) -> Choice
 // Subset number i of size k of the numbers below n.
 fn chosen_at(n: usize, k: usize, i: u64) -> Places
     requires { (n ≤ 16) × (k ≤ n) }
-    ensures { set_in result ≡ chosen_at_spec n k i }
+    ensures { set_in result ≡ chosen_at n k i }
 {
     let mut c = Choice {
         bits: 0,
@@ -117,7 +117,7 @@ fn chosen_at(n: usize, k: usize, i: u64) -> Places
 // Subset number i of the numbers below n: by size, then lexicographic.
 fn subset_at(n: usize, i: u64) -> Places
     requires { n ≤ 16 }
-    ensures { set_in result ≡ subset_at_spec n i }
+    ensures { set_in result ≡ subset_at n i }
 {
     let mut number = i;
     for k in 0..n {
@@ -158,7 +158,7 @@ fn put_elements(w: &mut [u64; WORK_WORDS], rank: usize, phases: Phases, start: u
 
 // How many elements a page has.
 fn page_size(count: usize) -> usize
-    ensures { (result ≡ page_size_spec count) × (result ≤ 128) }
+    ensures { (result ≡ page_size count) × (result ≤ 128) }
 {
     if count == 0 {
         return DEFAULT_PAGE;
@@ -187,7 +187,7 @@ fn page_length(total: u64, start: u64, size: usize) -> usize
 // and `Phases` has no case for a step of 3.
 pub fn page_elements(rank: usize, step: u64, start: u32, count: u32) -> usize
     requires { (rank ≤ 16) × (0 < step) × (step ≤ 4) }
-    ensures { (result ≡ min (page_size_spec count) (2 ^ rank * (4 / step) - start)) × (result ≤ 128) }
+    ensures { (result ≡ min (page_size count) (2 ^ rank * (4 / step) - start)) × (result ≤ 128) }
 {
     let total = (1u64 << rank) * (4 / step);
     page_length(total, start as u64, page_size(count as usize))

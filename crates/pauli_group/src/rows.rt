@@ -1,6 +1,6 @@
 // Paulis over the places of a support as rows: column p is X at place p, column s + p is Z, where s is the support's size.
 ghost use Rattle.std.specs.Prelude.{◌≡◌, ◌+◌, ◌*◌, ◌%◌, ◌^◌, ◌<◌, ◌≤◌, map, length, drop};
-ghost use Rattle.binar.specs.Words.{put_row as put_row_spec, image};
+ghost use Rattle.binar.specs.Words.{put_row, image};
 ghost use Rattle.pauli.specs.Signed.{held, list_in};
 ghost use Rattle.pauli.specs.Writing.{OnPlaces};
 ghost use Rattle.pauli_group.specs.Inner.Lists.{row_over};
@@ -36,7 +36,7 @@ fn shifted(word: u64, k: usize) -> TwoWords
 // Writes the row of a Pauli over s places to the four words from word at on.
 pub(crate) fn put_row(w: &mut [u64], at: usize, p: Pauli, s: usize)
     requires { (at + 4 ≤ length w.old) × (s ≤ 128) × ((held p).x < 2 ^ s) × ((held p).z < 2 ^ s) }
-    ensures { w.new ≡ put_row_spec w.old at 4 (row_over s (held p)) }
+    ensures { w.new ≡ put_row w.old at 4 (row_over s (held p)) }
 {
     let x = p.x;
     let z = p.z;

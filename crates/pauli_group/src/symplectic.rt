@@ -5,7 +5,7 @@ ghost use Rattle.pauli.specs.Pauli.{normal};
 ghost use Rattle.pauli.specs.Signed.{held, list_in, paulis_in};
 ghost use Rattle.pauli.specs.Told.{answer};
 ghost use Rattle.pauli.specs.Writing.{told_bytes, left_in};
-ghost use Rattle.pauli_theory.specs.Symplectic.{position, times_if as times_if_spec, cleared as cleared_by, symplectic_form};
+ghost use Rattle.pauli_theory.specs.Symplectic.{position, times_if, cleared as cleared_by, symplectic_form};
 ghost use Rattle.pauli_group.specs.Inner.Area.{list_at, standard_at, Outside};
 ghost use Rattle.pauli_group.specs.WorkArea.{cleared};
 ghost use Rattle.pauli_group.specs.Calls.{paulis, symplectic_bytes};
@@ -44,7 +44,7 @@ fn first_anticommuting(list: &[[u64; 5]], x: Pauli) -> Option<usize>
 
 // g times q, if g anticommutes with p.
 fn times_if(p: Pauli, q: Pauli, g: Pauli) -> Pauli
-    ensures { normal (held result) ≡ normal (times_if_spec (held p) (held q) (held g)) }
+    ensures { normal (held result) ≡ normal (times_if (held p) (held q) (held g)) }
 {
     if g.anticommutes(p) {
         return g.times(q).pauli;

@@ -1,5 +1,5 @@
 -- Laws of the common part in the work area: exponents noted with the elements of a basis, the shared ones, and the phases.
-use Rattle.std.proofs.Common.{◌≡◌, ℕ, zero, suc, ◌+◌, ◌-◌, ◌*◌, ◌/◌, ◌%◌, ◌^◌, ◌<◌, ◌≤◌, max, List, [], ◌∷◌, ◌++◌, map, length, get_or, set, sym, refl, ap, ◌∙◌, subst, ap₂, append_assoc, append-nil, mod-eq_of_lt, div-add-mod', add-one, arith, length-set, get_or-set_other, get_or-set_same}
+use Rattle.std.proofs.Common.{◌≡◌, ℕ, zero, suc, ◌+◌, ◌-◌, ◌*◌, ◌/◌, ◌%◌, ◌^◌, ◌<◌, ◌≤◌, max, List, [], ◌∷◌, ◌++◌, map, length, get_or, set, sym, refl, ap, ◌∙◌, subst, ap₂, append_assoc, append-nil, mod-eq_of_lt, add-one, arith, length-set, get_or-set_other, get_or-set_same}
 use mathlib.Core.List.{map-append}
 use mathlib.Core.Option.{Option, some, none}
 use lib.Seq.{sets}
@@ -36,9 +36,6 @@ use Rattle.pauli_group.proofs.list.ListLaws.{pauli_same, list_same, list_at_lem,
 use Rattle.pauli_group.proofs.member.SolveLaws.{solvable_kept, form_kept}
 use Rattle.pauli_group.specs.Inner.Moved.{MovablePauli}
 use Rattle.pauli_group.specs.Inner.Shared.{Solving, exponent_over, exponent_for, noted, shared_noted}
-
-pub mod_le : (n m : ℕ) → n % m ≤ n
-mod_le n m = omega (arith, div-add-mod' n m)
 
 some_more : (i j : ℕ) → (i + j ≡ 0 → ⊥) → 0 < max i j
 some_more zero zero d = absurd (d refl)
@@ -151,9 +148,6 @@ module _ (a b m : ℕ) (first : List ℕ) where
   unfolding shared_noted pauli_in
   found_noted w at o h = h
 
-  pub kept_all : (i kept : ℕ) (w : List ℕ) → KeptUpTo a b m first i kept w → m ≤ i → list_in w further_at kept ≡ shared_with (shared_noted a b) (list_in first further_at m)
-  kept_all i kept w K h = let e : i ≡ m = (let l = K.within in omega arith) in K.list ∙ ap (λ (k : ℕ). shared_with (shared_noted a b) (list_in first further_at k)) e
-
 -- ---- phases behind them
 
 -- the phases below exponent k stand behind the n Paulis of the further list
@@ -201,12 +195,6 @@ module _ (a b n : ℕ) (first : List ℕ) where
           list_append u further_at total 1 ∙ ap₂ ◌++◌ (list_kept o further_at total (omega arith)) (put ∙ sym z) ∙ here;
       size = o.size ∙ P.size;
     }
-
-  pub phases_all : (k total : ℕ) (w : List ℕ) → PhasesUpTo a b n first k total w → 4 ≤ k
-      → (total ≤ n + 4) × (list_in w further_at total ≡ list_in first further_at n ++ phases_from a b 4 0)
-  phases_all k total w P h =
-      let four : k ≡ 4 = (let l = P.within in omega arith) in
-      (let f = P.few in omega arith, P.list ∙ ap (λ (j : ℕ). list_in first further_at n ++ phases_from a b j 0) four)
 
 -- ---- the exponent of the product that solves for an element
 
@@ -287,9 +275,6 @@ module _ (first joint own : List ℕ) (n places rank : ℕ) (S : Solving first n
       few = S.few;
       small = S.small;
     }
-
-    pub noted_all : (m : ℕ) → i ≤ m → m ≤ i → list_in w further_at m ≡ map f (list_in first further_at m)
-    noted_all m a b = let e : i ≡ m = omega arith in subst (λ (k : ℕ). list_in w further_at k ≡ map f (list_in first further_at k)) e N.list
 
     pub noted_here : pauli_in w (further_at + 5 * i) ≡ pauli_in first (further_at + 5 * i)
     noted_here = pauli_same w first (further_at + 5 * i) (λ k a b. N.after k a)

@@ -1,5 +1,5 @@
 -- Laws of the numbers of subsets: rows of Pascal's triangle, and sets chosen position by position.
-use Rattle.std.proofs.Common.{◌≡◌, ℕ, zero, suc, ◌+◌, ◌-◌, ◌*◌, ◌/◌, ◌%◌, ◌^◌, ◌<◌, ◌≤◌, min, List, ◌∷◌, length, get_or, set, replicate, sym, refl, ap, ◌∙◌, ap₂, add-zero, mul_assoc, pow-suc, mul-zero, mul-one, mul-add, add-one, arith, length-set, get_or-set_other, get_or-set_same, pow_pos, pow_mono}
+use Rattle.std.proofs.Common.{◌≡◌, ℕ, zero, suc, ◌+◌, ◌-◌, ◌*◌, ◌%◌, ◌^◌, ◌<◌, ◌≤◌, min, List, ◌∷◌, length, get_or, set, replicate, sym, refl, ap, ◌∙◌, ap₂, add-zero, mul_assoc, pow-suc, mul-zero, mul-one, mul-add, add-one, arith, length-set, get_or-set_other, get_or-set_same, pow_pos, pow_mono}
 use native.Mathlib.Decide.{dec_lt}
 use lib.ListN.{get_or-replicate}
 use Rattle.pauli_theory.specs.Listing.{default_page, largest_page, page_size, binomial, chosen_at, of_sizes_at, subset_at}
@@ -50,9 +50,6 @@ pub record RowPart (n k : ℕ) (row : List ℕ) : Type 0 where
   pub next : (j : ℕ) → k < j → j ≤ 16 → get_or row j 0 ≡ binomial (n + 1) j
 
 module _ (n : ℕ) where
-  pub row_start : (row : List ℕ) → RowOf n row → RowPart n 16 row
-  row_start row r = record { size = r.size; few = omega arith; low = r.entries; next = λ j a b. absurd (omega arith) }
-
   pascal : (k : ℕ) → 0 < k → binomial n k + binomial n (k - 1) ≡ binomial (n + 1) k
   unfolding binomial
   pascal zero h = absurd (omega arith)
@@ -169,9 +166,6 @@ size_start n i = let e : n ≡ n - 0 = omega arith in ap (λ (f : ℕ). of_sizes
 
 -- ---- powers
 
-pub pow_next : (p : ℕ) → 2 ^ (p + 1) ≡ 2 ^ p + 2 ^ p
-pow_next p = ap (2 ^◌) (add-one p) ∙ omega (arith, pow-suc 2 p)
-
 pub pow_small : (p : ℕ) → p ≤ 16 → 2 ^ p ≤ 65536
 pow_small p h = pow_mono {i = p} {j = 16} h
 
@@ -180,22 +174,5 @@ one_shifted p h = omega (arith, pow_small p h)
 
 -- ---- from the first position to the last
 
-pub choice_start : (n k i : ℕ) → 0 + 2 ^ 0 * chosen_at (n - 0) k i ≡ chosen_at n k i
-choice_start n k i = let e : n - 0 ≡ n = omega arith in rw e (omega arith)
-
 pub choice_end : (n p k i bits : ℕ) → n ≤ p → bits + 2 ^ p * chosen_at (n - p) k i ≡ bits
 choice_end n p k i bits h = let e : n - p ≡ 0 = omega arith in rw (e, chosen_end k i, mul-zero) (add-zero bits)
-
-pub choice_next : (n p k i : ℕ) → p < n → chosen_at (n - p - 1 + 1) k i ≡ chosen_at (n - p) k i
-choice_next n p k i h = let e : n - p - 1 + 1 ≡ n - p = omega arith in ap (λ (m : ℕ). chosen_at m k i) e
-
-pub total_is : (r m : ℕ) → r ≤ 16 → 1 * 2 ^ r % 2 ^ 64 * (4 / m) ≡ 2 ^ r * (4 / m)
-total_is r m h = ap (◌* (4 / m)) (one_shifted r h)
-
-pub total_small : (r m : ℕ) → r ≤ 16 → 0 < m → m ≤ 4 → 1 * 2 ^ r % 2 ^ 64 * (4 / m) < 2 ^ 64
-total_small r zero h a b = absurd (omega arith)
-total_small r (suc zero) h a b = omega (arith, one_shifted r h, pow_small r h)
-total_small r (suc (suc zero)) h a b = omega (arith, one_shifted r h, pow_small r h)
-total_small r (suc (suc (suc zero))) h a b = omega (arith, one_shifted r h, pow_small r h)
-total_small r (suc (suc (suc (suc zero)))) h a b = omega (arith, one_shifted r h, pow_small r h)
-total_small r (suc (suc (suc (suc (suc m))))) h a b = absurd (omega arith)

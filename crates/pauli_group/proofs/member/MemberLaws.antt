@@ -32,12 +32,6 @@ pub record CoveredFrom (qs b : List ℕ) (at total from last k : ℕ) : Type 0 w
   pub walk : (s : ℕ) → last < s → from ≤ lower s qs
 
 module _ (qs b : List ℕ) (at total : ℕ) where
-  pub covered_start : CoveredFrom qs b at total 0 0 0
-  covered_start =
-      let here : at + 4 * 0 ≡ at = omega arith in
-      let all : total - 0 ≡ total = omega arith in
-      record { within = omega arith; same = rw (here, all); walk = λ s h. omega arith }
-
   module _ (from last k : ℕ) (f : CoveredFrom qs b at total from last k) where
     pub covered_end : total ≤ k → true ≡ covered qs (numbers_at b at total)
     unfolding covered

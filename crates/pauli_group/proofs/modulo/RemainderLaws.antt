@@ -1,5 +1,5 @@
 -- Laws of the remainder in the work area: Paulis multiplied at a pivot, and by all standard generators in turn.
-use Rattle.std.proofs.Common.{◌≡◌, ℕ, zero, suc, ◌+◌, ◌*◌, ◌%◌, ◌^◌, ◌<◌, ◌≤◌, Bool, true, false, cond, ltb, List, map, length, get_or, take, drop, sym, refl, ap, ◌∙◌, mod-lt, add-one, arith, length-drop, length-take-le, get_or-drop, get_or-take}
+use Rattle.std.proofs.Common.{◌≡◌, ℕ, zero, suc, ◌+◌, ◌*◌, ◌%◌, ◌^◌, ◌<◌, ◌≤◌, Bool, true, false, cond, ltb, List, map, length, get_or, take, drop, sym, refl, ap, ◌∙◌, add-one, arith, length-drop, length-take-le, get_or-drop, get_or-take}
 use lib.ListN.{length-map}
 use Rattle.binar.specs.Row.{bit, if_bit}
 use Rattle.binar.proofs.row.Bits.{bit_lt}
@@ -185,12 +185,6 @@ module _ (own qs x : List ℕ) (places n rank total m : ℕ) (own_size : places 
     (read : pivot ≡ get_or w (at + k) 0) where
   met : pivot ≡ get_or w (n * stride_of n + k) 0
   met = read ∙ ap (λ (i : ℕ). get_or w (i + k) 0) start
-
-  pub places_some : 0 < places
-  places_some = omega (arith, own_size, pivot_low own qs x n rank total m o size k w u h pivot met)
-
-  pub qubit_room : pivot % places < length own
-  qubit_room = omega (arith, own_size, mod-lt pivot places_some)
 
   module _ (other : Held) (loaded : normal (held other) ≡ normal (pauli_in w (standard_at + 5 * k))) where
     pub loaded_moves : ((held other).x < 2 ^ length own) × ((held other).z < 2 ^ length own) × MovablePauli own qs (held other)

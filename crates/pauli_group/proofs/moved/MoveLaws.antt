@@ -88,9 +88,6 @@ module _ {own qs : List ℕ} {v : ℕ} {left : List ℕ} {from moved : ℕ} (m :
       inside : Mem q qs
       inside = rw met next.inside.0.1
 
-      pub moving_from : from ≤ lower q qs
-      moving_from = rw met (next.ahead i next.rises.0 moving_in)
-
       pub moving_place : lower q qs < 128
       moving_place = omega (arith, (lower_at 0 qs m.rises q inside).0)
 

@@ -47,12 +47,6 @@ module _ (a j k : ℕ) where
 abbrev pub Shift : ℕ → ℕ → TwoWords → Type 0
 Shift word k r = (r.high * 2 ^ 64 + r.low ≡ word * 2 ^ k) × (r.low % 2 ^ k ≡ 0) × (r.high < 2 ^ k)
 
-pub shift_none : (a k : ℕ) → k ≡ 0 → Shift a k (record { low = a; high = 0 })
-shift_none a k e = rw e (omega arith, omega arith, omega arith)
-
-pub shift_word : (a k : ℕ) → k ≡ 64 → a < 2 ^ 64 → Shift a k (record { low = 0; high = a })
-shift_word a k e h = rw e (omega arith, omega arith, omega arith)
-
 pub shift_some : (a k : ℕ) → k ≤ 64 → a < 2 ^ 64 → Shift a k (record { low = a * 2 ^ k % 2 ^ 64; high = a / 2 ^ (64 - k) })
 shift_some a k h b =
     let e : 64 - k + k ≡ 64 = omega arith in

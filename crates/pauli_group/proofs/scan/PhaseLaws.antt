@@ -111,9 +111,6 @@ unfolding list_in
 taken_start old base m = record { list = refl; rest = outside_refl base (5 * 0) old }
 
 module _ {old : List ℕ} {base m : ℕ} {w : List ℕ} {i : ℕ} (t : Taken old base m w i) where
-  pub taken_end : (n : ℕ) → i ≡ n → (list_in w base n ≡ map (exponent_mod m) (list_in old base n)) × Outside base (5 * n) old w
-  taken_end n e = rw (← e) (t.list, t.rest)
-
   pub taken_step : (n : ℕ) → i < n → base + 5 * n ≤ length old → Taken old base m (set w (base + 5 * i) (get_or w (base + 5 * i) 0 % m)) (i + 1)
   taken_step n h room =
       let at = base + 5 * i in

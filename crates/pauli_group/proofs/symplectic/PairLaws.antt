@@ -427,14 +427,6 @@ paired_start w n = record {
   plain = refl;
 }
 
-pub paired_next : {first w u : List ℕ} {n : ℕ} {p q : Pairing} → PairedUpTo first n w p → PairedTo w p u q
-    → PairedUpTo first n u q
-paired_next s t = record {
-  same = t.same ∙ s.same;
-  count = t.count ∙ s.count;
-  plain = t.plain s.plain;
-}
-
 pub paired_end : (first : List ℕ) (n : ℕ) (w : List ℕ) (p : Pairing) → PairedUpTo first n w p → p.left ≡ 0 → (u : List ℕ)
     → list_in u (standard_at + 5 * p.conjugate) p.commuting ≡ map normal (list_in w further_at p.commuting)
     → Outside (standard_at + 5 * p.conjugate) (5 * p.commuting) w u

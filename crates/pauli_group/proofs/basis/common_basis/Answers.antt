@@ -27,18 +27,6 @@ overflow_sub-n c =
     let F = rw (both.0, both.1) at c.form_of-rank.ensures in
     stack_rank _ _ few _ _ _ c.stack_standard-stacked.ensures _ c.requires.count _ F.rank _ F.form F.rest
 
-pub at-first-requires : goal.at-first-requires
-at-first-requires c =
-    let few = lists_few _ _ _ _ c.args.pair.left.accepted c.args.pair.right.accepted c.args.pair.few in
-    omega (arith, stack_first _ _ few _ _ _ c.stack_standard-stacked.ensures)
-
-pub at-zeros-requires : goal.at-zeros-requires
-at-zeros-requires c =
-    let few = lists_few _ _ _ _ c.args.pair.left.accepted c.args.pair.right.accepted c.args.pair.few in
-    let both = c.at-both.ensures in
-    let F = rw (both.0, both.1) at c.form_of-rank.ensures in
-    omega (arith, stack_zeros _ _ few _ _ _ c.stack_standard-stacked.ensures _ c.requires.count _ F.rank _ F.form F.rest)
-
 pub put_products-requires : goal.put_products-requires
 put_products-requires c =
     let few = lists_few _ _ _ _ c.args.pair.left.accepted c.args.pair.right.accepted c.args.pair.few in

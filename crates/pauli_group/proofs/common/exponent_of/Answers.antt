@@ -17,20 +17,12 @@ solve-requires c =
     let low = target_low _ _ _ c.args.at _ _ _ p.1 p.2 _ _ c.load.ensures c.move_pauli-p.ensures in
     (low.0, low.1, p.1.solvable)
 
-pub returns-in-None : goal.returns-in-None
-returns-in-None c =
-    let p = c.requires in record {
-      told = exponent_none _ _ _ c.args.at _ _ _ p.1 p.2 _ _ c.load.ensures c.move_pauli-p.ensures c.in-None.ensures.told;
-      low = omega arith;
-      rest = c.solve.ensures.rest;
-    }
+pub returns-in-None-clause-told : goal.returns-in-None-clause-told
+returns-in-None-clause-told c =
+    exponent_none _ _ _ c.args.at _ _ _ c.requires.1 c.requires.2 _ _ c.load.ensures c.move_pauli-p.ensures c.in-None.ensures.told
 
-pub returns-in-Some : goal.returns-in-Some
-returns-in-Some c =
-    let p = c.requires in
-    let list = span_list _ c.paulis.ensures.list c.generators.ensures in record {
-      told = exponent_set _ _ _ c.args.at _ _ _ p.1 p.2 _ _ c.load.ensures c.move_pauli-p.ensures _ c.in-Some.ensures.told _ c.solve.ensures.rest _
-          (c.indexed_product-product.ensures ∙ ap (indexed_product _) list);
-      low = omega arith;
-      rest = c.solve.ensures.rest;
-    }
+pub returns-in-Some-clause-told : goal.returns-in-Some-clause-told
+returns-in-Some-clause-told c =
+    let list = span_list _ c.paulis.ensures.list c.generators.ensures in
+    exponent_set _ _ _ c.args.at _ _ _ c.requires.1 c.requires.2 _ _ c.load.ensures c.move_pauli-p.ensures _ c.in-Some.ensures.told _ c.solve.ensures.rest _
+      (c.indexed_product-product.ensures ∙ ap (indexed_product _) list)

@@ -1,6 +1,6 @@
 use Rattle.std.proofs.Common.{◌+◌, ◌*◌, sym, ap, arith}
 use Rattle.pauli_group.specs.Inner.Lists.{step_told, found}
-use Rattle.pauli_group.proofs.common.SharedLaws.{kept_none, found_noted, kept_dropped, kept_more, kept_all}
+use Rattle.pauli_group.proofs.common.SharedLaws.{kept_none, found_noted, kept_dropped, kept_more}
 use Rattle.pauli_group.proofs.common.keep_shared.Goals as goal
 use Rattle.pauli_group.proofs.common.keep_shared.Goals.{in-Some, in_default}
 
@@ -14,6 +14,3 @@ loop-i-preserved c = let l = c.loop-i in
       | in-Some w ↦ rw (w.w-is, w.kept-is) (kept_more _ _ _ _ _ _ _ l.invariant c.loop-i-test.true _ told _ (ap found (sym w.in-Some.is)) w.in-Some.ensures.below (omega (arith, c.requires, c.told-w)) _ _ w.load-p.ensures w.with_exponent.ensures _ w.store.ensures)
       | in_default w ↦ rw (w.w-is, w.kept-is) (kept_dropped _ _ _ _ _ _ _ l.invariant c.loop-i-test.true _ told (ap found (sym w.in_default.is)))
     ]
-
-pub returns : goal.returns
-returns c = let l = c.loop-i in record { few = omega (arith, l.invariant.low, l.invariant.within); list = kept_all _ _ _ _ _ _ _ l.invariant c.loop-i-test.false }

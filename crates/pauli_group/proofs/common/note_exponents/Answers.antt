@@ -1,5 +1,5 @@
 use Rattle.std.proofs.Common.{refl, arith}
-use Rattle.pauli_group.proofs.common.SharedLaws.{noted_none, noted_solving, noted_element, noted_next, noted_all}
+use Rattle.pauli_group.proofs.common.SharedLaws.{noted_none, noted_solving, noted_element, noted_next}
 use Rattle.pauli_group.proofs.common.note_exponents.Goals as goal
 
 pub loop-i-init : goal.loop-i-init
@@ -17,7 +17,3 @@ loop-i-preserved c =
     let p = c.requires in
     let told = c.exponent_of-e.ensures in
     (omega arith, noted_next _ c.args.joint.now c.args.own.now _ _ _ p.1 _ _ c.loop-i.invariant.1 _ told.told _ told.rest (omega (arith, p.0, c.loop-i-test.true)) _ refl)
-
-pub returns : goal.returns
-returns c =
-    let i = c.loop-i.invariant in noted_all _ c.args.joint.now c.args.own.now _ _ _ c.requires.1 _ _ i.1 _ i.0 c.loop-i-test.false

@@ -1,12 +1,9 @@
-use Rattle.std.proofs.Common.{◌+◌, ◌-◌, ◌%◌, arith}
-use Rattle.pauli_group.proofs.common.SharedLaws.{mod_le, shared_start, shared_hit, shared_miss, shared_end}
+use Rattle.std.proofs.Common.{arith}
+use Rattle.pauli_group.proofs.common.SharedLaws.{shared_start, shared_hit, shared_miss, shared_end}
 use Rattle.pauli_group.proofs.common.shared_exponent.Goals as goal
 
 pub loop-e-init : goal.loop-e-init
 loop-e-init c = (omega arith, shared_start _ _ _ _)
-
-pub overflow_add-e-in-loop-e-2 : goal.overflow_add-e-in-loop-e-2
-overflow_add-e-in-loop-e-2 c = let l = c.loop-e in omega (arith, mod_le ((l.e + 4 - c.args.u) % 4) c.step-a.result, mod_le ((l.e + 4 - c.args.v) % 4) c.step-b.result)
 
 pub returns-then-e-u-eq0-clause-first : goal.returns-then-e-u-eq0-clause-first
 returns-then-e-u-eq0-clause-first c = shared_hit _ _ _ _ _ c.loop-e-test.true c.loop-e.invariant.1 (rw (c.step-a.ensures.0, c.step-b.ensures.0) at c.if-e-u-eq0.true)

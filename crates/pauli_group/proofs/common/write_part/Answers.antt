@@ -22,15 +22,6 @@ note_by-second-requires c =
     let N = c.note_by-first.ensures in
     (B.few, once_on _ _ _ J _ _ B.list _ N.list, once_right _ _ _ J _ _ B.list _ N.list)
 
-pub keep_shared-kept-requires : goal.keep_shared-kept-requires
-keep_shared-kept-requires c = c.common_basis-m.ensures.few
-
-pub append_phases-total-requires : goal.append_phases-total-requires
-append_phases-total-requires c = omega (arith, c.keep_shared-kept.ensures.few, c.common_basis-m.ensures.few)
-
-pub at-requires : goal.at-requires
-at-requires c = omega (arith, c.append_phases-total.ensures.few, c.keep_shared-kept.ensures.few, c.common_basis-m.ensures.few)
-
 pub write_roll-requires : goal.write_roll-requires
 write_roll-requires c =
     let J = joint_is _ _ _ (rw (← c.qubits-joint.ensures.list) at c.join_support-support.ensures) c.args.pair.qubits in

@@ -27,9 +27,6 @@ returns-then-out-count c =
     let found = sym (ap factoring_told c.in-Some.is) ∙ factor.told in
     rw c.into.ensures (call_short _ _ _ _ _ _ asked _ factor.area _ found (omega (arith, c.weight-count.ensures.0, c.if-out-count.true)))
 
-pub put_indexes-requires : goal.put_indexes-requires
-put_indexes-requires c = omega (arith, c.weight-count.ensures.0, c.if-out-count.false)
-
 pub returns : goal.returns
 returns c =
     let asked = asking _ _ _ _ _ _ c.in_ok-rolls.ensures.counts in

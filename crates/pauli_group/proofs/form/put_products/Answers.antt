@@ -23,7 +23,7 @@ loop-i-preserved c =
     (product_value _ _ _ _ _ _ _ c.requires.0 c.requires.1 c.requires.2 c.told-w c.requires.3 c.requires.4 _ _ c.loop-i-test.true l.invariant.rest _ _ (rw c.stride_of-stride.ensures at c.named_by-set.ensures)
     (c.indexed_product-product.ensures ∙ ap (indexed_product _) c.paulis.ensures.list)) _ c.store.ensures
 
-pub returns : goal.returns
+pub returns-clause-list : goal.returns-clause-list
 unfolding products_by
-returns c =
-    let l = c.loop-i in record { list = stored_all _ _ _ _ _ _ _ l.invariant (named_count _ _ _ _ _ _ _ c.requires.0 c.requires.1 c.requires.2 c.told-w c.requires.3 c.requires.4) l.auto.i-end c.loop-i-test.false; rest = l.invariant.rest }
+returns-clause-list c =
+    stored_all _ _ _ _ _ _ _ c.loop-i.invariant (named_count _ _ _ _ _ _ _ c.requires.0 c.requires.1 c.requires.2 c.told-w c.requires.3 c.requires.4) c.loop-i.auto.i-end c.loop-i-test.false

@@ -1,4 +1,4 @@
-use Rattle.std.proofs.Common.{◌≤◌, refl, arith}
+use Rattle.std.proofs.Common.{◌≤◌, arith}
 use Rattle.pauli.specs.Signed.{list_in}
 use Rattle.pauli.proofs.write.Writers.{length_list}
 use Rattle.pauli_group.specs.Inner.Area.{standard_at}
@@ -21,14 +21,11 @@ invariant_of-result c =
     let few = from_products_few c.form_of-rank.result (list_in x standard_at c.args.n) (rw (length_list x standard_at c.args.n) low) in
     record { few = (c.requires.0, c.requires.1, omega (arith, c.standardize-total.ensures.count, few, low, c.requires.0)) }
 
-pub returns : goal.returns
-returns c =
+pub returns-clause-built : goal.returns-clause-built
+returns-clause-built c =
     let list = c.at-list.ensures in
     let products = c.at-products.ensures in
     let f = rw (list.0, list.1) at c.form_of-rank.ensures in
     let p = rw (list.0, list.1, products.0, products.1) at c.put_products.ensures in
-    let t = c.standardize-total.ensures in record {
-      built = built c.args.w.now _ _ _ c.args.n c.args.s _ _ c.requires.0 c.told-w f.rank f.form f.rest p.list p.rest t.count t.list t.rest;
-      count = refl;
-      places = refl;
-    }
+    let t = c.standardize-total.ensures in
+    built c.args.w.now _ _ _ c.args.n c.args.s _ _ c.requires.0 c.told-w f.rank f.form f.rest p.list p.rest t.count t.list t.rest

@@ -1,6 +1,4 @@
 -- The numbers of the roll are gathered, its Paulis are read over their places, and the group is built.
-use Rattle.pauli_group.proofs.list.ListLaws.{outside_join, outside_wider}
-use Rattle.pauli_group.specs.Inner.Area.{further_at}
 use Rattle.std.proofs.Common.{arith}
 use Rattle.pauli.proofs.joined.JoinLaws.{accepted, accepted_few}
 use Rattle.pauli.specs.Roll.{most_paulis}
@@ -27,12 +25,8 @@ build-requires c =
       on_places _ _ g few _ c.args.roll.count c.read_list.ensures.list,
     )
 
-pub returns : goal.returns
-unfolding most_paulis
-returns c =
+pub returns-clause-group : goal.returns-clause-group
+returns-clause-group c =
     let g = own_gathered c.args.roll.bytes.now _ (rw (c.new.ensures, ← c.qubits-qubits.ensures.list) at c.gather.ensures) in
-    let few = own_few c.args.roll.bytes.now c.args.roll.count c.args.roll.accepted in record {
-      count = c.build.ensures.count;
-      group = rw (← c.qubits-qubits.ensures.list, c.build.ensures.places) (grouped _ _ g few _ c.args.roll.count c.read_list.ensures.list _ _ _ (accepted c.args.roll.bytes.now c.args.roll.count c.args.roll.accepted).1 c.build.ensures.built);
-      rest = outside_join (outside_wider 0 further_at c.read_list.ensures.rest (omega arith) (omega (arith, accepted_few c.args.roll.bytes.now c.args.roll.count c.args.roll.accepted))) c.build.ensures.built.rest;
-    }
+    let few = own_few c.args.roll.bytes.now c.args.roll.count c.args.roll.accepted in
+    rw (← c.qubits-qubits.ensures.list, c.build.ensures.places) (grouped _ _ g few _ c.args.roll.count c.read_list.ensures.list _ _ _ (accepted c.args.roll.bytes.now c.args.roll.count c.args.roll.accepted).1 c.build.ensures.built)

@@ -9,16 +9,12 @@ use Rattle.pauli_group.proofs.list.read_list.Goals as goal
 pub loop-i-init : goal.loop-i-init
 loop-i-init c = stored_none _ _ _ _ _
 
-pub condense_from-requires : goal.condense_from-requires
-condense_from-requires c =
-    (c.requires.0 _ c.loop-i-test.true, c.requires.1)
-
 pub loop-i-preserved : goal.loop-i-preserved
 unfolding over_places
 loop-i-preserved c =
     stored_step _ _ _ _ _ _ _ c.loop-i.invariant (accepted _ _ c.args.roll.accepted).1 nothing _ c.loop-i-test.true (omega (arith, c.told-w, c.requires.2))
     (ap normal c.condense_from.ensures) _ c.store.ensures
 
-pub returns : goal.returns
-returns c =
-    let l = c.loop-i in record { list = stored_all _ _ _ _ _ _ _ l.invariant (accepted _ _ c.args.roll.accepted).1 l.auto.i-end (omega arith); rest = l.invariant.rest }
+pub returns-clause-list : goal.returns-clause-list
+returns-clause-list c =
+    stored_all _ _ _ _ _ _ _ c.loop-i.invariant (accepted _ _ c.args.roll.accepted).1 c.loop-i.auto.i-end (omega arith)

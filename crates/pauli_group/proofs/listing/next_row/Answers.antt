@@ -1,9 +1,6 @@
-use Rattle.std.proofs.Common.{refl, arith, length-set}
-use Rattle.pauli_group.proofs.listing.ListingLaws.{row_start, row_small, row_step, row_end}
+use Rattle.std.proofs.Common.{arith, length-set}
+use Rattle.pauli_group.proofs.listing.ListingLaws.{row_small, row_step, row_end}
 use Rattle.pauli_group.proofs.listing.next_row.Goals as goal
-
-pub loop-k-init : goal.loop-k-init
-loop-k-init c = (omega arith, row_start _ _ c.requires.0, refl)
 
 pub overflow_add-row : goal.overflow_add-row
 overflow_add-row c = omega (arith, row_small _ _ _ c.loop-k.invariant.1 c.requires.1)

@@ -15,5 +15,5 @@ loop-i-preserved c =
     let product = c.indexed_product-product.ensures ∙ ap (indexed_product _) (span_list _ c.paulis.ensures.list c.at-generators.ensures) in
     listed_next _ _ _ _ _ _ _ c.loop-i.invariant c.told-w c.requires.0 c.requires.1 c.loop-i-test.true _ set _ product _ exponent _ c.store.ensures
 
-pub returns : goal.returns
-returns c = record { list = listed_all _ _ _ _ _ _ _ c.loop-i.invariant c.loop-i.auto.i-end c.loop-i-test.false; rest = c.loop-i.invariant.rest }
+pub returns-clause-list : goal.returns-clause-list
+returns-clause-list c = listed_all _ _ _ _ _ _ _ c.loop-i.invariant c.loop-i.auto.i-end c.loop-i-test.false

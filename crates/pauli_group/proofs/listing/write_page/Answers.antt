@@ -23,9 +23,6 @@ returns-then-g-gt-MOST_LISTED c =
       area = c.clear_bits.ensures ∙ cleared_whole _ _ group.array_long c.told-w;
     }
 
-pub put_elements-requires : goal.put_elements-requires
-put_elements-requires c = (c.if-g-gt-MOST_LISTED.false, c.page_elements-length.ensures.1, omega (arith, c.ranges))
-
 pub write_roll-wrote-requires : goal.write_roll-wrote-requires
 write_roll-wrote-requires c =
     let group = c.group_of-g in

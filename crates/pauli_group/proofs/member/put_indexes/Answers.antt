@@ -17,18 +17,12 @@ put_u16-requires c =
     let few = rw next at i.2 in
     (indexes_room _ _ i.3 _ _ next, omega (arith, few.0))
 
-pub overflow_add-next : goal.overflow_add-next
-overflow_add-next c = omega (arith, indexes_room _ _ c.loop-p.invariant.3 _ _ c.in-Some.ensures.steps)
-
 pub loop-p-preserved : goal.loop-p-preserved
 loop-p-preserved c =
     let i = c.loop-p.invariant in
     let next = c.in-Some.ensures.steps in
     let few = rw next at i.2 in
     (tt, tt, few.1, indexes_next _ _ i.3 _ _ next _ c.put_u16.ensures c.put_u16.auto.out)
-
-pub shape_of-out : goal.shape_of-out
-shape_of-out c = c.loop-p.invariant.3.size
 
 pub returns : goal.returns
 returns c = indexes_done _ _ c.loop-p.invariant.3 c.in-None.ensures.steps.0

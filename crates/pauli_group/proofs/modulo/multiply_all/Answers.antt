@@ -1,7 +1,7 @@
 use Rattle.std.proofs.Common.{◌≡◌, ◌*◌, refl, ap, arith}
 use Rattle.pauli_group.specs.Inner.Area.{stride_of}
 use Rattle.pauli_group.proofs.area.AreaLaws.{form_room}
-use Rattle.pauli_group.proofs.modulo.RemainderLaws.{multiplied_start, multiplied_end, pivot_room, places_some, qubit_room, loaded_moves, place_few, multiplied_next}
+use Rattle.pauli_group.proofs.modulo.RemainderLaws.{multiplied_start, multiplied_end, pivot_room, loaded_moves, place_few, multiplied_next}
 use Rattle.pauli_group.proofs.modulo.multiply_all.Goals as goal
 
 pub overflow_mul-at : goal.overflow_mul-at
@@ -33,16 +33,6 @@ move_pauli-moved-requires c =
     let m = loaded_moves _ _ _ _ _ _ _ _ c.requires.1 c.requires.3 c.told-w _ _ c.loop-k.invariant c.loop-k-test.true _ _ at refl _ c.load-other.ensures in
     (c.requires.2, m.0, m.1, m.2)
 
-pub nonzero_rem-pivot : goal.nonzero_rem-pivot
-nonzero_rem-pivot c =
-    let at = ap (c.args.group.count *◌) c.stride_of.ensures in
-    places_some _ _ _ _ _ _ _ _ c.requires.1 c.requires.3 c.told-w _ _ c.loop-k.invariant c.loop-k-test.true _ _ at refl
-
-pub qubit_at-requires : goal.qubit_at-requires
-qubit_at-requires c =
-    let at = ap (c.args.group.count *◌) c.stride_of.ensures in
-    qubit_room _ _ _ _ _ _ _ _ c.requires.1 c.requires.3 c.told-w _ _ c.loop-k.invariant c.loop-k-test.true _ _ at refl
-
 pub multiply_at-requires : goal.multiply_at-requires
 multiply_at-requires c =
     let at = ap (c.args.group.count *◌) c.stride_of.ensures in
@@ -55,5 +45,5 @@ loop-k-preserved c =
     let at = ap (c.args.group.count *◌) c.stride_of.ensures in
     multiplied_next _ _ _ _ _ _ _ _ c.requires.1 c.requires.3 c.told-w _ _ c.loop-k.invariant c.loop-k-test.true _ _ at refl _ c.load-other.ensures _ c.move_pauli-moved.ensures _ _ c.place_of-place.ensures c.qubit_at.ensures _ list rest
 
-pub returns : goal.returns
-returns c = record { list = multiplied_end _ _ _ _ _ _ _ c.requires.3 c.told-w _ _ c.loop-k.invariant c.loop-k-test.false; rest = c.loop-k.invariant.rest }
+pub returns-clause-list : goal.returns-clause-list
+returns-clause-list c = multiplied_end _ _ _ _ _ _ _ c.requires.3 c.told-w _ _ c.loop-k.invariant c.loop-k-test.false

@@ -19,6 +19,6 @@ loop-i-preserved c =
       store_further first l.w c.args.list.base l.i _ l.invariant.2 _ c.store.ensures,
     )
 
-pub returns : goal.returns
-returns c =
-    let l = c.loop-i in record { list = stored_all _ _ _ _ _ _ _ l.invariant.1 (length_list c.args.w.now c.args.list.base c.args.list.count) l.invariant.0 c.loop-i-test.false; rest = l.invariant.1.rest }
+pub returns-clause-list : goal.returns-clause-list
+returns-clause-list c =
+    stored_all _ _ _ _ _ _ _ c.loop-i.invariant.1 (length_list _ _ _) c.loop-i.invariant.0 c.loop-i-test.false

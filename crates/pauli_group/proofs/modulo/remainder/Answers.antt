@@ -33,9 +33,6 @@ multiply_all-requires c =
       rw (list_kept_after group.ensures.rest further_at c.group_of-a.result.total (omega arith)) (moved_low _ _ _ c.requires.1 c.group_of-a.ensures.group _ moved),
     )
 
-pub at-requires : goal.at-requires
-at-requires c = omega (arith, group_total _ _ c.args.pair.left.accepted c.group_of-a.ensures.group)
-
 pub returns : goal.returns
 returns c =
     let group = c.group_of-b in

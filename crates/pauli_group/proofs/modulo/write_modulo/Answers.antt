@@ -12,9 +12,6 @@ remainder-count-requires c =
     let pair = c.args.pair in
     (joined_places pair.left.bytes.now pair.right.bytes.now _ pair.qubits g, joined_support pair.left.bytes.now pair.right.bytes.now _ pair.qubits g)
 
-pub at-list-requires : goal.at-list-requires
-at-list-requires c = omega (arith, c.remainder-count.ensures.few)
-
 pub write_roll-wrote-requires : goal.write_roll-wrote-requires
 write_roll-wrote-requires c =
     let g = rw (← c.qubits-joined.ensures.list) at c.join_support-support.ensures in

@@ -24,6 +24,6 @@ loop-i-preserved c =
           (moved_value _ _ (c.load-p.ensures ∙ ap normal at) _ _ _ c.move_pauli.ensures) _ c.store.ensures,
     )
 
-pub returns : goal.returns
-returns c =
-    let l = c.loop-i in record { list = stored_all _ _ _ _ _ _ _ l.invariant.1 (length_list c.args.w.now c.args.from.base c.args.from.count) l.invariant.0 c.loop-i-test.false; rest = l.invariant.1.rest }
+pub returns-clause-list : goal.returns-clause-list
+returns-clause-list c =
+    stored_all _ _ _ _ _ _ _ c.loop-i.invariant.1 (length_list _ _ _) c.loop-i.invariant.0 c.loop-i-test.false

@@ -1,5 +1,5 @@
 use Rattle.std.proofs.Common.{◌∙◌}
-use Rattle.pauli_group.proofs.moved.MoveLaws.{moving_start, moving_in, moving_from, moving_place, moving_next, moving_end}
+use Rattle.pauli_group.proofs.moved.MoveLaws.{moving_start, moving_place, moving_next, moving_end}
 use Rattle.pauli_group.proofs.moved.move_set.Goals as goal
 
 pub loop-p-init : goal.loop-p-init
@@ -7,14 +7,6 @@ loop-p-init c =
     let p = c.requires in
     let all = c.into_iter-p-iterator.ensures.into_iter_gives ∙ c.iter-p-items.ensures in
     (tt, tt, rw all (moving_start _ _ _ _ p.1 p.2 c.none-moved.ensures))
-
-pub qubit_at-requires : goal.qubit_at-requires
-qubit_at-requires c = moving_in c.requires.2 c.loop-p.invariant.2 _ _ c.in-Some.ensures.steps
-
-pub place_from-place-requires : goal.place_from-place-requires
-place_from-place-requires c =
-    let p = c.requires in
-    (moving_from p.2 c.loop-p.invariant.2 _ _ c.in-Some.ensures.steps p.0 _ c.qubit_at.ensures, p.2.rises)
 
 pub with_place-moved-requires : goal.with_place-moved-requires
 with_place-moved-requires c =

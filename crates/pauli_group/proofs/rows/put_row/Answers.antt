@@ -1,6 +1,6 @@
 -- Fewer than 64 places take one word of x and two of z; the others, two of x and three of z.
 use Rattle.pauli_group.proofs.rows.RowLaws.{short_fits, short_row, long_fits, long_fits_2, long_row}
-use Rattle.std.proofs.Common.{arith, rules, length-set}
+use Rattle.std.proofs.Common.{rules}
 use Rattle.pauli_group.proofs.rows.put_row.Goals as goal
 
 pub overflow_add-w : goal.overflow_add-w
@@ -10,15 +10,6 @@ overflow_add-w c =
           c.if-s-lt64.true c.shifted-a.result (search rules)
           (search rules) c.shifted-a.ensures;
     }
-
-pub bounds-w-at-then-s-lt64 : goal.bounds-w-at-then-s-lt64
-bounds-w-at-then-s-lt64 c = simp length-set (omega arith)
-
-pub bounds-w-at-then-s-lt64-2 : goal.bounds-w-at-then-s-lt64-2
-bounds-w-at-then-s-lt64-2 c = simp length-set (omega arith)
-
-pub bounds-w-at-then-s-lt64-3 : goal.bounds-w-at-then-s-lt64-3
-bounds-w-at-then-s-lt64-3 c = simp length-set (omega arith)
 
 pub returns-then-s-lt64 : goal.returns-then-s-lt64
 returns-then-s-lt64 c =
@@ -34,9 +25,6 @@ overflow_add-w-2 c =
           c.shifted-a-2.ensures;
     }
 
-pub bounds-w-at-3 : goal.bounds-w-at-3
-bounds-w-at-3 c = simp length-set (omega arith)
-
 pub overflow_add-w-4 : goal.overflow_add-w-4
 overflow_add-w-4 c =
     record {
@@ -45,12 +33,6 @@ overflow_add-w-4 c =
           (search rules) c.shifted-a-2.ensures c.shifted-b.result (search rules)
           c.shifted-b.ensures;
     }
-
-pub bounds-w-at-4 : goal.bounds-w-at-4
-bounds-w-at-4 c = simp length-set (omega arith)
-
-pub bounds-w-at-5 : goal.bounds-w-at-5
-bounds-w-at-5 c = simp length-set (omega arith)
 
 pub returns : goal.returns
 returns c =

@@ -6,21 +6,6 @@ use Rattle.pauli_group.proofs.rows.put_rows.Goals as goal
 pub loop-i-init : goal.loop-i-init
 loop-i-init c = rows_none _ _ _ _ _ c.fits-w (omega (arith, c.told-w, c.args.list.inside)) c.requires.0
 
-pub overflow_mul-at : goal.overflow_mul-at
-overflow_mul-at c =
-    let in_rows = row_in c.loop-i.i c.args.list.count c.args.stride c.loop-i-test.true in
-    omega (arith, in_rows, c.requires.0, c.args.list.inside)
-
-pub overflow_add-at : goal.overflow_add-at
-overflow_add-at c =
-    let in_rows = row_in c.loop-i.i c.args.list.count c.args.stride c.loop-i-test.true in
-    omega (arith, in_rows, c.requires.0, c.args.list.inside)
-
-pub clear_bits-requires : goal.clear_bits-requires
-clear_bits-requires c =
-    let in_rows = row_in c.loop-i.i c.args.list.count c.args.stride c.loop-i-test.true in
-    omega (arith, in_rows, c.requires.0, c.args.list.inside, c.loop-i.invariant.rest.size, c.told-w)
-
 pub put_row-requires : goal.put_row-requires
 put_row-requires c =
     let in_rows = row_in c.loop-i.i c.args.list.count c.args.stride c.loop-i-test.true in

@@ -1,12 +1,9 @@
-use Rattle.std.proofs.Common.{List, ℕ, sym, refl, ap, ◌∙◌}
+use Rattle.std.proofs.Common.{List, ℕ, sym, ap, ◌∙◌}
 use Rattle.std.proofs.lemmas.List.{nil_from_length}
 use Rattle.pauli.specs.Signed.{paulis_in}
 use Rattle.pauli_theory.specs.Standard.{some_anticommute}
 use Rattle.pauli_group.proofs.scan.ScanLaws.{two_anticommute, found_first, past_first}
 use Rattle.pauli_group.proofs.scan.some_anticommute.Goals as goal
-
-pub loop-words-init : goal.loop-words-init
-loop-words-init c = refl
 
 pub returns-then-anticommutes_with_some : goal.returns-then-anticommutes_with_some
 unfolding paulis_in

@@ -35,8 +35,6 @@ loop-i-preserved c = let loop = c.loop-i in
       store_further w loop.w base i c.times_if.result loop.invariant.1 _ c.store.ensures,
     )
 
-pub returns : goal.returns
-returns c = let loop = c.loop-i in
-    let w = c.args.w.now in let base = c.args.list.base in let n = c.args.list.count in let k = c.args.k in
-    let x = held c.args.x in let z = held c.args.z in
-    let gs = list_in w base n in record { list = stored_all normal (cleared k x z gs) base n w loop.i loop.w loop.invariant.0 (cleared_length k x z gs ∙ length_list w base n) loop.auto.i-end c.loop-i-test.false; rest = loop.invariant.0.rest }
+pub returns-clause-list : goal.returns-clause-list
+returns-clause-list c =
+    stored_all _ _ _ _ _ _ _ c.loop-i.invariant.0 (cleared_length _ _ _ _ ∙ length_list _ _ _) c.loop-i.auto.i-end c.loop-i-test.false

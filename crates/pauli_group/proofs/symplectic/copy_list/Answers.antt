@@ -19,10 +19,6 @@ loop-i-preserved c =
     (c.load-p.ensures ∙ ap normal (pauli_kept_after loop.invariant.rest _ (omega (arith, c.requires)) ∙ sym (list_at_lem w from n loop.i I c.loop-i-test.true)))
     _ c.store.ensures
 
-pub returns : goal.returns
-returns c =
-    let loop = c.loop-i in
-    let w = c.args.w.now in
-    let from = c.args.from.base in
-    let n = c.args.from.count in
-    record { list = stored_all normal (list_in w from n) _ n w loop.i loop.w loop.invariant (length_list w from n) loop.auto.i-end c.loop-i-test.false; rest = loop.invariant.rest }
+pub returns-clause-list : goal.returns-clause-list
+returns-clause-list c =
+    stored_all _ _ _ _ _ _ _ c.loop-i.invariant (length_list _ _ _) c.loop-i.auto.i-end c.loop-i-test.false

@@ -4,10 +4,11 @@ use Rattle.pauli.specs.Signed.{held}
 use Rattle.pauli_group.proofs.symplectic.PairLaws.{Answered, position_found}
 use Rattle.pauli_group.proofs.symplectic.first_anticommuting.Goals as goal
 
-pub returns : goal.returns
-returns c =
+pub returns-clause-position : goal.returns-clause-position
+returns-clause-position c =
     let x = held c.args.x in
     let all = position_found x c.args.list.now _
     (IsFirst-from_position _ _ _ (Answered x true) (Answered x false) c.position.ensures.ran (YieldsList-from_slice c.args.list.now cc)
     (λ y q k. search (rules, tests))
-    (λ y q k. (search rules, search (rules, tests)))) in record { position = all.0; below = all.1 }
+    (λ y q k. (search rules, search (rules, tests)))) in
+    all.0
