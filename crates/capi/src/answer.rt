@@ -1,4 +1,5 @@
-// The answer of a call as five numbers, and what codes each kind of answer.
+// The answer of a call as five numbers, and what codes each kind of answer. Each code is a match of its own: a function that takes
+// the answer and a closure for its numbers is longer than these matches.
 ghost use Rattle.std.specs.Prelude.{◌≡◌, length};
 ghost use Rattle.pauli.specs.Lookups.{looked_in};
 ghost use Rattle.pauli.specs.Refusals.{number_of, told_of, told_by};
@@ -80,22 +81,11 @@ pub(crate) fn code_looked(found: Result<JoinedEntry, Refusal>) -> Answer
     }
 }
 
-// How many phases there are.
-fn phase_count(phases: Phases) -> usize
-    ensures { result ≡ length (phases_told phases) }
-{
-    match phases {
-        Phases::Zero => 1,
-        Phases::ZeroTwo => 2,
-        Phases::All => 4,
-    }
-}
-
 pub(crate) fn code_phases(found: Result<Phases, Refusal>) -> Answer
     ensures { result ≡ code_phases (told_by phases_told found) }
 {
     match found {
-        Ok(phases) => code_values(phase_count(phases), 0, 0),
+        Ok(phases) => code_values(phases.count() as usize, 0, 0),
         Err(refusal) => code_refusal(refusal),
     }
 }
