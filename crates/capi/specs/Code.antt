@@ -1,6 +1,6 @@
 -- The five numbers of each answer.
 use Rattle.std.proofs.Math.Option.{Option, some, none as nothing}
-use Rattle.std.specs.Prelude.{List, ℕ, zero, suc, length, Option as CodeOption, Some, None}
+use Rattle.std.specs.Prelude.{List, ℕ, length, Option as CodeOption, Some, None}
 use Rattle.pauli.specs.Told.{Told, answer, refused}
 use Rattle.pauli.specs.JoinCalls.{Looked, Stretch}
 use Rattle.pauli_theory.specs.Order.{Order, equal, less, greater, no_order}

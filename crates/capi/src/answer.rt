@@ -1,5 +1,5 @@
 // The answer of a call as five numbers, and what codes each kind of answer.
-ghost use Rattle.std.specs.Prelude.{◌≡◌, length};
+ghost use Rattle.std.specs.Prelude.{◌≡◌};
 ghost use Rattle.pauli.specs.Lookups.{looked_in};
 ghost use Rattle.pauli.specs.Refusals.{number_of, told_of, told_by};
 ghost use Rattle.pauli_group.specs.Answers.{phases_told, yes_number, factored_in, order_of};
@@ -56,48 +56,31 @@ pub(crate) fn code_values(first: usize, second: usize, third: usize) -> Answer
 pub(crate) fn code_number(told: Result<usize, Refusal>) -> Answer
     ensures { result ≡ code_number (told_of told) }
 {
-    match told {
-        Ok(n) => code_values(n, 0, 0),
-        Err(refusal) => code_refusal(refusal),
-    }
+    told.map_or_else(code_refusal, |n| code_values(n, 0, 0))
 }
 
 pub(crate) fn code_decided(decided: Result<bool, Refusal>) -> Answer
     ensures { result ≡ code_number (told_by yes_number decided) }
 {
-    match decided {
-        Ok(yes) => code_values(usize::from(yes), 0, 0),
-        Err(refusal) => code_refusal(refusal),
-    }
+    decided.map_or_else(code_refusal, |yes| code_values(usize::from(yes), 0, 0))
 }
 
 pub(crate) fn code_looked(found: Result<JoinedEntry, Refusal>) -> Answer
     ensures { result ≡ code_looked (told_by looked_in found) }
 {
-    match found {
-        Ok(e) => code_values(e.exponent as usize, e.xcount, e.zcount),
-        Err(refusal) => code_refusal(refusal),
-    }
-}
-
-// How many phases there are.
-fn phase_count(phases: Phases) -> usize
-    ensures { result ≡ length (phases_told phases) }
-{
-    match phases {
-        Phases::Zero => 1,
-        Phases::ZeroTwo => 2,
-        Phases::All => 4,
-    }
+    found.map_or_else(
+        code_refusal,
+        |e| code_values(e.exponent as usize, e.xcount, e.zcount),
+    )
 }
 
 pub(crate) fn code_phases(found: Result<Phases, Refusal>) -> Answer
     ensures { result ≡ code_phases (told_by phases_told found) }
 {
-    match found {
-        Ok(phases) => code_values(phase_count(phases), 0, 0),
-        Err(refusal) => code_refusal(refusal),
-    }
+    found.map_or_else(
+        code_refusal,
+        |phases| code_values(phases.count() as usize, 0, 0),
+    )
 }
 
 pub(crate) fn code_member(found: Result<Option<Factors>, Refusal>) -> Answer
@@ -113,19 +96,19 @@ pub(crate) fn code_member(found: Result<Option<Factors>, Refusal>) -> Answer
 pub(crate) fn code_results(found: Result<Results, Refusal>) -> Answer
     ensures { result ≡ code_results (told_by totals_in found) }
 {
-    match found {
-        Ok(results) => code_values(results.count, results.bytes, 0),
-        Err(refusal) => code_refusal(refusal),
-    }
+    found.map_or_else(
+        code_refusal,
+        |results| code_values(results.count, results.bytes, 0),
+    )
 }
 
 pub(crate) fn code_sizes(found: Result<JoinedSizes, Refusal>) -> Answer
     ensures { result ≡ code_sizes (told_by sizes_in found) }
 {
-    match found {
-        Ok(sizes) => code_values(sizes.bytes, sizes.count, sizes.qubits),
-        Err(refusal) => code_refusal(refusal),
-    }
+    found.map_or_else(
+        code_refusal,
+        |sizes| code_values(sizes.bytes, sizes.count, sizes.qubits),
+    )
 }
 
 fn order_number(order: Option<Ordering>) -> usize
@@ -142,10 +125,7 @@ fn order_number(order: Option<Ordering>) -> usize
 pub(crate) fn code_order(found: Result<Option<Ordering>, Refusal>) -> Answer
     ensures { result ≡ code_order (told_by order_of found) }
 {
-    match found {
-        Ok(order) => code_values(order_number(order), 0, 0),
-        Err(refusal) => code_refusal(refusal),
-    }
+    found.map_or_else(code_refusal, |order| code_values(order_number(order), 0, 0))
 }
 
 pub(crate) fn code_form(rank: Option<usize>) -> Answer

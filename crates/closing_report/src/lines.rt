@@ -20,7 +20,7 @@ use pauli_group::member::IndexSet;
 // ---- the first line
 
 // The phases, with commas.
-fn phases_word(phases: Phases) -> &'static [u8]
+pub fn phases_word(phases: Phases) -> &'static [u8]
     ensures { (result.now ≡ phases_text (step_told phases)) × (length result.now ≤ 7) }
 {
     match phases {

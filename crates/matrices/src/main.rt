@@ -16,83 +16,35 @@ use binar::sum::bitxor_assign;
 use std::io;
 use std::io::Write;
 
-// ---- lines
-
-// A line to be printed; what its buffer has no room for is cut.
-#[derive(Drop)]
-struct Line {
-    bytes: [u8; 1024],
-    len: usize,
-    ghost inside: { len ≤ 1024 },
-}
-
-impl Line {
-    fn new() -> Self {
-        Line {
-            bytes: [0; 1024],
-            len: 0,
-        }
-    }
-
-    fn put(&mut self, b: u8) {
-        if self.len < self.bytes.len() {
-            self.bytes[self.len] = b;
-            self.len += 1;
-        }
-    }
-
-    fn put_text(&mut self, text: &[u8]) {
-        for b in text {
-            self.put(*b);
-        }
-    }
-
-    fn put_number(&mut self, x: u64) {
-        let mut digits = itoa::Buffer::new();
-        self.put_text(digits.format(x).as_bytes());
-    }
-
-    // The first cols bits of the row at word at, or `-`.
-    fn put_bits(&mut self, w: &[u64], at: usize, cols: usize)
-        requires { at + (cols + 63) / 64 ≤ length w.now }
-    {
-        if cols == 0 {
-            self.put(b'-');
-        }
-        for k in 0..cols {
-            self.put(if index(w, at, k) == 1 { b'1' } else { b'0' });
-        }
-    }
-
-    // The pivots, each after a space, or `-`.
-    fn put_pivots(&mut self, pivots: &[u64]) {
-        if pivots.is_empty() {
-            self.put_text(b" -");
-        }
-        for pivot in pivots {
-            self.put(b' ');
-            self.put_number(*pivot);
-        }
-    }
-
-    fn print<W: Write>(mut self, out: &mut W) -> io::Result<()> {
-        self.put(b'\n');
-        out.write_all(&self.bytes[..self.len])
-    }
-}
-
 // ---- the form
 
+// The first cols bits of the row at word at, or `-`.
+fn print_bits<W: Write>(out: &mut W, w: &[u64], at: usize, cols: usize) -> io::Result<()>
+    requires { at + (cols + 63) / 64 ≤ length w.now }
+{
+    if cols == 0 {
+        return write!(out, "-");
+    }
+    for k in 0..cols {
+        write!(out, "{}", index(w, at, k))?;
+    }
+    Ok(())
+}
+
+// The pivots, each after a space, or `-`.
+fn print_pivots<W: Write>(out: &mut W, pivots: &[u64]) -> io::Result<()> {
+    if pivots.is_empty() {
+        return writeln!(out, " -");
+    }
+    for pivot in pivots {
+        write!(out, " {pivot}")?;
+    }
+    writeln!(out)
+}
+
 fn print_head<W: Write>(out: &mut W, rows: usize, cols: usize, pivots: &[u64]) -> io::Result<()> {
-    let mut line = Line::new();
-    line.put_number(rows as u64);
-    line.put_text(b" by ");
-    line.put_number(cols as u64);
-    line.put_text(b" rank ");
-    line.put_number(pivots.len() as u64);
-    line.put_text(b" pivots");
-    line.put_pivots(pivots);
-    line.print(out)
+    write!(out, "{rows} by {cols} rank {} pivots", pivots.len())?;
+    print_pivots(out, pivots)
 }
 
 // The rows: cols bits of R, and a bit of T for each row, behind R's width words.
@@ -100,11 +52,10 @@ fn print_rows<W: Write>(out: &mut W, w: &[u64], width: usize, shape: Layout) -> 
     requires { (shape.rows * shape.stride ≤ length w.now) × (shape.stride ≡ width + (shape.rows + 63) / 64) × (shape.cols ≤ 64 * width) }
 {
     for i in 0..shape.rows {
-        let mut line = Line::new();
-        line.put_bits(w, i * shape.stride, shape.cols);
-        line.put(b' ');
-        line.put_bits(w, i * shape.stride + width, shape.rows);
-        line.print(out)?;
+        print_bits(out, w, i * shape.stride, shape.cols)?;
+        write!(out, " ")?;
+        print_bits(out, w, i * shape.stride + width, shape.rows)?;
+        writeln!(out)?;
     }
     Ok(())
 }
@@ -149,6 +100,15 @@ fn set_unit(w: &mut [u64], at: usize, stride: usize, k: usize)
     flip(w, at, k);
 }
 
+// The line of a set of rows, a bit for each from word at on.
+fn print_set<W: Write>(out: &mut W, w: &[u64], at: usize, rows: usize) -> io::Result<()>
+    requires { at + (rows + 63) / 64 ≤ length w.now }
+{
+    write!(out, "solve ")?;
+    print_bits(out, w, at, rows)?;
+    writeln!(out)
+}
+
 // Prints the set of rows that sums to the target, or that there is none.
 fn print_solution<W: Write>(
     out: &mut W,
@@ -161,14 +121,11 @@ fn print_solution<W: Write>(
     requires { FormLeft w.old shape.stride shape.rows shape.cols rank at × (shape.stride ≡ width + (shape.rows + 63) / 64) }
     ensures { FormLeft w.new shape.stride shape.rows shape.cols rank at }
 {
-    let mut line = Line::new();
-    line.put_text(b"solve ");
     if transpose_solve(w, shape, rank, at) {
-        line.put_bits(w, at + width, shape.rows);
+        print_set(out, w, at + width, shape.rows)
     } else {
-        line.put_text(b"none");
+        writeln!(out, "solve none")
     }
-    line.print(out)
 }
 
 // Prints all that is said of the matrix at the front of w. Its T words and the target's row are zero at entry.
@@ -192,7 +149,8 @@ fn print_form<W: Write>(out: &mut W, w: &mut [u64], width: usize, shape: Layout)
     Ok(())
 }
 
-// ---- matrices
+// ---- matrices: `given`, `random` and `repeated` share three lines and differ in what fills the rows; a function over a closure that
+// fills them is longer.
 
 // The row at word at from its digits.
 fn read_row(w: &mut [u64], at: usize, digits: &[u8])

@@ -29,7 +29,7 @@ fn print_output<W: Write>(to: &mut W, out: &[u8], n: usize, f: u8) -> io::Result
     }
 }
 
-// The rest of the line of a call that takes no work area.
+// The rest of a line that says nothing of the work area: the call takes none, or is the closing report.
 pub(crate) fn end_line<W: Write>(to: &mut W, out: &[u8], n: usize, f: u8) -> io::Result<()> {
     print_output(to, out, n, f)?;
     writeln!(to, "none")
@@ -55,7 +55,7 @@ fn print_work<W: Write>(to: &mut W, work: &[u64], f: u8) -> io::Result<()> {
     writeln!(to, "mixed")
 }
 
-// The rest of the line of a call that takes a work area.
+// The rest of a line that tells what became of the work area.
 pub(crate) fn end_work_line<W: Write>(
     to: &mut W,
     out: &[u8],

@@ -8,32 +8,34 @@
 
 ghost use Rattle.std.specs.Prelude.{◌≤◌, IfOk, length};
 
-use crate::runs::{run_group, run_rolls};
+use crate::request::{Operation, Request};
+use crate::runs::run;
 use pauli::bytes::u32_at;
-use pauli_group::promise::{Promise, Promises};
 use std::io;
 use std::io::{Read, Write};
 
 // The line of a request.
 mod lines;
+// What a request asks for.
+mod request;
 // What the calls tell.
 mod tells;
 // The calls.
 mod runs;
 
-pub(crate) const MOST_BYTES: usize = 262144;
+const MOST_BYTES: usize = 262144;
 
 const MOST_WORDS: usize = 40960;
 
 const MOST_REQUESTS: u64 = 4294967295;
 
 // Whether the promises and the fill are in range.
-fn is_allowed(request: &[u8; 28]) -> bool {
-    request[1] <= 2 && request[2] <= 2 && request[3] > 0
+fn is_allowed(head: &[u8; 28]) -> bool {
+    head[1] <= 2 && head[2] <= 2 && head[3] > 0
 }
 
-// Reads until the slice is full or the input ends, and tells how many bytes were read. Also in report: a library of twelve lines for
-// two programs is no plainer.
+// Reads until the slice is full or the input ends, and tells how many bytes were read. Also in report: a library of twelve
+// lines for two programs is no plainer.
 fn read_full<R: Read>(from: &mut R, bytes: &mut [u8]) -> io::Result<usize>
     ensures { IfOk result (λ n. n ≤ length bytes.new) }
 {
@@ -55,102 +57,58 @@ fn read_string<R: Read>(from: &mut R, b: &mut [u8], n: usize) -> io::Result<bool
     Ok(read_full(from, &mut b[..n])? == n)
 }
 
-// Makes the call of a request, and tells whether there is one of that number.
-fn run<'a, W: Write>(
-    to: &mut W,
-    request: &[u8; 28],
-    a: usize,
-    b: usize,
-    first: &'a [u8],
-    second: &'a [u8],
-    out: &mut [u8],
-    work: &mut [u64],
-) -> io::Result<bool> {
-    let f = request[3];
-    out.fill(f);
-    work.fill(u64::from_le_bytes([f; 8]));
-    if run_rolls(to, request[0], a, b, first, second, out, f)? {
-        return Ok(true);
-    }
-    run_group(
-        to,
-        request[0],
-        a,
-        u32_at(request, 4),
-        u32_at(request, 8),
-        Promises {
-            left: Promise::from(u64::from(request[1])),
-            right: Promise::from(u64::from(request[2])),
-        },
-        first,
-        second,
-        work,
-        out,
-        f,
-    )
+// Where the strings of a request are read to, and what its call is lent.
+#[derive(Drop)]
+struct Buffers {
+    first: [u8; MOST_BYTES],
+    second: [u8; MOST_BYTES],
+    out: [u8; MOST_BYTES],
+    work: [u64; MOST_WORDS],
 }
 
 // Answers one request, and tells whether it was one.
 fn answer<R: Read, W: Write>(
     from: &mut R,
     to: &mut W,
-    request: &[u8; 28],
-    first: &mut [u8],
-    second: &mut [u8],
-    out: &mut [u8],
-    work: &mut [u64],
+    head: &[u8; 28],
+    buffers: &mut Buffers,
 ) -> io::Result<bool> {
-    if !is_allowed(request) {
+    let lent = u32_at(head, 12) as usize;
+    let words = u32_at(head, 16) as usize;
+    let n = u32_at(head, 20) as usize;
+    let m = u32_at(head, 24) as usize;
+    if !is_allowed(head) || words > MOST_WORDS || lent.max(n).max(m) > MOST_BYTES {
         return Ok(false);
     }
-    let a = u32_at(request, 4) as usize;
-    let b = u32_at(request, 8) as usize;
-    let lent = u32_at(request, 12) as usize;
-    let words = u32_at(request, 16) as usize;
-    let n = u32_at(request, 20) as usize;
-    let m = u32_at(request, 24) as usize;
-    if words > work.len() || lent > out.len() || n > first.len() || m > second.len() {
+    if !read_string(from, &mut buffers.first, n)? || !read_string(from, &mut buffers.second, m)? {
         return Ok(false);
     }
-    if !read_string(from, first, n)? || !read_string(from, second, m)? {
+    let Ok(operation) = Operation::try_from(head[0]) else {
         return Ok(false);
-    }
-    run(
-        to,
-        request,
-        a,
-        b,
-        &first[..n],
-        &second[..m],
-        &mut out[..lent],
-        &mut work[..words],
-    )
+    };
+    let request = Request::new(head, &buffers.first[..n], &buffers.second[..m]);
+    let work = &mut buffers.work[..];
+    let out = &mut buffers.out[..];
+    run(to, operation, request, &mut work[..words], &mut out[..lent])?;
+    Ok(true)
 }
 
 fn main(rt: HostRuntime) -> io::Result<()> {
     let mut from = rt.reader();
     let mut to = io::writer(&rt);
-    let mut request = [0u8; 28];
-    let mut first = [0u8; MOST_BYTES];
-    let mut second = [0u8; MOST_BYTES];
-    let mut out = [0u8; MOST_BYTES];
-    let mut work = [0u64; MOST_WORDS];
+    let mut head = [0u8; 28];
+    let mut buffers = Buffers {
+        first: [0; MOST_BYTES],
+        second: [0; MOST_BYTES],
+        out: [0; MOST_BYTES],
+        work: [0; MOST_WORDS],
+    };
     for _ in 0..MOST_REQUESTS {
-        let got = read_full(&mut from, &mut request)?;
+        let got = read_full(&mut from, &mut head)?;
         if got == 0 {
             break;
         }
-        if got < 28
-            || !answer(
-                &mut from,
-                &mut to,
-                &request,
-                &mut first,
-                &mut second,
-                &mut out,
-                &mut work,
-            )?
-        {
+        if got < 28 || !answer(&mut from, &mut to, &head, &mut buffers)? {
             writeln!(to, "bad request")?;
             break;
         }

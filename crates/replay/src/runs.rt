@@ -1,8 +1,9 @@
-// The calls, by the number of the operation.
-use crate::MOST_BYTES;
-use crate::lines::{end_line, end_work_line, print_bytes, print_wrote};
+// The calls, and what each tells.
+use crate::lines::{end_line, end_work_line, print_wrote};
+use crate::request::{Asked, OnRolls, Operation, Request, Written};
 use crate::tells::{
-    print_compared, print_decided, print_entry, print_member, print_number, print_phases,
+    print_body, print_compared, print_decided, print_entry, print_member, print_number,
+    print_phases,
 };
 use closing_report::report::closing_report;
 use pauli::join::join;
@@ -17,174 +18,119 @@ use pauli_group::factorization::indexed_factorization_of;
 use pauli_group::listing::elements;
 use pauli_group::modulo::modulo;
 use pauli_group::order::partial_cmp;
-use pauli_group::promise::{Promise, Promises};
 use pauli_group::quotient::try_quotient;
 use pauli_group::symplectic::symplectic_form_of;
 use std::io;
 use std::io::Write;
 
-fn run_body<'a, W: Write>(
+// A call that takes no work area, and how many bytes it wrote.
+fn run_rolls<W: Write>(
     to: &mut W,
-    first: &'a [u8],
-    second: &'a [u8],
-    n: usize,
-    out: &[u8],
-    f: u8,
-) -> io::Result<()> {
-    write!(to, "body ")?;
-    print_bytes(to, joined_body(first, second, n))?;
-    end_line(to, out, 0, f)
-}
-
-// A call on one list that writes nothing.
-fn run_list<W: Write>(
-    to: &mut W,
-    op: u8,
-    first: &[u8],
-    promise: Promise,
-    work: &mut [u64],
-) -> io::Result<()> {
-    match op {
-        2 => print_number(to, "rank", rank(first, work)),
-        3 => print_phases(to, phases(first, promise, work)),
-        4 => print_decided(to, "abelian", is_abelian(first, promise, work)),
-        5 => print_decided(to, "stabilizer", is_stabilizer_group(first, promise, work)),
-        _ => print_number(to, "log2", log2_size(first, promise, work)),
-    }
-}
-
-fn run_member<W: Write>(
-    to: &mut W,
-    first: &[u8],
-    second: &[u8],
-    a: usize,
-    promise: Promise,
-    work: &mut [u64],
+    call: OnRolls,
+    request: Request,
     out: &mut [u8],
-    f: u8,
-) -> io::Result<()> {
-    let found = indexed_factorization_of(first, second, a, promise, work, out);
-    let count = print_member(to, found)?;
-    if count > MOST_BYTES {
-        return Ok(());
+) -> io::Result<usize> {
+    let (first, second) = (request.first, request.second);
+    let (a, b) = (request.a as usize, request.b as usize);
+    match call {
+        OnRolls::Product => return print_wrote(to, product(first, a, second, b, out)),
+        OnRolls::Join => return print_wrote(to, join(first, second, out)),
+        OnRolls::Check => print_number(to, "count", check_roll(first))?,
+        OnRolls::Body => print_body(to, joined_body(first, second, a))?,
+        OnRolls::Entry => print_entry(to, joined_entry(first, second, a))?,
     }
-    end_work_line(to, out, 2 * count, work, f)
+    Ok(0)
 }
 
-// A call on one list that writes a roll.
+fn run_asked<W: Write>(
+    to: &mut W,
+    call: Asked,
+    request: Request,
+    work: &mut [u64],
+) -> io::Result<()> {
+    let (first, second) = (request.first, request.second);
+    let promises = request.promises;
+    let promise = promises.left;
+    match call {
+        Asked::Rank => print_number(to, "rank", rank(first, work)),
+        Asked::Phases => print_phases(to, phases(first, promise, work)),
+        Asked::Abelian => print_decided(to, "abelian", is_abelian(first, promise, work)),
+        Asked::Stabilizer => {
+            print_decided(to, "stabilizer", is_stabilizer_group(first, promise, work))
+        }
+        Asked::Log2Size => print_number(to, "log2", log2_size(first, promise, work)),
+        Asked::Order => print_compared(to, partial_cmp(first, second, promises, work)),
+    }
+}
+
+// A call that writes a roll, and how many bytes it wrote.
 fn run_written<W: Write>(
     to: &mut W,
-    op: u8,
-    start: u32,
-    count: u32,
-    promise: Promise,
-    first: &[u8],
+    call: Written,
+    request: Request,
     work: &mut [u64],
     out: &mut [u8],
 ) -> io::Result<usize> {
-    let wrote = match op {
-        1 => standard_generators(first, work, out),
-        8 => elements(first, promise, start, count, work, out),
-        _ => symplectic_form_of(first, work, out),
+    let (first, second) = (request.first, request.second);
+    let promises = request.promises;
+    let wrote = match call {
+        Written::Generators => standard_generators(first, work, out),
+        Written::Elements => elements(first, promises.left, request.a, request.b, work, out),
+        Written::Symplectic => symplectic_form_of(first, work, out),
+        Written::Modulo => modulo(first, second, promises, work, out),
+        Written::Quotient => try_quotient(first, second, promises, work, out),
+        Written::Common => bitand(first, second, promises, work, out),
     };
     print_wrote(to, wrote)
 }
 
-// A call on two lists that writes a roll.
-fn run_two<W: Write>(
+// Membership, and how many bytes it wrote.
+fn run_member<W: Write>(
     to: &mut W,
-    op: u8,
-    promises: Promises,
-    first: &[u8],
-    second: &[u8],
+    request: Request,
     work: &mut [u64],
     out: &mut [u8],
 ) -> io::Result<usize> {
-    let wrote = match op {
-        15 => modulo(first, second, promises, work, out),
-        16 => try_quotient(first, second, promises, work, out),
-        _ => bitand(first, second, promises, work, out),
-    };
-    print_wrote(to, wrote)
+    let (first, second) = (request.first, request.second);
+    let promise = request.promises.left;
+    let i = request.a as usize;
+    print_member(
+        to,
+        indexed_factorization_of(first, second, i, promise, work, out),
+    )
 }
 
-// Whether the operation is a call on one list that writes a roll.
-fn writes_one(op: u8) -> bool {
-    matches!(op, 1 | 8 | 9)
-}
-
-// A call on groups, and whether there is one of that number.
-pub(crate) fn run_group<W: Write>(
+// Fills what the call is lent, makes the call, and prints its line.
+pub(crate) fn run<W: Write>(
     to: &mut W,
-    op: u8,
-    a: usize,
-    start: u32,
-    count: u32,
-    promises: Promises,
-    first: &[u8],
-    second: &[u8],
+    operation: Operation,
+    request: Request,
     work: &mut [u64],
     out: &mut [u8],
-    f: u8,
-) -> io::Result<bool> {
-    if writes_one(op) {
-        let n = run_written(to, op, start, count, promises.left, first, work, out)?;
-        end_work_line(to, out, n, work, f)?;
-        return Ok(true);
+) -> io::Result<()> {
+    let fill = request.fill;
+    work.fill(u64::from_le_bytes([fill; 8]));
+    out.fill(fill);
+    match operation {
+        Operation::OnRolls(call) => {
+            let n = run_rolls(to, call, request, out)?;
+            end_line(to, out, n, fill)
+        }
+        Operation::Asked(call) => {
+            run_asked(to, call, request, work)?;
+            end_work_line(to, out, 0, work, fill)
+        }
+        Operation::Written(call) => {
+            let n = run_written(to, call, request, work, out)?;
+            end_work_line(to, out, n, work, fill)
+        }
+        Operation::Member => {
+            let n = run_member(to, request, work, out)?;
+            end_work_line(to, out, n, work, fill)
+        }
+        Operation::Report => {
+            let n = print_wrote(to, closing_report(request.first, work, out))?;
+            end_line(to, out, n, fill)
+        }
     }
-    match op {
-        0..=6 => {
-            run_list(to, op, first, promises.left, work)?;
-            end_work_line(to, out, 0, work, f)?;
-        }
-        7 => run_member(to, first, second, a, promises.left, work, out, f)?,
-        14 => {
-            print_compared(to, partial_cmp(first, second, promises, work))?;
-            end_work_line(to, out, 0, work, f)?;
-        }
-        18 => {
-            let n = print_wrote(to, closing_report(first, work, out))?;
-            end_line(to, out, n, f)?;
-        }
-        8..=17 => {
-            let n = run_two(to, op, promises, first, second, work, out)?;
-            end_work_line(to, out, n, work, f)?;
-        }
-        _ => return Ok(false),
-    }
-    Ok(true)
-}
-
-// A call on rolls alone, and whether there is one of that number.
-pub(crate) fn run_rolls<'a, W: Write>(
-    to: &mut W,
-    op: u8,
-    a: usize,
-    b: usize,
-    first: &'a [u8],
-    second: &'a [u8],
-    out: &mut [u8],
-    f: u8,
-) -> io::Result<bool> {
-    match op {
-        0 => {
-            print_number(to, "count", check_roll(first))?;
-            end_line(to, out, 0, f)?;
-        }
-        10 => {
-            let n = print_wrote(to, product(first, a, second, b, out))?;
-            end_line(to, out, n, f)?;
-        }
-        11 => {
-            let n = print_wrote(to, join(first, second, out))?;
-            end_line(to, out, n, f)?;
-        }
-        12 => run_body(to, first, second, a, out, f)?,
-        13 => {
-            print_entry(to, joined_entry(first, second, a))?;
-            end_line(to, out, 0, f)?;
-        }
-        _ => return Ok(false),
-    }
-    Ok(true)
 }

@@ -1,4 +1,6 @@
 // What the calls tell, in words.
+use crate::lines::print_bytes;
+use closing_report::lines::phases_word;
 use pauli::lookup::JoinedEntry;
 use pauli::refusal::Refusal;
 use pauli_group::answers::{Factors, Phases};
@@ -20,9 +22,10 @@ pub(crate) fn print_number<W: Write>(
 
 pub(crate) fn print_phases<W: Write>(to: &mut W, found: Result<Phases, Refusal>) -> io::Result<()> {
     match found {
-        Ok(Phases::Zero) => write!(to, "phases 0"),
-        Ok(Phases::ZeroTwo) => write!(to, "phases 0,2"),
-        Ok(Phases::All) => write!(to, "phases 0,1,2,3"),
+        Ok(phases) => {
+            write!(to, "phases ")?;
+            to.write_all(phases_word(phases))
+        }
         Err(refusal) => write!(to, "{refusal}"),
     }
 }
@@ -39,6 +42,11 @@ pub(crate) fn print_decided<W: Write>(
     }
 }
 
+pub(crate) fn print_body<W: Write>(to: &mut W, body: &[u8]) -> io::Result<()> {
+    write!(to, "body ")?;
+    print_bytes(to, body)
+}
+
 pub(crate) fn print_entry<W: Write>(
     to: &mut W,
     found: Result<JoinedEntry, Refusal>,
@@ -49,7 +57,7 @@ pub(crate) fn print_entry<W: Write>(
     }
 }
 
-// What membership tells, and how many indexes it wrote.
+// What membership tells, and how many bytes it wrote: two for each index.
 pub(crate) fn print_member<W: Write>(
     to: &mut W,
     found: Result<Option<Factors>, Refusal>,
@@ -57,7 +65,7 @@ pub(crate) fn print_member<W: Write>(
     match found {
         Ok(Some(factors)) => {
             write!(to, "member {} phase {}", factors.count, factors.exponent)?;
-            Ok(factors.count)
+            Ok(factors.count.saturating_mul(2))
         }
         Ok(None) => {
             write!(to, "not member")?;

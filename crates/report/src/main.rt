@@ -12,8 +12,8 @@ use pauli_group::area::WORK_WORDS;
 use std::io;
 use std::io::Read;
 
-// Reads until the slice is full or the input ends, and tells how many bytes were read. Also in replay: a library of twelve lines for
-// two programs is no plainer.
+// Reads until the slice is full or the input ends, and tells how many bytes were read. Also in replay: a library of twelve
+// lines for two programs is no plainer.
 fn read_full<R: Read>(from: &mut R, bytes: &mut [u8]) -> io::Result<usize>
     ensures { IfOk result (λ n. n ≤ length bytes.new) }
 {

@@ -1,8 +1,7 @@
-use mathlib.Core.Path.{sym, ap, ◌∙◌}
+use mathlib.Core.Path.{sym}
 use native.Mathlib.Omega.{arith}
 use Rattle.pauli.proofs.joined.JoinLaws.{counts_joining}
 use Rattle.capi.proofs.roll_calls.StretchLaws.{located_refused, located_past, located_left, located_right}
-use Rattle.pauli.specs.Refusals.{told_by}
 use Rattle.capi.proofs.roll_calls.howhiruke_joined_body.Goals as goal
 
 pub returns-in-Err : goal.returns-in-Err

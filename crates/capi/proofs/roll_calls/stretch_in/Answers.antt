@@ -1,7 +1,7 @@
 use mathlib.Core.Path.{sym, ap, ◌∙◌}
 use native.Mathlib.Omega.{arith}
 use Rattle.pauli.specs.Told.{answer}
-use Rattle.pauli.proofs.joined.JoinLaws.{accepted_table, accepted_room}
+use Rattle.pauli.proofs.joined.JoinLaws.{accepted_room}
 use Rattle.capi.specs.Code.{code_body}
 use Rattle.pauli.specs.JoinCalls.{Stretch}
 use Rattle.capi.proofs.roll_calls.StretchLaws.{stretch_is}

@@ -1,0 +1,105 @@
+// A request: which call it asks for, and what it gives the call.
+use pauli::bytes::u32_at;
+use pauli_group::promise::{Promise, Promises};
+
+// A call that takes no work area.
+#[derive(Clone, Copy)]
+pub(crate) enum OnRolls {
+    Check,
+    Product,
+    Join,
+    Body,
+    Entry,
+}
+
+// A call that takes a work area and writes nothing.
+#[derive(Clone, Copy)]
+pub(crate) enum Asked {
+    Rank,
+    Phases,
+    Abelian,
+    Stabilizer,
+    Log2Size,
+    Order,
+}
+
+// A call that takes a work area and writes a roll.
+#[derive(Clone, Copy)]
+pub(crate) enum Written {
+    Generators,
+    Elements,
+    Symplectic,
+    Modulo,
+    Quotient,
+    Common,
+}
+
+#[derive(Clone, Copy)]
+pub(crate) enum Operation {
+    OnRolls(OnRolls),
+    Asked(Asked),
+    Written(Written),
+    Member,
+    Report,
+}
+
+// No operation has the number.
+#[derive(Drop)]
+pub(crate) struct Unknown;
+
+impl TryFrom<u8> for Operation {
+    type Error = Unknown;
+
+    fn try_from(number: u8) -> Result<Self, Unknown> {
+        match number {
+            0 => Ok(Operation::OnRolls(OnRolls::Check)),
+            1 => Ok(Operation::Written(Written::Generators)),
+            2 => Ok(Operation::Asked(Asked::Rank)),
+            3 => Ok(Operation::Asked(Asked::Phases)),
+            4 => Ok(Operation::Asked(Asked::Abelian)),
+            5 => Ok(Operation::Asked(Asked::Stabilizer)),
+            6 => Ok(Operation::Asked(Asked::Log2Size)),
+            7 => Ok(Operation::Member),
+            8 => Ok(Operation::Written(Written::Elements)),
+            9 => Ok(Operation::Written(Written::Symplectic)),
+            10 => Ok(Operation::OnRolls(OnRolls::Product)),
+            11 => Ok(Operation::OnRolls(OnRolls::Join)),
+            12 => Ok(Operation::OnRolls(OnRolls::Body)),
+            13 => Ok(Operation::OnRolls(OnRolls::Entry)),
+            14 => Ok(Operation::Asked(Asked::Order)),
+            15 => Ok(Operation::Written(Written::Modulo)),
+            16 => Ok(Operation::Written(Written::Quotient)),
+            17 => Ok(Operation::Written(Written::Common)),
+            18 => Ok(Operation::Report),
+            _ => Err(Unknown),
+        }
+    }
+}
+
+// What a call is given beside the output and the work area.
+#[derive(Clone, Copy)]
+pub(crate) struct Request<'a> {
+    pub(crate) a: u32,
+    pub(crate) b: u32,
+    pub(crate) promises: Promises,
+    // What fills the output and the work area before the call.
+    pub(crate) fill: u8,
+    pub(crate) first: &'a [u8],
+    pub(crate) second: &'a [u8],
+}
+
+impl<'a> Request<'a> {
+    pub(crate) fn new(head: &[u8; 28], first: &'a [u8], second: &'a [u8]) -> Self {
+        Request {
+            a: u32_at(head, 4),
+            b: u32_at(head, 8),
+            promises: Promises {
+                left: Promise::from(u64::from(head[1])),
+                right: Promise::from(u64::from(head[2])),
+            },
+            fill: head[3],
+            first,
+            second,
+        }
+    }
+}
