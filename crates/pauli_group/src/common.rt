@@ -103,12 +103,7 @@ fn shared_exponent(first: Phases, second: Phases, u: u64, v: u64) -> Option<u8>
 {
     let a = first.step();
     let b = second.step();
-    for e in 0..4 {
-        if ((e as u64) + 4 - u) % 4 % a + ((e as u64) + 4 - v) % 4 % b == 0 {
-            return Some(e);
-        }
-    }
-    None
+    (0..4).find(|e| (*e as u64 + 4 - u) % 4 % a + (*e as u64 + 4 - v) % 4 % b == 0)
 }
 
 // p with this exponent.
