@@ -10,7 +10,8 @@ ghost use Rattle.binar.specs.Laid.{laid_out};
 use crate::row::{index, swap_rows};
 use crate::sum::add_if;
 
-// How a matrix lies in a slice: rows rows of stride words, row i at i * stride, of which cols columns count.
+// How a matrix lies in a slice: rows rows of stride words, row i at i * stride, of which cols columns count. It does not hold the
+// slice, which is lent for changing: that it fits (rows * stride ≤ length) stands in each contract.
 #[derive(Clone, Copy)]
 pub struct Layout {
     pub stride: usize,

@@ -35,8 +35,8 @@ pub fn weight(w: &[u64], at: usize, n: usize) -> usize
     total
 }
 
-// 1 where the rows of n words at words i and j share an odd number of ones, else 0: a number, to be added without a branch, as
-// `index` is. A loop: for a chain the check found no proof.
+// 1 where the rows of n words at words i and j share an odd number of ones, else 0: a number, as the definition's, which a caller
+// can add. A loop: for a chain the check found no proof.
 pub fn dot(w: &[u64], i: usize, j: usize, n: usize) -> u64
     requires { (i + n ≤ length w.now) × (j + n ≤ length w.now) }
     ensures { result ≡ dot (row_at w.now i n) (row_at w.now j n) }

@@ -35,8 +35,8 @@ fn add_words(w: &mut [u64], to: usize, from: usize, n: usize, bit: u64)
 }
 
 // Adds the row of n words at word from to the one at word to, over GF(2), if bit is 1. It does the same work for both bits, since a
-// branch on the bit would be guessed wrong half of the time. Rows of five and six words, as a list of at most 128 has,
-// are added by functions of their own, whose length is a constant; add_words serves any length.
+// branch on the bit would be guessed wrong half of the time. Rows of five and six words, as a list of at most 128 has, are added by
+// `add_row`, whose length is a constant of its type; `add_words` serves any length.
 pub(crate) fn add_if(w: &mut [u64], to: usize, from: usize, n: usize, bit: u64)
     requires { TwoRows w.old to from n × (bit ≤ 1) }
     ensures { w.new ≡ put_row w.old to n (row_at w.old to n ⊕ bit * row_at w.old from n) }

@@ -12,11 +12,10 @@ ghost use Rattle.pauli.specs.Refusals.{told_of};
 
 use crate::input::split_input;
 use crate::listing::{write_listing, write_refused};
-use binar::row::clear_bits;
 use factorizations::stored::{factor_rolls, results};
 use pauli::refusal::{Reason, Refusal};
 use pauli::roll::Roll;
-use pauli_group::area::{WORK_WORDS, area_of};
+use pauli_group::area::{WORK_WORDS, area_of, clear};
 use pauli_group::checks::{Rolls, check_area};
 use pauli_group::promise::Promise;
 
@@ -77,7 +76,7 @@ fn write_and_clear(
     ensures area { w.new ≡ cleared w.old }
 {
     let wrote = write_text(input, w, out);
-    clear_bits(w, 0, WORK_WORDS);
+    clear(w);
     wrote
 }
 

@@ -4,17 +4,13 @@ ghost use Rattle.factorizations.specs.Put.{Put};
 ghost use Rattle.closing_report.specs.Decimal.{digits};
 ghost use Rattle.closing_report.specs.Lines.{labelled};
 
+use itoa::Buffer;
+
 // How many decimal digits a number has.
 pub(crate) fn number_length(n: usize) -> usize
     ensures { (result ≡ length (digits n)) × (result ≤ 20) }
 {
-    let mut k = 1;
-    let mut rest = n;
-    while rest >= 10 {
-        rest /= 10;
-        k += 1;
-    }
-    k
+    Buffer::new().format(n).len()
 }
 
 pub(crate) fn put_text(out: &mut [u8], at: usize, text: &[u8]) -> usize
@@ -26,18 +22,12 @@ pub(crate) fn put_text(out: &mut [u8], at: usize, text: &[u8]) -> usize
     end
 }
 
-// Puts the decimal digits of a number, from the last one on.
+// Puts the decimal digits of a number.
 pub(crate) fn put_number(out: &mut [u8], at: usize, n: usize) -> usize
     requires { at + length (digits n) ≤ length out.old }
     ensures { Put out.old at (digits n) out.new result }
 {
-    let end = at + number_length(n);
-    let mut rest = n;
-    for place in (at..end).rev() {
-        out[place] = b'0' + (rest % 10) as u8;
-        rest /= 10;
-    }
-    end
+    put_text(out, at, Buffer::new().format(n).as_bytes())
 }
 
 // Puts a label and a number behind it.

@@ -15,9 +15,8 @@ ghost use Rattle.pauli.specs.Refusals.{told_by, told_of};
 use crate::answers::Results;
 use crate::records::write_records;
 use crate::stored::{factor_rolls, results};
-use binar::row::clear_bits;
 use pauli::refusal::Refusal;
-use pauli_group::area::{WORK_WORDS, area_of};
+use pauli_group::area::{WORK_WORDS, area_of, clear};
 use pauli_group::checks::{Rolls, check_area, check_rolls};
 use pauli_group::promise::Promise;
 
@@ -48,7 +47,7 @@ fn write_factorizations(
 {
     factor_rolls(rolls, promise, w);
     let wrote = write_records(results(w, rolls.elements.count), out);
-    clear_bits(w, 0, WORK_WORDS);
+    clear(w);
     wrote
 }
 

@@ -1,10 +1,11 @@
 // The work area. The echelon form stands at its front; then come a row to solve for, the generators, the standard
 // generators and a further list.
-ghost use Rattle.std.specs.Prelude.{◌≡◌, ◌+◌, ◌*◌, ◌≤◌, length, take};
+ghost use Rattle.std.specs.Prelude.{◌≡◌, ℕ, ◌+◌, ◌*◌, ◌≤◌, List, length, take};
 ghost use Rattle.pauli.specs.Signed.{list_in, paulis_in};
 ghost use Rattle.std.specs.Borrow.{sem};
-ghost use Rattle.pauli_group.specs.WorkArea.{LendsArea};
+ghost use Rattle.pauli_group.specs.WorkArea.{LendsArea, cleared};
 
+use binar::row::clear_bits;
 use pauli::signed::paulis_at;
 
 // A work area has at least so many words, and only these are used.
@@ -52,4 +53,12 @@ pub fn area_of(work: &mut [u64]) -> &mut [u64; WORK_WORDS]
     ensures value { result.now ≡ take 4096 work.old }
 {
     work.first_chunk_mut::<WORK_WORDS>().unwrap()
+}
+
+// Makes the words of the area zero, as a call leaves them. The clause speaks of every area as long: so it holds of the one that the
+// call was given, whatever its work has left there.
+pub fn clear(w: &mut [u64; WORK_WORDS])
+    ensures { (work : List ℕ) → length work ≡ 4096 → w.new ≡ cleared work }
+{
+    clear_bits(w, 0, WORK_WORDS);
 }

@@ -37,8 +37,8 @@ fn stack_standard(pair: Pair, joint: &[u32], w: &mut [u64; WORK_WORDS]) -> Stack
     }
 }
 
-// Leaves the common basis of the groups of two rolls that can be joined, over the places of the joint support, in the further list's
-// place; tells how many elements it has.
+// Leaves the common basis of the groups of two rolls that can be joined, over the places of the joint support, in the further
+// list's place; tells how many elements it has.
 pub(crate) fn common_basis(pair: Pair, joint: &[u32], w: &mut [u64; WORK_WORDS]) -> usize
     requires { Joint (paulis (list_of pair.left.bytes.now)) (paulis (list_of pair.right.bytes.now)) joint.now }
     ensures few { result ≤ 128 }

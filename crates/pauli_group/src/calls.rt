@@ -11,11 +11,10 @@ ghost use Rattle.pauli_group.specs.CallContracts.{StandardCall, RankCall, Phases
 ghost use Rattle.pauli.specs.Refusals.{told_of};
 
 use crate::answers::Phases;
-use crate::area::{WORK_WORDS, area_of};
+use crate::area::{WORK_WORDS, area_of, clear};
 use crate::checks::check_list;
 use crate::group::{Description, describe_once, group_of};
 use crate::promise::Promise;
-use binar::row::clear_bits;
 use pauli::refusal::Refusal;
 use pauli::roll::Roll;
 use pauli::support::Support;
@@ -30,7 +29,7 @@ fn write_standard(roll: Roll, w: &mut [u64; WORK_WORDS], out: &mut [u8]) -> Resu
     let mut known = Support::new();
     let g = group_of(roll, &mut known, w);
     let wrote = write_roll(g.standards().paulis(w), known.qubits(), out);
-    clear_bits(w, 0, WORK_WORDS);
+    clear(w);
     wrote
 }
 

@@ -20,7 +20,7 @@ ghost use Rattle.pauli_group.specs.Inner.Shared.{Solving, exponent_over, exponen
 ghost use Rattle.pauli.specs.Refusals.{told_of};
 
 use crate::answers::Phases;
-use crate::area::{FURTHER, Span, WORK_WORDS, area_of};
+use crate::area::{FURTHER, Span, WORK_WORDS, area_of, clear};
 use crate::basis::common_basis;
 use crate::checks::check_pair;
 use crate::group::{Group, group_of};
@@ -30,7 +30,6 @@ use crate::order::order_of;
 use crate::promise::{Promise, Promises};
 use crate::scan::put_phase;
 use crate::standard::signs_of;
-use binar::row::clear_bits;
 use pauli::joined::{Pair, join_support};
 use pauli::refusal::Refusal;
 use pauli::roll::Roll;
@@ -64,6 +63,8 @@ fn exponent_of(
 }
 
 // Notes with each of the m Paulis of the further list the exponent of the product that solves for it.
+// `OnPlaces` is a fact of the words in the area, which the next store may change: no value carries it.
+// m is a number: a Span would need, in place of m ≤ 128, that it stands behind the form and the generators. So in note_by.
 fn note_exponents(w: &mut [u64; WORK_WORDS], m: usize, group: Group, own: &[u32], joint: &[u32])
     requires { (m ≤ 128) × Solving w.old group.count group.places group.rank × (group.places ≡ length own.now) × OnPlaces (length joint.now) (list_in w.old further_at m) × All (MovablePauli joint.now own.now) (list_in w.old further_at m) }
     ensures { list_in w.new further_at m ≡ map (λ p. noted (exponent_over joint.now own.now group.count group.places w.old p) p) (list_in w.old further_at m) }
@@ -102,12 +103,7 @@ fn shared_exponent(first: Phases, second: Phases, u: u64, v: u64) -> Option<u8>
 {
     let a = first.step();
     let b = second.step();
-    for e in 0..4 {
-        if ((e as u64) + 4 - u) % 4 % a + ((e as u64) + 4 - v) % 4 % b == 0 {
-            return Some(e);
-        }
-    }
-    None
+    (0..4).find(|e| (*e as u64 + 4 - u) % 4 % a + (*e as u64 + 4 - v) % 4 % b == 0)
 }
 
 // p with this exponent.
@@ -216,7 +212,7 @@ fn write_common(
 {
     let order = order_of(pair, promises, w);
     let wrote = write_lesser(order, pair, promises, w, out);
-    clear_bits(w, 0, WORK_WORDS);
+    clear(w);
     wrote
 }
 

@@ -10,13 +10,12 @@ ghost use Rattle.pauli_group.specs.CallContracts.{MemberCall};
 ghost use Rattle.pauli_group.specs.Inner.Members.{factoring_told};
 
 use crate::answers::Factors;
-use crate::area::{WORK_WORDS, area_of};
+use crate::area::{WORK_WORDS, area_of, clear};
 use crate::checks::{Rolls, check_question};
 use crate::group::group_of;
 use crate::member::{IndexSet, factor, put_indexes};
 use crate::promise::Promise;
 use crate::standard::signs_of;
-use binar::row::clear_bits;
 use pauli::refusal::{Reason, Refusal};
 use pauli::support::Support;
 
@@ -35,7 +34,7 @@ fn factor_once(
     let g = group_of(rolls.generators, &mut known, w);
     let signs = signs_of(g.standards().paulis(w), promise);
     let factoring = factor(rolls.elements, number, known.qubits(), g, signs.phases, w);
-    clear_bits(w, 0, WORK_WORDS);
+    clear(w);
     factoring
 }
 

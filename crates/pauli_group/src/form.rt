@@ -44,6 +44,7 @@ pub(crate) fn named_by(w: &[u64], at: usize, n: usize) -> Places
 }
 
 // Makes the echelon form of the Paulis of a list, over s places; tells its rank.
+// `OnPlaces` is a fact of the words in the area, which the next store may change: no value carries it.
 pub(crate) fn form_of(w: &mut [u64; WORK_WORDS], list: Span, s: usize) -> usize
     requires { (list.count ≤ 129) × (target_at ≤ list.base) × (s ≤ 128) × OnPlaces s (list_in w.old list.base list.count) }
     ensures rank { result ≡ echelon_rank (form_over s (list_in w.old list.base list.count)) }

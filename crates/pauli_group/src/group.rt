@@ -11,12 +11,11 @@ ghost use Rattle.pauli_group.specs.WorkArea.{cleared};
 ghost use Rattle.pauli_group.specs.Inner.Groups.{Built, Grouped, facts_in, facts_of};
 ghost use Rattle.pauli_group.specs.Calls.{paulis};
 
-use crate::area::{LIST, STANDARD, Span, WORK_WORDS};
+use crate::area::{LIST, STANDARD, Span, WORK_WORDS, clear};
 use crate::form::{form_of, put_products};
 use crate::list::read_list;
 use crate::promise::Promise;
 use crate::standard::{Signs, signs_of, standardize};
-use binar::row::clear_bits;
 use pauli::joined::{Pair, join_support};
 use pauli::roll::Roll;
 use pauli::support::Support;
@@ -56,6 +55,7 @@ pub struct Description {
 }
 
 // Makes the form and the standard generators of the n generators over s places.
+// `OnPlaces` is a fact of the words in the area, which the next store may change: no value carries it.
 fn build(w: &mut [u64; WORK_WORDS], n: usize, s: usize) -> Group
     requires { (n ≤ 128) × (s ≤ 128) × OnPlaces s (list_in w.old list_at n) }
     ensures built { Built w.old n s w.new result.rank result.total }
@@ -133,6 +133,6 @@ pub(crate) fn describe_once(roll: Roll, promise: Promise, w: &mut [u64; WORK_WOR
     ensures area { w.new ≡ cleared w.old }
 {
     let d = describe(roll, promise, w);
-    clear_bits(w, 0, WORK_WORDS);
+    clear(w);
     d
 }

@@ -4,7 +4,7 @@
 
 // What the caller promises of a list.
 pub mod promise;
-// Where the work area holds what.
+// Where the work area holds what, the words of it that a call uses, the lists in it, and how it is cleared.
 pub mod area;
 // Lists of Paulis read into the area.
 pub(crate) mod list;

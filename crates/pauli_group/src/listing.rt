@@ -17,12 +17,11 @@ ghost use Rattle.pauli_group.specs.Inner.Lists.{step_told};
 ghost use Rattle.pauli.specs.Refusals.{told_of};
 
 use crate::answers::Phases;
-use crate::area::{FURTHER, STANDARD, Span, WORK_WORDS, area_of};
+use crate::area::{FURTHER, STANDARD, Span, WORK_WORDS, area_of, clear};
 use crate::checks::check_list;
 use crate::group::group_of;
 use crate::promise::Promise;
 use crate::standard::signs_of;
-use binar::row::clear_bits;
 use pauli::places::Places;
 use pauli::refusal::{Reason, Refusal};
 use pauli::roll::Roll;
@@ -131,6 +130,7 @@ fn subset_at(n: usize, i: u64) -> Places
 }
 
 // Writes the n elements from number `start` on of the group whose standard generators are in the area, to the further list's place.
+// n is a number: a Span would need, in place of n ≤ 128, that it stands behind the standard generators.
 fn put_elements(w: &mut [u64; WORK_WORDS], rank: usize, phases: Phases, start: u64, n: usize)
     requires { (rank ≤ 16) × (n ≤ 128) × (start < 2 ^ 32) }
     ensures list { list_in w.new further_at n ≡ elements_from rank (4 / step_told phases) (step_told phases) (list_in w.old standard_at rank) start n }
@@ -183,8 +183,8 @@ fn page_length(total: u64, start: u64, size: usize) -> usize
     size
 }
 
-// How many elements a page holds of a group of this rank, whose phases have this step. The step is a number: the function is public,
-// and `Phases` has no case for a step of 3.
+// How many elements a page holds of a group of this rank, whose phases have this step. The step is a number: the function is
+// public, and `Phases` has no case for a step of 3.
 pub fn page_elements(rank: usize, step: u64, start: u32, count: u32) -> usize
     requires { (rank ≤ 16) × (0 < step) × (step ≤ 4) }
     ensures { (result ≡ min (page_size count) (2 ^ rank * (4 / step) - start)) × (result ≤ 128) }
@@ -209,7 +209,7 @@ fn write_page(
     let mut known = Support::new();
     let g = group_of(roll, &mut known, w);
     if g.rank > MOST_LISTED {
-        clear_bits(w, 0, WORK_WORDS);
+        clear(w);
         return Err(Reason::Listing.into());
     }
     let signs = signs_of(g.standards().paulis(w), promise);
@@ -218,7 +218,7 @@ fn write_page(
     put_elements(w, g.rank, signs.phases, start as u64, length);
     let page = Span::at(FURTHER, length);
     let wrote = write_roll(page.paulis(w), known.qubits(), out);
-    clear_bits(w, 0, WORK_WORDS);
+    clear(w);
     wrote
 }
 

@@ -17,7 +17,7 @@ ghost use Rattle.pauli_group.specs.CallContracts.{ModuloCall};
 ghost use Rattle.pauli_group.specs.Inner.Remainder.{Other, remainder_by, Remainder};
 ghost use Rattle.pauli.specs.Refusals.{told_of};
 
-use crate::area::{FURTHER, STANDARD, Span, WORK_WORDS, area_of};
+use crate::area::{FURTHER, STANDARD, Span, WORK_WORDS, area_of, clear};
 use crate::checks::check_pair;
 use crate::form::stride_of;
 use crate::group::{Group, group_of};
@@ -25,14 +25,14 @@ use crate::moved::{move_list, move_pauli};
 use crate::promise::{Promise, Promises};
 use crate::scan::take_mod;
 use crate::standard::signs_of;
-use binar::row::clear_bits;
 use pauli::joined::{Pair, join_support};
 use pauli::refusal::Refusal;
 use pauli::signed::{Pauli, load, store};
 use pauli::support::{Place, Support, place_of, qubit_at};
 use pauli::write::write_roll;
 
-// The Pauli times other, if it has a one at the place: in x, or else in z.
+// The Pauli times other, if it has a one at the place: in x, or else in z. is_x is the pivot's half of the columns, as the
+// definition multiplied_at takes it.
 fn multiplied(p: Pauli, is_x: bool, place: Place, other: Pauli) -> Pauli
     requires { place.0 < 128 }
     ensures { normal (held result) ≡ normal (multiplied_at is_x place.0 (held other) (held p)) }
@@ -48,6 +48,7 @@ fn multiplied(p: Pauli, is_x: bool, place: Place, other: Pauli) -> Pauli
 }
 
 // Multiplies those Paulis of a list that have a one at the place by other.
+// A loop of its own: one over a closure would tell what the closure's relation says, to be turned back into this equation.
 fn multiply_at(w: &mut [u64; WORK_WORDS], list: Span, is_x: bool, place: Place, other: Pauli)
     requires { place.0 < 128 }
     ensures list { list_in w.new list.base list.count ≡ map (λ p. normal (multiplied_at is_x place.0 (held other) p)) (list_in w.old list.base list.count) }
@@ -59,11 +60,12 @@ fn multiply_at(w: &mut [u64; WORK_WORDS], list: Span, is_x: bool, place: Place, 
     }
 }
 
-// Multiplies the m Paulis of the further list by the standard generators of a group, each at its pivot. The group is over the places
-// of own, the further list over those of joined.
-fn multiply_all(w: &mut [u64; WORK_WORDS], m: usize, group: Group, own: &[u32], joined: &[u32])
-    requires { (m ≤ 128) × (group.places ≡ length own.now) × (length joined.now ≤ 128) × Other own.now joined.now w.old group.count group.rank group.total × All (λ p. p.e < 4) (list_in w.old further_at m) }
-    ensures list { list_in w.new further_at m ≡ remainder_by own.now joined.now w.old group.count group.rank group.total (list_in w.old further_at m) }
+// Multiplies the m Paulis of the further list by the standard generators of a group, each at its pivot. The group is over the
+// places of own, the further list over those of joint.
+// m is a number: a Span would need, in place of m ≤ 128, that it stands behind the standard generators.
+fn multiply_all(w: &mut [u64; WORK_WORDS], m: usize, group: Group, own: &[u32], joint: &[u32])
+    requires { (m ≤ 128) × (group.places ≡ length own.now) × (length joint.now ≤ 128) × Other own.now joint.now w.old group.count group.rank group.total × All (λ p. p.e < 4) (list_in w.old further_at m) }
+    ensures list { list_in w.new further_at m ≡ remainder_by own.now joint.now w.old group.count group.rank group.total (list_in w.old further_at m) }
     ensures rest { Outside further_at (5 * m) w.old w.new }
 {
     let list = Span::at(FURTHER, m);
@@ -72,30 +74,30 @@ fn multiply_all(w: &mut [u64; WORK_WORDS], m: usize, group: Group, own: &[u32], 
     for k in 0..group.rank {
         let pivot = w[at + k] as usize;
         let other = load(w, STANDARD + 5 * k);
-        let moved = move_pauli(other, own, joined);
-        let place = place_of(joined, qubit_at(own, Place(pivot % places)));
+        let moved = move_pauli(other, own, joint);
+        let place = place_of(joint, qubit_at(own, Place(pivot % places)));
         multiply_at(w, list, pivot < places, place, moved);
     }
 }
 
-// Leaves the remainder of the left list by the right one in the further list, over the places of the joined support; tells how many
+// Leaves the remainder of the left list by the right one in the further list, over the places of the joint support; tells how many
 // Paulis it has.
-fn remainder(pair: Pair, promise: Promise, joined: &[u32], w: &mut [u64; WORK_WORDS]) -> usize
-    requires { (length joined.now ≤ 128) × (joined.now ≡ support_of (paulis (list_of pair.left.bytes.now) ++ paulis (list_of pair.right.bytes.now))) }
+fn remainder(pair: Pair, promise: Promise, joint: &[u32], w: &mut [u64; WORK_WORDS]) -> usize
+    requires { (length joint.now ≤ 128) × (joint.now ≡ support_of (paulis (list_of pair.left.bytes.now) ++ paulis (list_of pair.right.bytes.now))) }
     ensures { Remainder (promise_of promise) (paulis (list_of pair.entry.left.bytes.now)) (paulis (list_of pair.entry.right.bytes.now)) w.new result }
 {
     let mut own = Support::new();
     let a = group_of(pair.left, &mut own, w);
-    move_list(w, a.standards(), FURTHER, own.qubits(), joined);
+    move_list(w, a.standards(), FURTHER, own.qubits(), joint);
     let mut other = Support::new();
     let b = group_of(pair.right, &mut other, w);
     let signs = signs_of(b.standards().paulis(w), promise);
-    multiply_all(w, a.total, b, other.qubits(), joined);
+    multiply_all(w, a.total, b, other.qubits(), joint);
     take_mod(w, Span::at(FURTHER, a.total), signs.phases.step());
     a.total
 }
 
-// Writes the remainder of two rolls that can be joined, and clears the work area.
+// Writes the remainder of two rolls that can be joint, and clears the work area.
 pub(crate) fn write_modulo(
     pair: Pair,
     promise: Promise,
@@ -107,11 +109,11 @@ pub(crate) fn write_modulo(
     ensures area { w.new ≡ cleared w.old }
 {
     let support = join_support(pair.left, pair.right);
-    let joined = support.qubits();
-    let count = remainder(pair, promise, joined, w);
+    let joint = support.qubits();
+    let count = remainder(pair, promise, joint, w);
     let list = Span::at(FURTHER, count);
-    let wrote = write_roll(list.paulis(w), joined, out);
-    clear_bits(w, 0, WORK_WORDS);
+    let wrote = write_roll(list.paulis(w), joint, out);
+    clear(w);
     wrote
 }
 

@@ -10,11 +10,10 @@ ghost use Rattle.pauli_group.specs.Calls.{paulis};
 ghost use Rattle.pauli_group.specs.Inner.Compare.{ranks_in, order_by};
 ghost use Rattle.pauli_group.specs.CallContracts.{OrderCall};
 
-use crate::area::{WORK_WORDS, area_of};
+use crate::area::{WORK_WORDS, area_of, clear};
 use crate::checks::check_pair;
 use crate::group::{Description, describe, describe_two};
 use crate::promise::Promises;
-use binar::row::clear_bits;
 use pauli::joined::Pair;
 use pauli::refusal::Refusal;
 use std::cmp::Ordering;
@@ -80,7 +79,7 @@ fn compare(pair: Pair, promises: Promises, w: &mut [u64; WORK_WORDS]) -> Option<
     ensures area { w.new ≡ cleared w.old }
 {
     let order = order_of(pair, promises, w);
-    clear_bits(w, 0, WORK_WORDS);
+    clear(w);
     order
 }
 

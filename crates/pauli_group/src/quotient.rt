@@ -11,12 +11,11 @@ ghost use Rattle.pauli_group.specs.Inner.Compare.{is_below};
 ghost use Rattle.pauli_group.specs.CallContracts.{QuotientCall};
 ghost use Rattle.pauli.specs.Refusals.{told_of};
 
-use crate::area::{WORK_WORDS, area_of};
+use crate::area::{WORK_WORDS, area_of, clear};
 use crate::checks::check_pair;
 use crate::modulo::write_modulo;
 use crate::order::order_of;
 use crate::promise::Promises;
-use binar::row::clear_bits;
 use pauli::joined::Pair;
 use pauli::refusal::{Reason, Refusal};
 use std::cmp::Ordering;
@@ -49,7 +48,7 @@ fn write_quotient(
     };
     let order = order_of(swapped, exchanged, w);
     if !is_below(order) {
-        clear_bits(w, 0, WORK_WORDS);
+        clear(w);
         return Err(Reason::Subgroup.into());
     }
     write_modulo(pair, promises.right, w, out)

@@ -56,8 +56,8 @@ pub(crate) fn put_row(w: &mut [u64], at: usize, p: Pauli, s: usize)
     w[at + 3] = b.high;
 }
 
-// Writes the rows of the Paulis of a list, over s places, to the front of the area: rows of stride words, whose words past the first
-// four are zero.
+// Writes the rows of the Paulis of a list, over s places, to the front of the area: rows of stride words, whose words past the
+// first four are zero.
 pub(crate) fn put_rows(w: &mut [u64; WORK_WORDS], list: Span, s: usize, stride: usize)
     requires { (list.count * stride ≤ list.base) × (4 ≤ stride) × (s ≤ 128) × OnPlaces s (list_in w.old list.base list.count) }
     ensures { w.new ≡ image stride (map (row_over s) (list_in w.old list.base list.count)) (drop (list.count * stride) w.old) }

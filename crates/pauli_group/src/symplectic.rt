@@ -14,10 +14,9 @@ ghost use Rattle.pauli_group.specs.Inner.Lists.{found};
 ghost use Rattle.pauli_group.specs.Inner.Pairs.{PairedTo};
 ghost use Rattle.pauli.specs.Refusals.{told_of};
 
-use crate::area::{FURTHER, LIST, STANDARD, Span, WORK_WORDS, area_of};
+use crate::area::{FURTHER, LIST, STANDARD, Span, WORK_WORDS, area_of, clear};
 use crate::checks::check_list;
 use crate::list::read_list;
-use binar::row::clear_bits;
 use pauli::refusal::Refusal;
 use pauli::roll::Roll;
 use pauli::signed::{Pauli, load, store};
@@ -52,8 +51,9 @@ fn times_if(p: Pauli, q: Pauli, g: Pauli) -> Pauli
     g
 }
 
-// Makes the Paulis of a list commute with x and z, a pair that anticommutes: those from number k on may anticommute with both, those
-// before it only with z.
+// Makes the Paulis of a list commute with x and z, a pair that anticommutes: those from number k on may anticommute with both,
+// those before it only with z.
+// A loop of its own: one over a closure would tell what the closure's relation says, to be turned back into this equation.
 fn clear_pair(w: &mut [u64; WORK_WORDS], list: Span, k: usize, x: Pauli, z: Pauli)
     requires { k ≤ list.count }
     ensures list { list_in w.new list.base list.count ≡ map normal (cleared_by k (held x) (held z) (list_in w.old list.base list.count)) }
@@ -68,8 +68,8 @@ fn clear_pair(w: &mut [u64; WORK_WORDS], list: Span, k: usize, x: Pauli, z: Paul
     }
 }
 
-// Takes the last Pauli of the list out: with the first one that anticommutes with it, as a pair of conjugate elements, or alone, as a
-// commuting one.
+// Takes the last Pauli of the list out: with the first one that anticommutes with it, as a pair of conjugate elements, or alone, as
+// a commuting one.
 fn pair_last(w: &mut [u64; WORK_WORDS], p: Pairing) -> Pairing
     requires { (0 < p.left) × (p.left + p.conjugate + p.commuting ≤ 128) }
     ensures { PairedTo w.old p w.new result }
@@ -103,6 +103,7 @@ fn pair_last(w: &mut [u64; WORK_WORDS], p: Pairing) -> Pairing
 }
 
 // Copies the Paulis of a list to word to, each by its value: a copy of the words would keep their exponents as they stand.
+// A loop of its own: one over a closure would tell what the closure's relation says, to be turned back into this equation.
 fn copy_list(w: &mut [u64; WORK_WORDS], from: Span, to: usize)
     requires { to + 5 * from.count ≤ from.base }
     ensures list { list_in w.new to from.count ≡ map normal (list_in w.old from.base from.count) }
@@ -144,7 +145,7 @@ fn write_symplectic(roll: Roll, w: &mut [u64; WORK_WORDS], out: &mut [u8]) -> Re
     pair_up(w, roll.count);
     let paired = Span::at(STANDARD, roll.count);
     let wrote = write_roll(paired.paulis(w), qubits, out);
-    clear_bits(w, 0, WORK_WORDS);
+    clear(w);
     wrote
 }
 

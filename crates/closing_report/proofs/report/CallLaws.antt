@@ -18,7 +18,7 @@ use Rattle.pauli_theory.specs.Standard.{rank, nonabelian, phase_step}
 use Rattle.pauli_group.specs.WorkArea.{work_words, cleared, area_after}
 use Rattle.pauli_group.specs.Calls.{paulis}
 use Rattle.pauli_group.proofs.checks.Room.{room_told, room_enough, room_refused}
-use Rattle.pauli_group.proofs.group.GroupedLaws.{cleared_part}
+use Rattle.pauli_group.proofs.area.AreaLaws.{cleared_part}
 use Rattle.closing_report.specs.Contract.{ReportCall}
 use Rattle.closing_report.specs.Lines.{first_line, member_lines, refused_line}
 use Rattle.closing_report.specs.InputRolls.{Rolls, rolls_in}

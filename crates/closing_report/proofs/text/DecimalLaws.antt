@@ -6,6 +6,8 @@ use native.Mathlib.Omega.{arith}
 use native.Mathlib.Decide.{dec_lt}
 use borrow.Author.Tests.{lt-ltb, le-ltb}
 use lib.ListN.{length, get_or, length-append, get_or-append}
+use Rattle.std.specs.Fmt.{decimal}
+use Rattle.std.proofs.lemmas.Fmt.{decimal_digit, decimal_step}
 use Rattle.binar.proofs.Lists.{all_join}
 use Rattle.pauli.specs.Support.{All}
 use Rattle.closing_report.specs.Decimal.{digits_up_to, digits, value_from, DecimalLaw}
@@ -65,26 +67,11 @@ few_digits (suc k) n h =
       | no l ↦ omega (arith, length_more n (omega arith), few_digits k (n / 10) (omega arith))
     ]
 
--- ---- from the last digit on
-
--- the last k digits of n
-unfoldable pub last_digits : ℕ → ℕ → List ℕ
-last_digits zero n = []
-last_digits (suc k) n = last_digits k (n / 10) ++ ((48 + n % 10) ∷ [])
-
-pub length_last : (k n : ℕ) → length (last_digits k n) ≡ k
-unfolding last_digits
-length_last zero n = refl
-length_last (suc k) n = length-append (last_digits k (n / 10)) ((48 + n % 10) ∷ []) ∙ omega (arith, length_last k (n / 10))
-
-pub digits_last : (n : ℕ) → digits n ≡ last_digits (length (digits n)) n
-unfolding last_digits
-digits_last =
-    by_tenths (λ n. digits n ≡ last_digits (length (digits n)) n)
-    (λ n h. let r : n % 10 ≡ n = omega arith in digits_one n h ∙ sym (ap (λ (k : ℕ). last_digits k n) (length_one n h) ∙ rw r))
-    (λ n h p.
-    let s : length (digits (n / 10)) + 1 ≡ suc (length (digits (n / 10))) = omega arith in
-    digits_more n h ∙ ap (◌++ ((48 + n % 10) ∷ [])) p ∙ sym (ap (λ (k : ℕ). last_digits k n) (length_more n h ∙ s)))
+-- the digits that the library writes of a number of 64 bits
+pub digits_decimal : (n : ℕ) → n < 2 ^ 64 → decimal n ≡ digits n
+digits_decimal =
+    by_tenths (λ n. n < 2 ^ 64 → decimal n ≡ digits n) (λ n h l. decimal_digit n h ∙ sym (digits_one n h))
+    (λ n h p l. decimal_step n h l ∙ ap (◌++ ((48 + n % 10) ∷ [])) (p (omega arith)) ∙ sym (digits_more n h))
 
 -- ---- the law
 

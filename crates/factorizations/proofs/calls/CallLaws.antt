@@ -16,7 +16,8 @@ use Rattle.pauli_group.specs.Calls.{paulis, roll_counts}
 use Rattle.pauli_group.specs.WorkArea.{work_words, enough, cleared, area_after}
 use Rattle.pauli_group.proofs.checks.RollsLaws.{Accepted, both}
 use Rattle.pauli_group.proofs.checks.Room.{room_told, room_enough, room_passed, room_refused}
-use Rattle.pauli_group.proofs.group.GroupedLaws.{cleared_part, list_length}
+use Rattle.pauli_group.proofs.area.AreaLaws.{cleared_part}
+use Rattle.pauli_group.proofs.group.GroupedLaws.{list_length}
 use Rattle.factorizations.specs.Calls.{questions, questions_counts, results_of, factorizations_call, Totals, totals, told_results}
 use Rattle.factorizations.specs.Contract.{FactorizationsCall}
 use Rattle.factorizations.specs.Records.{results_bytes}

@@ -9,7 +9,8 @@ use Rattle.pauli.proofs.roll.Told.{refused_none, map_refused, map_answer}
 use Rattle.pauli_group.specs.WorkArea.{work_words, enough, cleared, area_after}
 use Rattle.pauli_group.specs.Calls.{paulis, one_list}
 use Rattle.pauli_group.proofs.checks.Room.{room_told, room_enough, room_passed, room_refused}
-use Rattle.pauli_group.proofs.group.GroupedLaws.{cleared_part, list_length}
+use Rattle.pauli_group.proofs.area.AreaLaws.{cleared_part}
+use Rattle.pauli_group.proofs.group.GroupedLaws.{list_length}
 
 -- ---- one list, checked
 

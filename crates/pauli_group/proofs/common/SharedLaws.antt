@@ -1,5 +1,5 @@
 -- Laws of the common part in the work area: exponents noted with the elements of a basis, the shared ones, and the phases.
-use Rattle.std.proofs.Common.{◌≡◌, ℕ, zero, suc, ◌+◌, ◌-◌, ◌*◌, ◌/◌, ◌%◌, ◌^◌, ◌<◌, ◌≤◌, max, List, [], ◌∷◌, ◌++◌, map, length, get_or, set, sym, refl, ap, ◌∙◌, subst, ap₂, append_assoc, append-nil, mod-eq_of_lt, add-one, arith, length-set, get_or-set_other, get_or-set_same}
+use Rattle.std.proofs.Common.{◌≡◌, Option as CodeOption, Some, None, MatchOption, ℕ, zero, suc, ◌+◌, ◌-◌, ◌*◌, ◌/◌, ◌%◌, ◌^◌, ◌<◌, ◌≤◌, max, List, [], ◌∷◌, ◌++◌, map, length, get_or, set, sym, refl, ap, ◌∙◌, subst, ap₂, append_assoc, append-nil, mod-eq_of_lt, add-one, arith, length-set, get_or-set_other, get_or-set_same}
 use mathlib.Core.List.{map-append}
 use mathlib.Core.Option.{Option, some, none}
 use lib.Seq.{sets}
@@ -28,7 +28,7 @@ use Rattle.pauli_theory.proofs.IfZero.{if_zero_zero, if_zero_more}
 use Rattle.pauli_group.specs.Inner.Area.{target_at, list_at, further_at, row_words, stride_of, Outside}
 use Rattle.pauli_group.specs.Inner.Groups.{over_support, Grouped}
 use Rattle.pauli_group.specs.Calls.{paulis, list_bytes}
-use Rattle.pauli_group.specs.Inner.Lists.{row_over}
+use Rattle.pauli_group.specs.Inner.Lists.{row_over, found}
 use Rattle.pauli_group.proofs.member.FactorLaws.{grouped_solvable}
 use Rattle.pauli_group.proofs.group.GroupedLaws.{list_length, list_few, group_places}
 use Rattle.pauli_group.proofs.area.AreaLaws.{form_room}
@@ -45,14 +45,20 @@ some_more (suc i) j d = omega arith
 -- ---- the shared exponent of two
 
 module _ (a b u v : ℕ) where
-  abbrev pub misses : ℕ → ℕ
+  abbrev pub Hit : ℕ → Type 0
+  Hit e = (e + 4 - u) % 4 % a + (e + 4 - v) % 4 % b ≡ 0
+
+  abbrev pub Missed : ℕ → Type 0
+  Missed e = Hit e → ⊥
+
+  abbrev misses : ℕ → ℕ
   misses e = max ((e + 4 - u) % 4 % a) ((e + 4 - v) % 4 % b)
 
   -- the answer is that from exponent e on
-  abbrev pub SharedFrom : ℕ → Type 0
+  abbrev SharedFrom : ℕ → Type 0
   SharedFrom e = shared_exponent_from a b u v (4 - e) e ≡ shared_exponent a b u v
 
-  pub shared_start : SharedFrom 0
+  shared_start : SharedFrom 0
   unfolding shared_exponent
   shared_start = refl
 
@@ -64,19 +70,29 @@ module _ (a b u v : ℕ) where
     unfolding shared_exponent_from
     next = let one : e + 1 ≡ suc e = omega arith in rw one (ap (λ (n : ℕ). shared_exponent_from a b u v n e) (sym (left_over ∙ ap (λ (k : ℕ). suc (4 - k)) one)) ∙ f)
 
-    pub shared_hit : (e + 4 - u) % 4 % a + (e + 4 - v) % 4 % b ≡ 0 → some e ≡ shared_exponent a b u v
+    shared_hit : Hit e → some e ≡ shared_exponent a b u v
     shared_hit h =
         let z : misses e ≡ 0 = omega (arith, h) in
         sym (if_zero_zero (some e) (shared_exponent_from a b u v (4 - (e + 1)) (e + 1)) z) ∙ next
 
-    pub shared_miss : ((e + 4 - u) % 4 % a + (e + 4 - v) % 4 % b ≡ 0 → ⊥) → SharedFrom (e + 1)
+    shared_miss : Missed e → SharedFrom (e + 1)
     shared_miss h =
         let m : 0 < misses e = some_more ((e + 4 - u) % 4 % a) ((e + 4 - v) % 4 % b) h in
         sym (if_zero_more (misses e) (some e) (shared_exponent_from a b u v (4 - (e + 1)) (e + 1)) m) ∙ next
 
-  pub shared_end : (e : ℕ) → 4 ≤ e → e ≤ 4 → SharedFrom e → none ≡ shared_exponent a b u v
+  reached : (e : ℕ) → e ≤ 4 → ((k : ℕ) → 0 ≤ k → k < e → Missed k) → SharedFrom e
+  reached zero h f = shared_start
+  reached (suc e) h f =
+      let one : e + 1 ≡ suc e = omega arith in
+      rw one at (shared_miss e (omega arith) (reached e (omega arith) (λ k l m. f k l (omega arith))) (f e (omega arith) (omega arith)))
+
+  -- the first exponent below 4 that hits, or none
+  pub shared_found : (r : CodeOption ℕ)
+      → MatchOption r ((k : ℕ) → 0 ≤ k → k < 4 → Missed k) (λ i. (0 ≤ i) × (i < 4) × Hit i × ((k : ℕ) → 0 ≤ k → k < i → Missed k))
+      → found r ≡ shared_exponent a b u v
   unfolding shared_exponent_from
-  shared_end e h l f = let four : e ≡ 4 = omega arith in rw four at f
+  shared_found None f = reached 4 (omega arith) f
+  shared_found (Some i) (least, low, h, f) = shared_hit i low (reached i (omega arith) f) h
 
 -- ---- the elements that have one, with it
 

@@ -21,7 +21,7 @@ use Rattle.pauli_group.specs.WorkArea.{work_words, cleared, area_after}
 use Rattle.pauli_group.specs.Calls.{paulis, question, factorization_call, index_bytes, factored, told_member, member_left, le16s}
 use Rattle.pauli_group.specs.CallContracts.{MemberCall}
 use Rattle.pauli_group.proofs.checks.Question.{Asking, question_told}
-use Rattle.pauli_group.proofs.group.GroupedLaws.{cleared_part}
+use Rattle.pauli_group.proofs.area.AreaLaws.{cleared_part}
 use Rattle.pauli_group.proofs.member.MemberLaws.{length_indexes}
 
 -- ---- an index set is one of generators

@@ -1,8 +1,7 @@
 -- The text is written, and the area is cleared.
 use mathlib.Core.Path.{◌∙◌}
-use Rattle.pauli_group.proofs.group.GroupedLaws.{cleared_whole}
 use Rattle.closing_report.proofs.report.write_and_clear.Goals as goal
 
 pub returns : goal.returns
 returns c =
-    let wrote = c.write_text-wrote.ensures in record { told = wrote.told; left = wrote.left; area = c.clear_bits.ensures ∙ cleared_whole _ _ c.write_text-wrote.array_long c.told-w }
+    let wrote = c.write_text-wrote.ensures in record { told = wrote.told; left = wrote.left; area = c.clear.ensures _ c.told-w }

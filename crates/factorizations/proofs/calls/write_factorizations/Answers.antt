@@ -6,7 +6,6 @@ use Rattle.pauli.specs.Told.{answer}
 use Rattle.pauli.specs.Writing.{told_bytes, left_in}
 use Rattle.pauli.proofs.joined.JoinLaws.{accepted_few}
 use Rattle.pauli_theory.specs.Membership.{Factorization}
-use Rattle.pauli_group.proofs.group.GroupedLaws.{cleared_whole}
 use Rattle.factorizations.specs.Records.{results_bytes}
 use Rattle.factorizations.proofs.calls.write_factorizations.Goals as goal
 
@@ -25,5 +24,5 @@ returns c =
     let out = c.args.out.now in record {
       told = wrote.told ∙ ap (λ (os : List (Option Factorization)). told_bytes (answer (results_bytes os)) out) results;
       left = wrote.left ∙ ap (λ (os : List (Option Factorization)). left_in (answer (results_bytes os)) out) results;
-      area = c.clear_bits.ensures ∙ cleared_whole _ _ c.factor_rolls.array_long c.told-w;
+      area = c.clear.ensures _ c.told-w;
     }

@@ -3,7 +3,7 @@ use Rattle.std.proofs.Common.{ℕ, List, ap, ◌∙◌, arith}
 use Rattle.pauli.specs.Told.{answer}
 use Rattle.pauli.specs.Writing.{told_bytes, left_in}
 use Rattle.pauli_group.proofs.area.AreaLaws.{span_list}
-use Rattle.pauli_group.proofs.group.GroupedLaws.{cleared_whole, group_on}
+use Rattle.pauli_group.proofs.group.GroupedLaws.{group_on}
 use Rattle.pauli_group.proofs.member.FactorLaws.{places_known}
 use Rattle.pauli_group.proofs.calls.CallLaws.{group_written}
 use Rattle.pauli_group.proofs.calls.write_standard.Goals as goal
@@ -26,5 +26,5 @@ returns c =
     let roll = group_written _ c.group_of-g.ensures.group in record {
       told = wrote.told ∙ ap (λ (bs : List ℕ). told_bytes (answer bs) out) roll;
       left = wrote.left ∙ ap (λ (bs : List ℕ). left_in (answer bs) out) roll;
-      area = c.clear_bits.ensures ∙ cleared_whole _ _ c.group_of-g.array_long c.told-w;
+      area = c.clear.ensures _ c.told-w;
     }

@@ -1,9 +1,7 @@
 -- The group is built, the element is put to it, and the area is cleared.
 use Rattle.pauli_group.proofs.area.AreaLaws.{span_list}
-use Rattle.pauli_group.proofs.group.GroupedLaws.{cleared_whole}
 use Rattle.pauli_group.proofs.member.FactorLaws.{asked_of}
 use Rattle.pauli_group.specs.Promises.{promise_of}
-use Rattle.std.proofs.Common.{◌∙◌}
 use Rattle.pauli_group.proofs.factorization.factor_once.Goals as goal
 
 pub factor-factoring-requires : goal.factor-factoring-requires
@@ -21,5 +19,5 @@ returns c =
     let standards = span_list _ c.paulis.ensures.list c.standards.ensures in
     let signs = rw standards at c.signs_of-signs.ensures in record {
       told = factor.told (asked_of _ _ c.args.rolls.generators.accepted (rw (← c.qubits.ensures.list) at g.group) (promise_of c.args.promise) signs.clash signs.step signs.stabilizer);
-      area = c.clear_bits.ensures ∙ cleared_whole _ _ c.factor-factoring.array_long c.told-w;
+      area = c.clear.ensures _ c.told-w;
     }

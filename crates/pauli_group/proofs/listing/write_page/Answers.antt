@@ -7,7 +7,6 @@ use Rattle.pauli.specs.Writing.{told_bytes, left_in}
 use Rattle.pauli_group.specs.Calls.{paulis}
 use Rattle.pauli_group.specs.Promises.{promise_of}
 use Rattle.pauli_group.proofs.area.AreaLaws.{span_list}
-use Rattle.pauli_group.proofs.group.GroupedLaws.{cleared_whole}
 use Rattle.pauli_group.proofs.member.FactorLaws.{places_known}
 use Rattle.pauli_group.proofs.listing.PageLaws.{signs_step, page_places, page_written, page_refused, page_answered}
 use Rattle.pauli_group.proofs.listing.write_page.Goals as goal
@@ -20,7 +19,7 @@ returns-then-g-gt-MOST_LISTED c =
     let same = sym (page_refused (promise_of c.args.promise) c.args.start c.args.count (paulis (list_of c.args.roll.bytes.now)) (rw (← group.ensures.group.rank_is) c.if-g-gt-MOST_LISTED.true)) in record {
       told = ap told_refusal c.into.ensures ∙ ap (λ (t : Told (List ℕ)). told_bytes t out) same;
       left = ap (λ (t : Told (List ℕ)). left_in t out) same;
-      area = c.clear_bits.ensures ∙ cleared_whole _ _ group.array_long c.told-w;
+      area = c.clear.ensures _ c.told-w;
     }
 
 pub write_roll-wrote-requires : goal.write_roll-wrote-requires
@@ -47,5 +46,5 @@ returns c =
     let same = ap answer roll ∙ sym (page_answered (promise_of c.args.promise) c.args.start c.args.count (paulis (list_of c.args.roll.bytes.now)) (rw (← group.ensures.group.rank_is) c.if-g-gt-MOST_LISTED.false)) in record {
       told = wrote.told ∙ ap (λ (t : Told (List ℕ)). told_bytes t out) same;
       left = wrote.left ∙ ap (λ (t : Told (List ℕ)). left_in t out) same;
-      area = c.clear_bits-2.ensures ∙ cleared_whole _ _ c.put_elements.array_long c.told-w;
+      area = c.clear-2.ensures _ c.told-w;
     }

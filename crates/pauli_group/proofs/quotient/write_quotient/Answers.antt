@@ -4,7 +4,7 @@ use Rattle.pauli.specs.Refusals.{told_refusal}
 use Rattle.pauli.specs.Support.{most_qubits}
 use Rattle.pauli.specs.Writing.{told_bytes, left_in}
 use Rattle.pauli_group.specs.WorkArea.{cleared}
-use Rattle.pauli_group.proofs.group.GroupedLaws.{cleared_whole}
+use Rattle.pauli_group.proofs.area.AreaLaws.{cleared_whole}
 use Rattle.pauli_group.proofs.quotient.QuotientLaws.{swapped_few, quotient_none, quotient_some}
 use Rattle.pauli_group.proofs.quotient.write_quotient.Goals as goal
 
@@ -19,7 +19,7 @@ returns-then-not-is_below c =
     let none = quotient_none _ _ _ _ _ c.order_of-order.ensures _ c.is_below.ensures (ap not c.if-not-is_below.true) in record {
       told = ap told_refusal c.into.ensures ∙ sym (ap (λ t. told_bytes t c.args.out.now) none);
       left = sym (ap (λ t. left_in t c.args.out.now) none);
-      area = c.clear_bits.ensures ∙ cleared_whole _ c.args.w.now c.order_of-order.array_long c.told-w;
+      area = c.clear.ensures _ c.told-w;
     }
 
 pub returns : goal.returns

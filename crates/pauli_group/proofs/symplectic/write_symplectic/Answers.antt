@@ -5,7 +5,6 @@ use Rattle.pauli.specs.Roll.{most_paulis}
 use Rattle.pauli.specs.Told.{answer}
 use Rattle.pauli.specs.Writing.{told_bytes, left_in}
 use Rattle.pauli_group.proofs.area.AreaLaws.{span_list}
-use Rattle.pauli_group.proofs.group.GroupedLaws.{cleared_whole}
 use Rattle.pauli_group.proofs.group.GroupLaws.{own_gathered, own_few, places_few, part_readable}
 use Rattle.pauli_group.proofs.symplectic.PairLaws.{pairs_on, pairs_written}
 use Rattle.pauli_group.proofs.symplectic.write_symplectic.Goals as goal
@@ -50,5 +49,5 @@ returns c =
     let same = pairs_written roll.bytes.now roll.count roll.accepted _ g _ c.read_list.ensures.list _ c.pair_up.ensures in record {
       told = wrote.told ∙ ap (λ (bs : List ℕ). told_bytes (answer bs) out) same;
       left = wrote.left ∙ ap (λ (bs : List ℕ). left_in (answer bs) out) same;
-      area = c.clear_bits.ensures ∙ cleared_whole _ _ c.pair_up.array_long c.told-w;
+      area = c.clear.ensures _ c.told-w;
     }
