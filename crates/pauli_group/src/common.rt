@@ -113,36 +113,35 @@ fn with_exponent(e: u8, p: Pauli) -> Pauli
     Pauli { exponent: e, ..p }
 }
 
-// Keeps those of the m Paulis of the further list that have a shared exponent, with it; tells how many.
-fn keep_shared(w: &mut [u64; WORK_WORDS], m: usize, first: Phases, second: Phases) -> usize
-    requires { m ≤ 128 }
-    ensures few { result ≤ m }
-    ensures list { list_in w.new further_at result ≡ shared_with (shared_noted (step_told first) (step_told second)) (list_in w.old further_at m) }
+// Keeps those Paulis of a list that have a shared exponent, with it, at its front; tells how many.
+fn keep_shared(w: &mut [u64; WORK_WORDS], list: Span, first: Phases, second: Phases) -> usize
+    ensures few { result ≤ list.count }
+    ensures list { list_in w.new list.base result ≡ shared_with (shared_noted (step_told first) (step_told second)) (list_in w.old list.base list.count) }
 {
     let mut kept = 0;
-    for i in 0..m {
-        let at = FURTHER + 5 * i;
+    for i in 0..list.count {
+        let at = list.base + 5 * i;
         if let Some(e) = shared_exponent(first, second, w[at] / 4 % 4, w[at] % 4) {
             let p = load(w, at);
-            store(w, FURTHER + 5 * kept, with_exponent(e, p));
+            store(w, list.base + 5 * kept, with_exponent(e, p));
             kept += 1;
         }
     }
     kept
 }
 
-// Appends to the n Paulis of the further list the powers of i that are phases of both groups; tells how many there are then.
-fn append_phases(w: &mut [u64; WORK_WORDS], n: usize, first: Phases, second: Phases) -> usize
-    requires { n ≤ 128 }
-    ensures few { result ≤ n + 4 }
-    ensures list { list_in w.new further_at result ≡ list_in w.old further_at n ++ phases_from (step_told first) (step_told second) 4 0 }
+// Appends to the Paulis of a list the powers of i that are phases of both groups; tells how many there are then.
+fn append_phases(w: &mut [u64; WORK_WORDS], list: Span, first: Phases, second: Phases) -> usize
+    requires { list.base + 5 * list.count + 20 ≤ 4096 }
+    ensures few { result ≤ list.count + 4 }
+    ensures list { list_in w.new list.base result ≡ list_in w.old list.base list.count ++ phases_from (step_told first) (step_told second) 4 0 }
 {
     let a = first.step();
     let b = second.step();
-    let mut total = n;
+    let mut total = list.count;
     for k in 0..4 {
         if k % a + k % b == 0 {
-            put_phase(w, FURTHER + 5 * total, k as u8);
+            put_phase(w, list.base + 5 * total, k as u8);
             total += 1;
         }
     }
@@ -164,8 +163,9 @@ fn write_part(
     let m = common_basis(pair, joint, w);
     let first = note_by(pair.left, promises.left, joint, w, m);
     let second = note_by(pair.right, promises.right, joint, w, m);
-    let kept = keep_shared(w, m, first, second);
-    let total = append_phases(w, kept, first, second);
+    let noted = Span::at(FURTHER, m);
+    let shared = Span::at(FURTHER, keep_shared(w, noted, first, second));
+    let total = append_phases(w, shared, first, second);
     write_roll(Span::at(FURTHER, total).paulis(w), joint, out)
 }
 

@@ -41,21 +41,21 @@ up_to_same (suc j) (suc k) n h l =
     ]
 
 module _ (n : ℕ) where
-  pub digits_one : n < 10 → digits n ≡ (48 + n) ∷ []
+  digits_one : n < 10 → digits n ≡ (48 + n) ∷ []
   unfolding digits
   digits_one h = up_to_one n n h
 
-  pub digits_more : 10 ≤ n → digits n ≡ digits (n / 10) ++ ((48 + n % 10) ∷ [])
+  digits_more : 10 ≤ n → digits n ≡ digits (n / 10) ++ ((48 + n % 10) ∷ [])
   unfolding digits
   digits_more h = up_to_more n n h ∙ ap (◌++ ((48 + n % 10) ∷ [])) (up_to_same n (suc (n / 10)) (n / 10) (omega arith) (omega arith))
 
-  pub length_one : n < 10 → length (digits n) ≡ 1
+  length_one : n < 10 → length (digits n) ≡ 1
   length_one h = ap length (digits_one h)
 
-  pub length_more : 10 ≤ n → length (digits n) ≡ length (digits (n / 10)) + 1
+  length_more : 10 ≤ n → length (digits n) ≡ length (digits (n / 10)) + 1
   length_more h = ap length (digits_more h) ∙ length-append (digits (n / 10)) ((48 + n % 10) ∷ [])
 
-pub some_digit : (n : ℕ) → 0 < length (digits n)
+some_digit : (n : ℕ) → 0 < length (digits n)
 some_digit = by_tenths (λ n. 0 < length (digits n)) (λ n h. omega (arith, length_one n h)) (λ n h p. omega (arith, length_more n h))
 
 -- how many digits a number has at most

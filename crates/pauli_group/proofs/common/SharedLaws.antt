@@ -96,47 +96,47 @@ module _ (a b u v : ℕ) where
 
 -- ---- the elements that have one, with it
 
--- of the Paulis of the further list of the slice first, the first i were looked at, and those kept stand in the slice w
-pub record KeptUpTo (a b m : ℕ) (first : List ℕ) (i kept : ℕ) (w : List ℕ) : Type 0 where
+-- of the Paulis from word base of the slice first on, the first i were looked at, and those kept stand in the slice w
+pub record KeptUpTo (base a b m : ℕ) (first : List ℕ) (i kept : ℕ) (w : List ℕ) : Type 0 where
   pub low : kept ≤ i
   pub within : i ≤ m
-  pub list : list_in w further_at kept ≡ shared_with (shared_noted a b) (list_in first further_at i)
-  pub rest : Outside further_at (5 * kept) first w
+  pub list : list_in w base kept ≡ shared_with (shared_noted a b) (list_in first base i)
+  pub rest : Outside base (5 * kept) first w
 
-module _ (a b m : ℕ) (first : List ℕ) where
-  pub kept_none : KeptUpTo a b m first 0 0 first
+module _ (base a b m : ℕ) (first : List ℕ) where
+  pub kept_none : KeptUpTo base a b m first 0 0 first
   unfolding list_in shared_with
-  kept_none = record { low = omega arith; within = omega arith; list = refl; rest = outside_refl further_at 0 first }
+  kept_none = record { low = omega arith; within = omega arith; list = refl; rest = outside_refl base 0 first }
 
-  module _ (i kept : ℕ) (w : List ℕ) (K : KeptUpTo a b m first i kept w) (h : i < m) where
+  module _ (i kept : ℕ) (w : List ℕ) (K : KeptUpTo base a b m first i kept w) (h : i < m) where
     abbrev p : Pauli
-    p = pauli_in first (further_at + 5 * i)
+    p = pauli_in first (base + 5 * i)
 
-    pub kept_here : pauli_in w (further_at + 5 * i) ≡ p
-    kept_here = pauli_kept_after K.rest (further_at + 5 * i) (let l = K.low in omega arith)
+    pub kept_here : pauli_in w (base + 5 * i) ≡ p
+    kept_here = pauli_kept_after K.rest (base + 5 * i) (let l = K.low in omega arith)
 
-    more : shared_with (shared_noted a b) (list_in first further_at (i + 1))
-        ≡ shared_with (shared_noted a b) (list_in first further_at i) ++ cons_some (with_some (shared_noted a b p) p) []
+    more : shared_with (shared_noted a b) (list_in first base (i + 1))
+        ≡ shared_with (shared_noted a b) (list_in first base i) ++ cons_some (with_some (shared_noted a b p) p) []
     unfolding shared_with
-    more = ap (shared_with (shared_noted a b)) (list_snoc first further_at i) ∙ shared_append (shared_noted a b) (list_in first further_at i) (p ∷ [])
+    more = ap (shared_with (shared_noted a b)) (list_snoc first base i) ∙ shared_append (shared_noted a b) (list_in first base i) (p ∷ [])
 
-    module _ (o : Option ℕ) (told_here : o ≡ shared_noted a b (pauli_in w (further_at + 5 * i))) where
+    module _ (o : Option ℕ) (told_here : o ≡ shared_noted a b (pauli_in w (base + 5 * i))) where
       told : o ≡ shared_noted a b p
       told = told_here ∙ ap (shared_noted a b) kept_here
 
-      pub kept_dropped : none ≡ o → KeptUpTo a b m first (i + 1) kept w
+      pub kept_dropped : none ≡ o → KeptUpTo base a b m first (i + 1) kept w
       unfolding with_some cons_some
       kept_dropped n = record {
         low = let k = K.low in omega arith;
         within = omega arith;
         list =
             let z : none ≡ shared_noted a b p = n ∙ told in
-            K.list ∙ sym (more ∙ ap (λ o. shared_with (shared_noted a b) (list_in first further_at i) ++ cons_some (with_some o p) []) (sym z)
-            ∙ append-nil (shared_with (shared_noted a b) (list_in first further_at i)));
+            K.list ∙ sym (more ∙ ap (λ o. shared_with (shared_noted a b) (list_in first base i) ++ cons_some (with_some o p) []) (sym z)
+            ∙ append-nil (shared_with (shared_noted a b) (list_in first base i)));
         rest = K.rest;
       }
 
-      module _ (e : ℕ) (s : some e ≡ o) (l : e < 4) (room : further_at + 5 * m ≤ length first) (q r : Held) (loaded : normal (held q) ≡ normal (pauli_in w (further_at + 5 * i)))
+      module _ (e : ℕ) (s : some e ≡ o) (l : e < 4) (room : base + 5 * m ≤ length first) (q r : Held) (loaded : normal (held q) ≡ normal (pauli_in w (base + 5 * i)))
           (made : held r ≡ with_exponent e (held q)) where
         same : normal (held q) ≡ normal p
         same = loaded ∙ ap normal kept_here
@@ -145,18 +145,18 @@ module _ (a b m : ℕ) (first : List ℕ) where
         unfolding normal with_exponent
         element = ap normal made ∙ pauli_path (mod-eq_of_lt l) (ap (λ (t : Pauli). t.x) same) (ap (λ (t : Pauli). t.z) same)
 
-        pub kept_more : (u : List ℕ) → u ≡ sets w (further_at + 5 * kept) (pauli_words r) → KeptUpTo a b m first (i + 1) (kept + 1) u
+        pub kept_more : (u : List ℕ) → u ≡ sets w (base + 5 * kept) (pauli_words r) → KeptUpTo base a b m first (i + 1) (kept + 1) u
         unfolding with_some cons_some
         kept_more u g = record {
           low = let k = K.low in omega arith;
           within = omega arith;
           list =
               let z : some e ≡ shared_noted a b p = s ∙ told in
-              ap (λ (x : List ℕ). list_in x further_at (kept + 1)) g
-              ∙ list_store w further_at kept r (let k = K.low in omega (arith, K.rest.size))
+              ap (λ (x : List ℕ). list_in x base (kept + 1)) g
+              ∙ list_store w base kept r (let k = K.low in omega (arith, K.rest.size))
               ∙ ap₂ (λ (ps : List Pauli) (t : Pauli). ps ++ (t ∷ [])) K.list element
-              ∙ sym (more ∙ ap (λ o. shared_with (shared_noted a b) (list_in first further_at i) ++ cons_some (with_some o p) []) (sym z));
-          rest = store_further first w further_at kept r K.rest u g;
+              ∙ sym (more ∙ ap (λ o. shared_with (shared_noted a b) (list_in first base i) ++ cons_some (with_some o p) []) (sym z));
+          rest = store_further first w base kept r K.rest u g;
         }
 
   pub found_noted : (w : List ℕ) (at : ℕ) (o : Option ℕ) → o ≡ shared_exponent a b (get_or w at 0 / 4 % 4) (get_or w at 0 % 4)
@@ -166,49 +166,49 @@ module _ (a b m : ℕ) (first : List ℕ) where
 
 -- ---- phases behind them
 
--- the phases below exponent k stand behind the n Paulis of the further list
-pub record PhasesUpTo (a b n : ℕ) (first : List ℕ) (k total : ℕ) (w : List ℕ) : Type 0 where
+-- the phases below exponent k stand behind the n Paulis from word base on
+pub record PhasesUpTo (base a b n : ℕ) (first : List ℕ) (k total : ℕ) (w : List ℕ) : Type 0 where
   pub within : k ≤ 4
   pub few : total ≤ n + k
-  pub list : list_in w further_at total ≡ list_in first further_at n ++ phases_from a b k 0
+  pub list : list_in w base total ≡ list_in first base n ++ phases_from a b k 0
   pub size : length w ≡ length first
 
-module _ (a b n : ℕ) (first : List ℕ) where
-  pub phases_none : PhasesUpTo a b n first 0 n first
+module _ (base a b n : ℕ) (first : List ℕ) where
+  pub phases_none : PhasesUpTo base a b n first 0 n first
   unfolding phases_from
-  phases_none = record { within = omega arith; few = omega arith; list = sym (append-nil (list_in first further_at n)); size = refl }
+  phases_none = record { within = omega arith; few = omega arith; list = sym (append-nil (list_in first base n)); size = refl }
 
-  module _ (k total : ℕ) (w : List ℕ) (P : PhasesUpTo a b n first k total w) (h : k < 4) where
+  module _ (k total : ℕ) (w : List ℕ) (P : PhasesUpTo base a b n first k total w) (h : k < 4) where
     one_more : phases_from a b (k + 1) 0 ≡ phases_from a b k 0 ++ phases_from a b 1 k
     one_more =
         let z : 0 + k ≡ k = omega arith in
         ap (λ (j : ℕ). phases_from a b j 0) (add-one k) ∙ phases_next a b k 0 ∙ ap (λ (j : ℕ). phases_from a b k 0 ++ phases_from a b 1 j) z
 
-    here : list_in w further_at total ++ phases_from a b 1 k ≡ list_in first further_at n ++ phases_from a b (k + 1) 0
+    here : list_in w base total ++ phases_from a b 1 k ≡ list_in first base n ++ phases_from a b (k + 1) 0
     here =
-        ap (◌++ phases_from a b 1 k) P.list ∙ append_assoc (list_in first further_at n) (phases_from a b k 0) (phases_from a b 1 k)
-        ∙ ap (list_in first further_at n ++◌) (sym one_more)
+        ap (◌++ phases_from a b 1 k) P.list ∙ append_assoc (list_in first base n) (phases_from a b k 0) (phases_from a b 1 k)
+        ∙ ap (list_in first base n ++◌) (sym one_more)
 
-    pub phases_skip : (k % a + k % b ≡ 0 → ⊥) → PhasesUpTo a b n first (k + 1) total w
+    pub phases_skip : (k % a + k % b ≡ 0 → ⊥) → PhasesUpTo base a b n first (k + 1) total w
     unfolding phases_from
     phases_skip d = record {
       within = omega arith;
       few = let f = P.few in omega arith;
       list =
           let z : phases_from a b 1 k ≡ [] = if_zero_more (max (k % a) (k % b)) (phase k ∷ []) [] (some_more (k % a) (k % b) d) in
-          sym (append-nil (list_in w further_at total)) ∙ ap (list_in w further_at total ++◌) (sym z) ∙ here;
+          sym (append-nil (list_in w base total)) ∙ ap (list_in w base total ++◌) (sym z) ∙ here;
       size = P.size;
     }
 
-    pub phases_put : k % a + k % b ≡ 0 → (u : List ℕ) → list_in u (further_at + 5 * total) 1 ≡ phase k ∷ [] → Outside (further_at + 5 * total) 5 w u
-        → PhasesUpTo a b n first (k + 1) (total + 1) u
+    pub phases_put : k % a + k % b ≡ 0 → (u : List ℕ) → list_in u (base + 5 * total) 1 ≡ phase k ∷ [] → Outside (base + 5 * total) 5 w u
+        → PhasesUpTo base a b n first (k + 1) (total + 1) u
     unfolding phases_from
     phases_put e u put o = record {
       within = omega arith;
       few = let f = P.few in omega arith;
       list =
           let z : phases_from a b 1 k ≡ phase k ∷ [] = if_zero_zero (phase k ∷ []) [] (let m : max (k % a) (k % b) ≡ 0 = omega (arith, e) in m) in
-          list_append u further_at total 1 ∙ ap₂ ◌++◌ (list_kept o further_at total (omega arith)) (put ∙ sym z) ∙ here;
+          list_append u base total 1 ∙ ap₂ ◌++◌ (list_kept o base total (omega arith)) (put ∙ sym z) ∙ here;
       size = o.size ∙ P.size;
     }
 

@@ -4,4 +4,4 @@ use Rattle.pauli_group.proofs.common.SharedLaws.{PhasesUpTo}
 use Rattle.pauli_group.proofs.common.append_phases.Given as goal
 
 abbrev pub invariant-loop-k : goal.invariant-loop-k
-invariant-loop-k l = PhasesUpTo (step_told l.fn.first) (step_told l.fn.second) l.n l.initial.w l.k l.total l.w
+invariant-loop-k l = PhasesUpTo l.list.base (step_told l.fn.first) (step_told l.fn.second) l.list.count l.initial.w l.k l.total l.w
