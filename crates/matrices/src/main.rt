@@ -149,8 +149,8 @@ fn print_form<W: Write>(out: &mut W, w: &mut [u64], width: usize, shape: Layout)
     Ok(())
 }
 
-// ---- matrices: `given`, `random` and `repeated` share three lines and differ in what fills the rows; a function over a closure that
-// fills them is longer.
+// ---- matrices: `given`, `random` and `repeated` share three lines and differ in what fills the rows; a function over a closure
+// that fills them is longer.
 
 // The row at word at from its digits.
 fn read_row(w: &mut [u64], at: usize, digits: &[u8])

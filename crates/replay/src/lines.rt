@@ -29,7 +29,7 @@ fn print_output<W: Write>(to: &mut W, out: &[u8], n: usize, f: u8) -> io::Result
     }
 }
 
-// The rest of a line that says nothing of the work area: the call takes none, or is the closing report.
+// The rest of a line with `work none`: of a call that takes no work area, or of the closing report.
 pub(crate) fn end_line<W: Write>(to: &mut W, out: &[u8], n: usize, f: u8) -> io::Result<()> {
     print_output(to, out, n, f)?;
     writeln!(to, "none")

@@ -42,6 +42,7 @@ fn run_rolls<W: Write>(
     Ok(0)
 }
 
+// A call that writes nothing.
 fn run_asked<W: Write>(
     to: &mut W,
     call: Asked,
