@@ -1,10 +1,9 @@
 // Qubits and their places in a support: the rising list of the qubits in use.
-ghost use Rattle.std.specs.Prelude.{◌≡◌, suc, ◌+◌, ◌*◌, ◌<◌, ◌≤◌, [], length, if◌then◌else◌, nat_lt, slice_index, IfSome};
-ghost use Rattle.pauli.specs.Bytes.{numbers_at};
+ghost use Rattle.std.specs.Prelude.{◌≡◌, suc, ◌<◌, ◌≤◌, [], length, if◌then◌else◌, nat_lt, slice_index, IfSome};
+ghost use Rattle.pauli.specs.Bytes.{u32s_in};
 ghost use Rattle.pauli.specs.Support.{most_qubits, insert, insert_all, Rising};
 ghost use Rattle.pauli.specs.Known.{place_of, lower, Gathered};
 
-use crate::bytes::u32_at;
 use std::marker::Model;
 
 // The most distinct qubits of a list.
@@ -88,21 +87,19 @@ impl Support {
         Place(i + 1)
     }
 
-    // Puts in the `total` numbers from byte `at` on, until more are known than a list may have. A set that rises is put in by one
-    // walk.
-    pub fn gather(&mut self, b: &[u8], at: usize, total: usize)
-        requires { at + 4 * total ≤ length b.now }
-        ensures { Gathered (insert_all (numbers_at b.now at total) self.old) self.new }
+    // Puts the numbers in, until more are known than a list may have. A set that rises is put in by one walk.
+    pub fn gather(&mut self, numbers: &[[u8; 4]])
+        ensures { Gathered (insert_all (u32s_in numbers.now) self.old) self.new }
     {
         // opened, so that the check knows its invariant
         let _ = &self.count;
         let mut from = Place(0);
         let mut last = Qubit(0);
-        for i in 0..total {
+        for bytes in numbers {
             if self.is_past_limit() {
                 return;
             }
-            let q = Qubit(u32_at(b, at + 4 * i));
+            let q = Qubit(u32::from_le_bytes(*bytes));
             from = self.note(walk_start(last, from, q), q);
             last = q;
         }

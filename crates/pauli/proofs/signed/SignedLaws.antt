@@ -1,5 +1,5 @@
 -- Laws of signed Paulis as the code holds them: exponents that wrap, and lists of Paulis in words.
-use Rattle.std.proofs.Common.{◌≡◌, ℕ, zero, suc, ◌+◌, ◌*◌, ◌/◌, ◌%◌, ◌^◌, ◌<◌, ◌≤◌, false, eqb, List, [], ◌∷◌, set, sym, refl, ap, ◌∙◌, ap₂, add-zero, add-one, arith, drop-drop, length-drop, length-take-le, length, get_or, take, drop, ne_eqb}
+use Rattle.std.proofs.Common.{◌≡◌, ℕ, zero, suc, ◌+◌, ◌*◌, ◌%◌, ◌^◌, ◌<◌, ◌≤◌, false, eqb, List, [], ◌∷◌, set, sym, refl, ap, ◌∙◌, ap₂, add-zero, add-one, arith, length, get_or, take, drop, map, ne_eqb}
 use native.Mathlib.Nat.{add-mod}
 use lib.Pow.{mod-mod-pow}
 use lib.Seq.{sets}
@@ -10,7 +10,7 @@ use Rattle.pauli.proofs.places.Members.{at_indexes, at_hit, at_past, select_memb
 use Rattle.pauli.specs.Sets.{members}
 use Rattle.std.specs.Simd.{first_chunks}
 use Rattle.std.specs.Prelude.{slice_index}
-use Rattle.std.proofs.lemmas.List.{get_or-take, get_or-drop, drop-take}
+use Rattle.pauli.proofs.roll.Items.{items_at, chunk_items}
 use Rattle.pauli.proofs.signed.Products.{product_normal}
 
 -- ---- exponents
@@ -65,25 +65,20 @@ pauli_shifted w l i same =
     let e : slice_index l 0 ≡ slice_index w i = same 0 (omega arith) ∙ ap (slice_index w) (add-zero i) in
     rw (e, same 1 (omega arith), same 2 (omega arith), same 3 (omega arith), same 4 (omega arith)) refl
 
--- the first five of n fives from word i of w on
-pub five_first : (w : List ℕ) (i m k : ℕ) → 5 ≤ m → k < 5 → slice_index (take 5 (take m (drop i w))) k ≡ slice_index w (i + k)
-five_first w i m k h l = get_or-take 5 _ k 0 l ∙ get_or-take m (drop i w) k 0 (omega arith) ∙ get_or-drop i w k 0
+paulis_items : (ls : List (List ℕ)) → paulis_in ls ≡ map (λ l. pauli_in l 0) ls
+unfolding paulis_in
+paulis_items [] = refl
+paulis_items (l ∷ ls) = ap (λ ps. pauli_in l 0 ∷ ps) (paulis_items ls)
 
-five_rest : (w : List ℕ) (i m k : ℕ) → m ≡ 5 + k → drop 5 (take m (drop i w)) ≡ take k (drop (i + 5) w)
-five_rest w i m k e = ap (λ (j : ℕ). drop 5 (take j (drop i w))) e ∙ drop-take 5 k (drop i w) ∙ ap (take k) (drop-drop 5 i w)
-
-chunk_lists : (w : List ℕ) (i n m : ℕ) → m ≡ 5 * n → paulis_in (first_chunks 5 n (take m (drop i w))) ≡ list_in w i n
-unfolding paulis_in list_in
-chunk_lists w i zero m e = refl
-chunk_lists w i (suc n) m e =
-    ap₂ ◌∷◌ (pauli_shifted w _ i (λ k l. five_first w i m k (omega arith) l))
-    (ap (λ (l : List ℕ). paulis_in (first_chunks 5 n l)) (five_rest w i m (5 * n) (omega arith)) ∙ chunk_lists w (i + 5) n (5 * n) refl)
-
-pub count_fives : (w : List ℕ) (i n m : ℕ) → i + m ≤ length w → m ≡ 5 * n → length (take m (drop i w)) / 5 ≡ n
-count_fives w i n m h e = let l : length (take m (drop i w)) ≡ m = length-take-le m (drop i w) (rw (length-drop i w) (omega arith)) in omega (arith, l)
+list_items : (w : List ℕ) (i n : ℕ) → list_in w i n ≡ items_at 5 (pauli_in w) i n
+unfolding list_in items_at
+list_items w i zero = refl
+list_items w i (suc n) = ap (λ ps. pauli_in w i ∷ ps) (list_items w (i + 5) n)
 
 pub chunk_paulis : (w : List ℕ) (i n m k : ℕ) → m ≡ 5 * n → k ≡ n → paulis_in (first_chunks 5 k (take m (drop i w))) ≡ list_in w i n
-chunk_paulis w i n m k e f = ap (λ (j : ℕ). paulis_in (first_chunks 5 j (take m (drop i w)))) f ∙ chunk_lists w i n m e
+chunk_paulis w i n m k e f =
+    ap (λ (j : ℕ). paulis_in (first_chunks 5 j (take m (drop i w)))) f ∙ paulis_items _
+    ∙ chunk_items 5 (λ l. pauli_in l 0) (pauli_in w) w (λ j l. pauli_shifted w l j) i n m e ∙ sym (list_items w i n)
 
 -- ---- the product of a list by its indexes
 

@@ -1,11 +1,10 @@
 -- The known qubit numbers: the walk to a number's place, and what is known once it is put in.
-use Rattle.std.proofs.Common.{◌≡◌, ℕ, zero, suc, ◌+◌, ◌-◌, ◌*◌, ◌<◌, ◌≤◌, Bool, true, false, cond, not, eqb, ltb, List, [], ◌∷◌, ◌++◌, length, get_or, take, drop, set, sym, refl, ap, ◌∙◌, ap₂, append_assoc, suc-le-suc, add-zero, add-one, arith, length-append, length-drop, length-take-le, get_or-take, take_at, take-take, le-ltb, lt-ltb, eq-eqb, ne_eqb}
-use native.Mathlib.Nat.{sub-zero}
+use Rattle.std.proofs.Common.{◌≡◌, ℕ, zero, suc, ◌+◌, ◌-◌, ◌<◌, ◌≤◌, Bool, true, false, cond, not, eqb, ltb, List, [], ◌∷◌, ◌++◌, length, get_or, take, drop, set, sym, refl, ap, ◌∙◌, ap₂, append_assoc, suc-le-suc, add-one, arith, length-append, length-drop, length-take-le, get_or-take, take_at, take-take, le-ltb, lt-ltb, eq-eqb, ne_eqb, drop-cons, drop_of_length-le}
 use native.Mathlib.Decide.{dec_lt}
 use lib.Seq.{set_split}
 use Rattle.std.proofs.lemmas.List.{drop-take, drop_at}
 use Rattle.std.specs.List.{copy_within}
-use Rattle.pauli.specs.Bytes.{u32_at, numbers_at}
+use Rattle.pauli.specs.Bytes.{u32_at, u32s_in}
 use Rattle.pauli.specs.Support.{most_qubits, insert, insert_all, Rising}
 use Rattle.pauli.specs.Known.{place_of, first_place, lower, Gathered}
 use Rattle.pauli.proofs.support.Lists.{in_get_or}
@@ -193,16 +192,22 @@ module _ (l : List ℕ) (n q : ℕ) (room : n < length l) where
 
 -- ---- numbers noted in turn
 
-pub numbers_next : (b : List ℕ) (at total i : ℕ) → i < total → numbers_at b (at + 4 * i) (total - i) ≡ u32_at b (at + 4 * i) ∷ numbers_at b (at + 4 * (i + 1)) (total - (i + 1))
-unfolding numbers_at
-numbers_next b at total i h =
-    let e : total - i ≡ suc (total - (i + 1)) = omega arith in
-    let f : at + 4 * i + 4 ≡ at + 4 * (i + 1) = omega arith in
-    rw (e, ← f)
+-- the numbers from number i on
+unfoldable pub numbers_from : List (List ℕ) → ℕ → List ℕ
+numbers_from ls i = u32s_in (drop i ls)
 
-pub numbers_end : (b : List ℕ) (at total i : ℕ) → total ≤ i → numbers_at b (at + 4 * i) (total - i) ≡ []
-unfolding numbers_at
-numbers_end b at total i h = let e : total - i ≡ 0 = omega arith in rw e
+module _ (ls : List (List ℕ)) where
+  pub numbers_start : u32s_in ls ≡ numbers_from ls 0
+  unfolding numbers_from
+  numbers_start = refl
+
+  pub numbers_next : (i : ℕ) → i < length ls → numbers_from ls i ≡ u32_at (get_or ls i []) 0 ∷ numbers_from ls (i + 1)
+  unfolding numbers_from u32s_in
+  numbers_next i h = rw (drop-cons ls i [] h, add-one i) refl
+
+  pub numbers_end : (i : ℕ) → length ls ≤ i → numbers_from ls i ≡ []
+  unfolding numbers_from u32s_in
+  numbers_end i h = ap u32s_in (drop_of_length-le ls h)
 
 pub insert_all_longer : (qs known : List ℕ) → length known ≤ length (insert_all qs known)
 unfolding insert_all
@@ -214,14 +219,14 @@ pub walk_from : (l : List ℕ) (last from : ℕ) → ((s : ℕ) → last < s →
 walk_from l last from walk q = elim (dec_lt last q) [ yes h ↦ rw (lt-ltb last q h) (walk q h) | no h ↦ rw (le-ltb last q (omega arith)) (omega arith) ]
 
 -- i of the numbers are noted, and the walk for a number above `last` may start at `from`
-module _ (b : List ℕ) (at total : ℕ) (old : List ℕ) where
+module _ (ls : List (List ℕ)) (old : List ℕ) where
   abbrev all : List ℕ
-  all = insert_all (numbers_at b at total) old
+  all = insert_all (u32s_in ls) old
 
   pub record Walking (known : List ℕ) (from last i : ℕ) : Type 0 where
-    pub done : i ≤ total
+    pub done : i ≤ length ls
     pub few : length known ≤ suc most_qubits
-    pub left : all ≡ insert_all (numbers_at b (at + 4 * i) (total - i)) known
+    pub left : all ≡ insert_all (numbers_from ls i) known
     pub walk : (s : ℕ) → last < s → from ≤ lower s known
     pub rises : Rising 0 known
 
@@ -229,31 +234,31 @@ module _ (b : List ℕ) (at total : ℕ) (old : List ℕ) where
   walking_start h rises = record {
     done = omega arith;
     few = h;
-    left = simp (add-zero, sub-zero);
+    left = ap (λ ns. insert_all ns old) (numbers_start ls);
     walk = λ s k. omega arith;
     rises = rises;
   }
 
   module _ (known : List ℕ) (from last i : ℕ) (w : Walking known from last i) where
-    pub walking_next : i < total → (q : ℕ) → q ≡ u32_at b (at + 4 * i) → (new : List ℕ) (p : ℕ) → length known ≤ most_qubits
+    pub walking_next : i < length ls → (q : ℕ) → q ≡ u32_at (get_or ls i []) 0 → (new : List ℕ) (p : ℕ) → length known ≤ most_qubits
         → new ≡ insert q known → p ≡ suc (lower q known) → Walking new p q (i + 1)
     unfolding insert_all
     walking_next h q e new p few t next = record {
       done = omega arith;
       few = rw t (omega (arith, few, (insert_length q known).1));
-      left = w.left ∙ rw (numbers_next b at total i h, ← e, t);
+      left = w.left ∙ rw (numbers_next ls i h, ← e, t);
       walk = λ s k. rw (next, t) (lower_next q s known k);
       rises = rw t (insert_rises 0 q known (omega arith) w.rises);
     }
 
     pub walking_full : most_qubits < length known → Gathered all known
     walking_full h =
-        let more = insert_all_longer (numbers_at b (at + 4 * i) (total - i)) known in
+        let more = insert_all_longer (numbers_from ls i) known in
         let long : suc most_qubits ≤ length all = rw w.left (omega (arith, more)) in
-        record { count = omega (arith, w.few, long); known = λ k. absurd (omega arith); among = λ q. rw w.left (insert_all_keeps (numbers_at b (at + 4 * i) (total - i)) known q); rises = w.rises }
+        record { count = omega (arith, w.few, long); known = λ k. absurd (omega arith); among = λ q. rw w.left (insert_all_keeps (numbers_from ls i) known q); rises = w.rises }
 
-    pub walking_end : total ≤ i → Gathered all known
+    pub walking_end : length ls ≤ i → Gathered all known
     unfolding insert_all
     walking_end h =
-        let e : all ≡ known = w.left ∙ rw (numbers_end b at total i h) in
+        let e : all ≡ known = w.left ∙ rw (numbers_end ls i h) in
         record { count = rw e (omega (arith, w.few)); known = λ _. sym e; among = λ q. rw e (λ h. h); rises = w.rises }
