@@ -46,7 +46,8 @@ fn places_of(numbers: &[[u8; 4]], support: &[u32]) -> Places
     set
 }
 
-// Pauli i of a roll over the places of a support that has its qubits.
+// Pauli i of a roll over the places of a support that has its qubits. Here and elsewhere a support is a slice of at most 128
+// numbers: a `&Support` would ask more of callers.
 pub fn condense_from(roll: Roll, i: usize, support: &[u32]) -> Pauli
     requires { Readable roll.bytes.now roll.count i support.now × (length support.now ≤ 128) }
     ensures { held result ≡ condensed support.now (pauli_of (slice_index_or (list_of roll.entry.bytes.now) i nothing)) }

@@ -50,7 +50,7 @@ pub fn entry_at(b: &[u8], i: usize) -> Entry
     }
 }
 
-// Checks the n entries in turn.
+// Checks the n entries in turn, by number: the number of the entry is what a refusal tells.
 fn check_entries(b: &[u8], n: usize) -> Result<usize, Refusal>
     requires { (2 + 10 * n ≤ length b.now) × (n ≤ most_paulis) }
     ensures { told_of result ≡ check_entries 0 0 (entries_at b.now 2 n) }
@@ -105,7 +105,7 @@ fn check_set(numbers: &[[u8; 4]], i: usize) -> Result<(), Refusal>
     Ok(())
 }
 
-// Checks the sets of the n Paulis in turn, whose bodies fill the rest of the roll.
+// Checks the sets of the n Paulis in turn, whose bodies fill the rest of the roll; by number, as `check_entries`.
 fn check_sets(b: &[u8], n: usize) -> Result<(), Refusal>
     requires { 2 + 10 * n + 4 * length (numbers (paulis_at b.now (2 + 10 * n) (entries_at b.now 2 n))) ≡ length b.now }
     ensures { told_of result ≡ check_sets 0 (paulis_at b.now (2 + 10 * n) (entries_at b.now 2 n)) }

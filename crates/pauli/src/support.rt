@@ -10,7 +10,7 @@ use std::marker::Model;
 pub const MOST_QUBITS: usize = 128;
 
 // A qubit's number.
-#[derive(Clone, Copy)]
+#[derive(Clone, Copy, PartialEq, Eq, PartialOrd)]
 pub struct Qubit(pub u32);
 
 // A place in a support.
@@ -76,7 +76,7 @@ impl Support {
         let count = self.count;
         let i = place_from(&self.numbers[..count], from, q).0;
         if i < count {
-            if self.numbers[i] == q.0 {
+            if Qubit(self.numbers[i]) == q {
                 return Place(i + 1);
             }
         }
@@ -118,13 +118,8 @@ pub fn qubit_at(support: &[u32], p: Place) -> Qubit
 pub fn place_of(support: &[u32], q: Qubit) -> Place
     ensures { result.0 ≡ place_of support.now q.0 }
 {
-    let wanted = q.0;
-    for i in 0..support.len() {
-        if support[i] == wanted {
-            return Place(i);
-        }
-    }
-    Place(support.len())
+    let found = support.iter().position(|number| *number == q.0);
+    Place(found.unwrap_or(support.len()))
 }
 
 // The place that q has if the numbers from the place `from` on follow one another without a gap, if q stands there.
@@ -148,7 +143,8 @@ fn guess_from(support: &[u32], from: Place, q: Qubit) -> Option<Place>
     None
 }
 
-// The place at which q is to stand. The numbers before the place `from` are below it, and are not looked at.
+// The place at which q is to stand. The numbers before the place `from` are below it, and are not looked at. That the slice rises
+// is asked, since no slice carries it. What the guess misses is found by a walk: the guess is nearly always right.
 pub fn place_from(support: &[u32], from: Place, q: Qubit) -> Place
     requires { (from.0 ≤ lower q.0 support.now) × Rising 0 support.now }
     ensures { result.0 ≡ lower q.0 support.now }
@@ -156,20 +152,16 @@ pub fn place_from(support: &[u32], from: Place, q: Qubit) -> Place
     if let Some(guess) = guess_from(support, from, q) {
         return guess;
     }
-    let number = q.0;
-    for i in from.0..support.len() {
-        if support[i] >= number {
-            return Place(i);
-        }
-    }
-    Place(support.len())
+    let rest = &support[from.0..];
+    let found = rest.iter().position(|number| *number >= q.0);
+    Place(from.0 + found.unwrap_or(rest.len()))
 }
 
 // Where the walk to q starts: at the place `from`, past the qubit met last, if q is above that one, else anew.
 pub fn walk_start(last: Qubit, from: Place, q: Qubit) -> Place
     ensures { result.0 ≡ (if nat_lt last.0 q.0 then from.0 else 0) }
 {
-    if last.0 < q.0 {
+    if last < q {
         return from;
     }
     Place(0)

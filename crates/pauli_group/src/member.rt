@@ -54,7 +54,7 @@ fn covers(numbers: &[[u8; 4]], support: &[u32]) -> bool
             return false;
         }
         let met = qubit_at(support, place);
-        if met.0 != q.0 {
+        if met != q {
             return false;
         }
         from = Place(i + 1);
@@ -70,10 +70,7 @@ fn is_supported(roll: Roll, i: usize, support: &[u32]) -> bool
 {
     let e = roll.entry(i);
     let at = 2 + 10 * roll.count + 4 * e.start;
-    covers(
-        numbers_at(roll.bytes, at, e.xcount + e.zcount),
-        support,
-    )
+    covers(numbers_at(roll.bytes, at, e.xcount + e.zcount), support)
 }
 
 // Finds the generators whose rows add up to that of p, by the form of their group.

@@ -1,8 +1,7 @@
 -- Laws of signed Paulis as the code holds them: exponents that wrap, and lists of Paulis in words.
-use Rattle.std.proofs.Common.{◌≡◌, ℕ, zero, suc, ◌+◌, ◌*◌, ◌%◌, ◌^◌, ◌<◌, ◌≤◌, false, eqb, List, [], ◌∷◌, set, sym, refl, ap, ◌∙◌, ap₂, add-zero, add-one, arith, length, get_or, take, drop, map, ne_eqb}
+use Rattle.std.proofs.Common.{◌≡◌, ℕ, zero, suc, ◌+◌, ◌*◌, ◌%◌, ◌^◌, ◌<◌, ◌≤◌, false, eqb, List, [], ◌∷◌, sym, refl, ap, ◌∙◌, ap₂, add-zero, arith, length, get_or, take, drop, map, ne_eqb}
 use native.Mathlib.Nat.{add-mod}
 use lib.Pow.{mod-mod-pow}
-use lib.Seq.{sets}
 use Rattle.pauli.specs.Pauli.{Pauli, I, normal, times, product_from, product, select, indexed_product}
 use Rattle.pauli.specs.Signed.{pauli_in, list_in, paulis_in}
 use Rattle.pauli.proofs.signed.Algebra.{times_normal_l, times_normal_r, normal_times}
@@ -31,15 +30,6 @@ sum_not a b h = ne_eqb (a + b) 0 (λ e. h (omega arith))
 
 pub sum_zero : (a b : ℕ) → a ≡ 0 → eqb (a + b) 0 ≡ eqb b 0
 sum_zero a b h = let e : a + b ≡ b = omega arith in ap (λ (n : ℕ). eqb n 0) e
-
--- ---- words
-
-pub five : (l : List ℕ) (i a b c d e : ℕ) → set (set (set (set (set l i a) (i + 1) b) (i + 2) c) (i + 3) d) (i + 4) e ≡ sets l i (a ∷ b ∷ c ∷ d ∷ e ∷ [])
-five l i a b c d e =
-    let two : i + 2 ≡ suc (suc i) = omega arith in
-    let three : i + 3 ≡ suc (suc (suc i)) = omega arith in
-    let four : i + 4 ≡ suc (suc (suc (suc i))) = omega arith in
-    rw (add-one i, two, three, four)
 
 pub zero_bit : (b : ℕ) → b < 2 → (b ≡ 1 → ⊥) → b ≡ 0
 zero_bit zero h n = refl

@@ -1,6 +1,9 @@
 -- The known qubit numbers: the walk to a number's place, and what is known once it is put in.
-use Rattle.std.proofs.Common.{◌≡◌, ℕ, zero, suc, ◌+◌, ◌-◌, ◌<◌, ◌≤◌, Bool, true, false, cond, not, eqb, ltb, List, [], ◌∷◌, ◌++◌, length, get_or, take, drop, set, sym, refl, ap, ◌∙◌, ap₂, append_assoc, suc-le-suc, add-one, arith, length-append, length-drop, length-take-le, get_or-take, take_at, take-take, le-ltb, lt-ltb, eq-eqb, ne_eqb, drop-cons, drop_of_length-le}
+use Rattle.std.proofs.Common.{◌≡◌, ℕ, zero, suc, ◌+◌, ◌-◌, ◌<◌, ◌≤◌, Bool, true, false, cond, not, eqb, ltb, List, [], ◌∷◌, ◌++◌, length, get_or, take, drop, set, sym, refl, ap, ◌∙◌, ap₂, append_assoc, suc-le-suc, add-one, arith, length-append, length-drop, length-take-le, get_or-take, take_at, take-take, le-ltb, lt-ltb, drop-cons, drop_of_length-le}
 use native.Mathlib.Decide.{dec_lt}
+use Rattle.std.proofs.Common.{Option, Some, None}
+use Rattle.std.specs.List.{position_or_len}
+use Rattle.std.specs.Option.{unwrap_or}
 use lib.Seq.{set_split}
 use Rattle.std.proofs.lemmas.List.{drop-take, drop_at}
 use Rattle.std.specs.List.{copy_within}
@@ -21,24 +24,37 @@ module _ (test : ℕ → Bool) where
       go true e = hit e
       go false e = miss e
 
-  both_none : {X : Type 0} (r : ℕ) → test r ≡ true → test r ≡ false → X
-  both_none r e f = let z : ◌≡◌ {A = Bool} true false = sym e ∙ f in let w : ◌≡◌ {A = ℕ} 0 1 = cc in absurd (omega arith)
-
   pub first_le : (l : List ℕ) → first_place test l ≤ length l
   unfolding first_place
   first_le [] = omega arith
   first_le (r ∷ rs) = first_cases r rs (λ n. n ≤ suc (length rs)) (λ _. omega arith) (λ _. suc-le-suc (first_le rs))
 
-  pub first_hit : (l : List ℕ) (i : ℕ) → i < length l → test (get_or l i 0) ≡ true → first_place test l ≤ i
-  first_hit [] i h e = absurd (omega arith)
-  first_hit (r ∷ rs) zero h e = first_cases r rs (λ n. n ≤ 0) (λ _. omega arith) (λ f. both_none r e f)
-  first_hit (r ∷ rs) (suc i) h e = first_cases r rs (λ n. n ≤ suc i) (λ _. omega arith) (λ _. suc-le-suc (first_hit rs i (omega arith) e))
+  first_or_len : (l : List ℕ) → position_or_len test l ≡ first_place test l
+  unfolding first_place
+  first_or_len [] = refl
+  first_or_len (r ∷ rs) = go (test r) (first_or_len rs)
+    where
+      go : (t : Bool) → position_or_len test rs ≡ first_place test rs → cond (not t) (1 + position_or_len test rs) 0 ≡ cond t 0 (suc (first_place test rs))
+      go true e = refl
+      go false e = omega (arith, e)
 
-  pub first_miss : (l : List ℕ) (i : ℕ) → i ≤ first_place test l → i < length l → test (get_or l i 0) ≡ false → suc i ≤ first_place test l
-  first_miss [] i k h e = absurd (omega arith)
-  first_miss (r ∷ rs) zero k h e = first_cases r rs (λ n. 1 ≤ n) (λ f. both_none r f e) (λ _. omega arith)
-  first_miss (r ∷ rs) (suc i) k h e =
-      first_cases r rs (λ n. suc i ≤ n → suc (suc i) ≤ n) (λ _ j. absurd (omega arith)) (λ _ j. suc-le-suc (first_miss rs i (omega arith) (omega arith) e)) k
+  -- what a search of the list tells, or else the list's length
+  pub first_found : (l : List ℕ) (r : Option ℕ) → r ≡ cond (ltb (position_or_len test l) (length l)) (Some (position_or_len test l)) None
+      → unwrap_or r (length l) ≡ first_place test l
+  first_found l r e =
+      let n = first_place test l in
+      let found : r ≡ cond (ltb n (length l)) (Some n) None = rw (first_or_len l) at e in
+      elim (dec_lt n (length l)) [
+        | yes h ↦ ap (λ (o : Option ℕ). unwrap_or o (length l)) (rw (lt-ltb n (length l) h) at found)
+        | no h ↦ ap (λ (o : Option ℕ). unwrap_or o (length l)) (rw (le-ltb n (length l) (omega arith)) at found) ∙ omega (arith, first_le l)
+      ]
+
+  -- the first k, none of which passes, may be left out
+  pub first_rest : (k : ℕ) (l : List ℕ) → k ≤ first_place test l → k + first_place test (drop k l) ≡ first_place test l
+  first_rest zero l h = omega arith
+  first_rest (suc k) [] h = absurd (omega (arith, first_le []))
+  first_rest (suc k) (r ∷ rs) h =
+      first_cases r rs (λ n. suc k ≤ n → suc k + first_place test (drop k rs) ≡ n) (λ _ j. absurd (omega arith)) (λ _ j. omega (arith, first_rest k rs (omega arith))) h
 
 pub place_first : (l : List ℕ) (q : ℕ) → place_of l q ≡ first_place (λ r. eqb r q) l
 unfolding place_of first_place
@@ -46,27 +62,9 @@ place_first [] q = refl
 place_first (r ∷ rs) q = ap (λ n. cond (eqb r q) 0 (suc n)) (place_first rs q)
 
 module _ (l : List ℕ) (q : ℕ) where
-  pub place_le : place_of l q ≤ length l
-  place_le = rw place_first (first_le (λ r. eqb r q) l)
-
   pub lower_le : lower q l ≤ length l
   unfolding lower
   lower_le = first_le (λ r. not (ltb r q)) l
-
-  module _ (i : ℕ) (h : i < length l) where
-    pub place_hit : get_or l i 0 ≡ q → place_of l q ≤ i
-    place_hit e = rw place_first (first_hit (λ r. eqb r q) l i h (eq-eqb _ _ e))
-
-    pub place_miss : i ≤ place_of l q → (get_or l i 0 ≡ q → ⊥) → i + 1 ≤ place_of l q
-    place_miss k e = rw place_first (rw add-one (first_miss (λ r. eqb r q) l i (rw place_first at k) h (ne_eqb _ _ e)))
-
-    pub lower_hit : q ≤ get_or l i 0 → lower q l ≤ i
-    unfolding lower
-    lower_hit e = first_hit (λ r. not (ltb r q)) l i h (ap not (le-ltb _ _ e))
-
-    pub lower_miss : i ≤ lower q l → get_or l i 0 < q → i + 1 ≤ lower q l
-    unfolding lower
-    lower_miss k e = rw add-one (first_miss (λ r. not (ltb r q)) l i k h (ap not (lt-ltb _ _ e)))
 
 -- ---- q put in at a place
 

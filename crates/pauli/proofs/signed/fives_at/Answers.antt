@@ -3,7 +3,7 @@ use Rattle.std.proofs.Common.{◌+◌, ◌-◌, ◌*◌, ◌∙◌, ap, arith}
 use Rattle.pauli.proofs.roll.Items.{length_stretch}
 use Rattle.pauli.proofs.signed.SignedLaws.{chunk_paulis}
 use Rattle.pauli.specs.Signed.{paulis_in}
-use Rattle.pauli.proofs.signed.paulis_at.Goals as goal
+use Rattle.pauli.proofs.signed.fives_at.Goals as goal
 
 pub returns-clause-list : goal.returns-clause-list
 returns-clause-list c =
