@@ -1,5 +1,5 @@
 -- Numbers in bytes, all little-endian.
-use Rattle.std.specs.Prelude.{ℕ, zero, suc, ◌+◌, ◌*◌, ◌/◌, ◌%◌, List, [], ◌∷◌, ◌++◌, slice_index}
+use Rattle.std.specs.Prelude.{ℕ, zero, suc, ◌+◌, ◌*◌, ◌/◌, ◌%◌, List, [], ◌∷◌, ◌++◌, map, slice_index}
 
 -- the number that the two bytes from byte i on write
 unfoldable pub u16_at : List ℕ → ℕ → ℕ
@@ -21,6 +21,10 @@ le32 n = n % 256 ∷ n / 256 % 256 ∷ n / 65536 % 256 ∷ n / 16777216 % 256 �
 unfoldable pub numbers_at : List ℕ → ℕ → ℕ → List ℕ
 numbers_at b i zero = []
 numbers_at b i (suc n) = u32_at b i ∷ numbers_at b (i + 4) n
+
+-- the numbers of a list of fours of bytes
+unfoldable pub u32s_in : List (List ℕ) → List ℕ
+u32s_in ls = map (λ l. u32_at l 0) ls
 
 -- numbers as four bytes each
 unfoldable pub le32s : List ℕ → List ℕ

@@ -1,12 +1,12 @@
 // Paulis of a roll over the places of a support.
-ghost use Rattle.std.specs.Prelude.{◌≡◌, ◌+◌, ◌*◌, ◌^◌, ◌<◌, ◌≤◌, length, bit_or, slice_index_or};
-ghost use Rattle.pauli.specs.Bytes.{numbers_at};
+ghost use Rattle.std.specs.Prelude.{◌≡◌, ◌^◌, ◌<◌, ◌≤◌, length, bit_or, slice_index_or};
+ghost use Rattle.pauli.specs.Bytes.{u32s_in};
 ghost use Rattle.pauli.specs.Sets.{set_of, condense, pauli_of};
 ghost use Rattle.pauli.specs.Signed.{held};
 ghost use Rattle.pauli.specs.PlaceSet.{set_in};
 ghost use Rattle.pauli.specs.Condense.{Covered, Readable, list_of, condensed, nothing};
 
-use crate::bytes::u32_at;
+use crate::bytes::numbers_at;
 use crate::places::Places;
 use crate::roll::Roll;
 use crate::signed::Pauli;
@@ -30,15 +30,15 @@ pub fn with_place(set: Places, p: Place) -> Places
     }
 }
 
-// The places of the rising numbers from byte at on, total of them.
-fn places_of(b: &[u8], at: usize, total: usize, support: &[u32]) -> Places
-    requires { (at + 4 * total ≤ length b.now) × (length support.now ≤ 128) × Covered (numbers_at b.now at total) support.now }
-    ensures { set_in result ≡ condense support.now (set_of (numbers_at b.now at total)) }
+// The places of rising numbers.
+fn places_of(numbers: &[[u8; 4]], support: &[u32]) -> Places
+    requires { (length support.now ≤ 128) × Covered (u32s_in numbers.now) support.now }
+    ensures { set_in result ≡ condense support.now (set_of (u32s_in numbers.now)) }
 {
     let mut set = Places::none();
     let mut from = Place(0);
-    for k in 0..total {
-        let q = Qubit(u32_at(b, at + 4 * k));
+    for bytes in numbers {
+        let q = Qubit(u32::from_le_bytes(*bytes));
         let place = place_from(support, from, q);
         set = with_place(set, place);
         from = Place(place.0 + 1);
@@ -46,15 +46,16 @@ fn places_of(b: &[u8], at: usize, total: usize, support: &[u32]) -> Places
     set
 }
 
-// Pauli i of a roll over the places of a support that has its qubits.
+// Pauli i of a roll over the places of a support that has its qubits. Here and elsewhere a support is a slice of at most 128
+// numbers: a `&Support` would ask more of callers.
 pub fn condense_from(roll: Roll, i: usize, support: &[u32]) -> Pauli
     requires { Readable roll.bytes.now roll.count i support.now × (length support.now ≤ 128) }
     ensures { held result ≡ condensed support.now (pauli_of (slice_index_or (list_of roll.entry.bytes.now) i nothing)) }
 {
     let e = roll.entry(i);
     let at = 2 + 10 * roll.count + 4 * e.start;
-    let x = places_of(roll.bytes, at, e.xcount, support);
-    let z = places_of(roll.bytes, at + 4 * e.xcount, e.zcount, support);
+    let x = places_of(numbers_at(roll.bytes, at, e.xcount), support);
+    let z = places_of(numbers_at(roll.bytes, at + 4 * e.xcount, e.zcount), support);
     Pauli {
         exponent: e.exponent,
         x: x,

@@ -10,7 +10,8 @@ use crate::refusal::{Reason, Refusal};
 use crate::roll::Roll;
 use crate::write::{put_entry, put_u16};
 
-// Writes the entries of a roll from byte at on, where `before` qubit numbers stand in earlier bodies.
+// Writes the entries of a roll from byte at on, where `before` qubit numbers stand in earlier bodies. By number: entry i of the
+// roll is entry i from there on.
 fn copy_entries(out: &mut [u8], at: usize, roll: Roll, before: usize)
     requires { (at + 10 * roll.count ≤ length out.old) × (before ≤ 16777216) }
     ensures { out.new ≡ put_bytes out.old at (table before (map by_value (list_of roll.entry.bytes.now))) }

@@ -4,7 +4,7 @@ ghost use Rattle.pauli.specs.Refusals.{number_of};
 
 use std::fmt;
 
-// The reasons, with document 01's number of each.
+// The reasons, with the number that a caller is told for each.
 #[derive(Clone, Copy)]
 pub enum Reason {
     // The roll is cut, or its length is not that of its table.
@@ -55,7 +55,7 @@ impl fmt::Display for Refusal {
     }
 }
 
-// Document 01's number of a reason.
+// The number that a caller is told for a reason. A function, so that the cast and what it gives stand once.
 pub fn number_of(reason: Reason) -> usize
     ensures { result ≡ number_of reason }
 {

@@ -1,6 +1,6 @@
 // Rolls: the reader. It uses no work area, and indexes nothing by a qubit number.
 ghost use Rattle.std.specs.Prelude.{◌≡◌, ℕ, suc, ◌+◌, ◌*◌, ◌<◌, ◌≤◌, min, [], length, slice_index, IfOk};
-ghost use Rattle.pauli.specs.Bytes.{numbers_at};
+ghost use Rattle.pauli.specs.Bytes.{u32s_in};
 ghost use Rattle.pauli.specs.Roll.{most_paulis, entry_at, entries_at, paulis_at, check_entries, check_set, check_sets, numbers, bodies, count_of};
 ghost use Rattle.pauli.specs.Support.{most_qubits, insert_all};
 ghost use Rattle.pauli.specs.Told.{refused, answer};
@@ -9,7 +9,7 @@ ghost use Rattle.pauli.specs.Refusals.{number_of, told_of, told_by};
 ghost use Rattle.pauli.specs.Condense.{list_of};
 ghost use Rattle.pauli.specs.Known.{Gathered};
 
-use crate::bytes::{u16_at, u32_at};
+use crate::bytes::{numbers_at, u16_at, u32_at};
 use crate::refusal::{Reason, Refusal};
 use crate::support::{MOST_QUBITS, Support};
 
@@ -50,7 +50,7 @@ pub fn entry_at(b: &[u8], i: usize) -> Entry
     }
 }
 
-// Checks the n entries in turn.
+// Checks the n entries in turn, by number: the number of the entry is what a refusal tells.
 fn check_entries(b: &[u8], n: usize) -> Result<usize, Refusal>
     requires { (2 + 10 * n ≤ length b.now) × (n ≤ most_paulis) }
     ensures { told_of result ≡ check_entries 0 0 (entries_at b.now 2 n) }
@@ -81,14 +81,13 @@ fn check_entries(b: &[u8], n: usize) -> Result<usize, Refusal>
     Ok(before)
 }
 
-// Checks a set of Pauli i in turn: the `total` numbers from byte `at` on.
-fn check_set(b: &[u8], i: usize, at: usize, total: usize) -> Result<(), Refusal>
-    requires { at + 4 * total ≤ length b.now }
-    ensures { told_of result ≡ check_set i 0 (numbers_at b.now at total) }
+// Checks a set of Pauli i in turn.
+fn check_set(numbers: &[[u8; 4]], i: usize) -> Result<(), Refusal>
+    ensures { told_of result ≡ check_set i 0 (u32s_in numbers.now) }
 {
     let mut least: u32 = 0;
-    for k in 0..total {
-        let number = u32_at(b, at + 4 * k);
+    for bytes in numbers {
+        let number = u32::from_le_bytes(*bytes);
         if number > HIGHEST_QUBIT {
             return Err(Refusal {
                 reason: Reason::Qubit,
@@ -106,7 +105,7 @@ fn check_set(b: &[u8], i: usize, at: usize, total: usize) -> Result<(), Refusal>
     Ok(())
 }
 
-// Checks the sets of the n Paulis in turn, whose bodies fill the rest of the roll.
+// Checks the sets of the n Paulis in turn, whose bodies fill the rest of the roll; by number, as `check_entries`.
 fn check_sets(b: &[u8], n: usize) -> Result<(), Refusal>
     requires { 2 + 10 * n + 4 * length (numbers (paulis_at b.now (2 + 10 * n) (entries_at b.now 2 n))) ≡ length b.now }
     ensures { told_of result ≡ check_sets 0 (paulis_at b.now (2 + 10 * n) (entries_at b.now 2 n)) }
@@ -114,21 +113,19 @@ fn check_sets(b: &[u8], n: usize) -> Result<(), Refusal>
     let mut at = 2 + 10 * n;
     for i in 0..n {
         let e = entry_at(b, i);
-        check_set(b, i, at, e.xcount)?;
-        check_set(b, i, at + 4 * e.xcount, e.zcount)?;
+        check_set(numbers_at(b, at, e.xcount), i)?;
+        check_set(numbers_at(b, at + 4 * e.xcount, e.zcount), i)?;
         at = at + 4 * (e.xcount + e.zcount);
     }
     Ok(())
 }
 
-// How many distinct numbers stand among the `total` from byte `at` on; where there are more than a list may have, one more
-// than that.
-fn distinct(b: &[u8], at: usize, total: usize) -> usize
-    requires { at + 4 * total ≤ length b.now }
-    ensures { result ≡ min (length (insert_all (numbers_at b.now at total) [])) (suc most_qubits) }
+// How many of the numbers are distinct; where there are more than a list may have, one more than that.
+fn distinct(numbers: &[[u8; 4]]) -> usize
+    ensures { result ≡ min (length (insert_all (u32s_in numbers.now) [])) (suc most_qubits) }
 {
     let mut support = Support::new();
-    support.gather(b, at, total);
+    support.gather(numbers);
     support.len()
 }
 
@@ -151,7 +148,7 @@ pub fn check_roll(b: &[u8]) -> Result<usize, Refusal>
         return Err(Reason::Length.into());
     }
     check_sets(b, n)?;
-    if distinct(b, 2 + 10 * n, total) > MOST_QUBITS {
+    if distinct(numbers_at(b, 2 + 10 * n, total)) > MOST_QUBITS {
         return Err(Reason::Qubits.into());
     }
     Ok(n)
@@ -202,6 +199,6 @@ impl<'a> Roll<'a> {
     pub fn gather(self, support: &mut Support)
         ensures { Gathered (insert_all (numbers (list_of self.entry.bytes.now)) support.old) support.new }
     {
-        support.gather(self.bytes, 2 + 10 * self.count, self.numbers());
+        support.gather(numbers_at(self.bytes, 2 + 10 * self.count, self.numbers()));
     }
 }

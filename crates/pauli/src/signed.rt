@@ -49,7 +49,16 @@ impl Pauli {
         }
     }
 
-    // The product with other on the right.
+    // Its five words, the exponent by value.
+    fn words(self) -> [u64; 5]
+        ensures { result ≡ pauli_words self }
+    {
+        let x = self.x;
+        let z = self.z;
+        [(self.exponent % 4) as u64, x.low, x.high, z.low, z.high]
+    }
+
+    // The product with other on the right. No `*`: what else a multiplication tells belongs to its answer, a struct of its own.
     pub fn times(self, other: Pauli) -> Product
         ensures { normal (held result.pauli) ≡ times (held self) (held other) }
     {
@@ -120,7 +129,7 @@ pub fn load(w: &[u64], at: usize) -> Pauli
 }
 
 // The n Paulis from word base on, each as its five words.
-pub fn paulis_at(w: &[u64], base: usize, n: usize) -> &[[u64; 5]]
+pub fn fives_at(w: &[u64], base: usize, n: usize) -> &[[u64; 5]]
     requires { base + 5 * n ≤ length w.now }
     ensures list { paulis_in result.now ≡ list_in w.now base n }
     ensures count { length result.now ≡ n }
@@ -128,19 +137,12 @@ pub fn paulis_at(w: &[u64], base: usize, n: usize) -> &[[u64; 5]]
     w[base..base + 5 * n].as_chunks::<5>().0
 }
 
-// Writes a Pauli, its exponent by value, to the five words from word at on. Word by word: of what the slice holds once an array of
-// as_chunks_mut is written, a proof learns nothing.
+// Writes a Pauli to the five words from word at on. Here and in `load`, five words of a lent area are named by where they start.
 pub fn store(w: &mut [u64], at: usize, p: Pauli)
     requires { at + 5 ≤ length w.old }
     ensures { w.new ≡ sets w.old at (pauli_words p) }
 {
-    let x = p.x;
-    let z = p.z;
-    w[at] = (p.exponent % 4) as u64;
-    w[at + 1] = x.low;
-    w[at + 2] = x.high;
-    w[at + 3] = z.low;
-    w[at + 4] = z.high;
+    w[at..at + 5].copy_from_slice(&p.words());
 }
 
 // The product of those Paulis of the list whose numbers are in the set, in rising order. The numbers of an index set are places

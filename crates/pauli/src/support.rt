@@ -1,17 +1,16 @@
 // Qubits and their places in a support: the rising list of the qubits in use.
-ghost use Rattle.std.specs.Prelude.{◌≡◌, suc, ◌+◌, ◌*◌, ◌<◌, ◌≤◌, [], length, if◌then◌else◌, nat_lt, slice_index, IfSome};
-ghost use Rattle.pauli.specs.Bytes.{numbers_at};
+ghost use Rattle.std.specs.Prelude.{◌≡◌, suc, ◌<◌, ◌≤◌, [], length, if◌then◌else◌, nat_lt, slice_index, IfSome};
+ghost use Rattle.pauli.specs.Bytes.{u32s_in};
 ghost use Rattle.pauli.specs.Support.{most_qubits, insert, insert_all, Rising};
 ghost use Rattle.pauli.specs.Known.{place_of, lower, Gathered};
 
-use crate::bytes::u32_at;
 use std::marker::Model;
 
 // The most distinct qubits of a list.
 pub const MOST_QUBITS: usize = 128;
 
 // A qubit's number.
-#[derive(Clone, Copy)]
+#[derive(Clone, Copy, PartialEq, Eq, PartialOrd)]
 pub struct Qubit(pub u32);
 
 // A place in a support.
@@ -77,7 +76,7 @@ impl Support {
         let count = self.count;
         let i = place_from(&self.numbers[..count], from, q).0;
         if i < count {
-            if self.numbers[i] == q.0 {
+            if Qubit(self.numbers[i]) == q {
                 return Place(i + 1);
             }
         }
@@ -88,21 +87,19 @@ impl Support {
         Place(i + 1)
     }
 
-    // Puts in the `total` numbers from byte `at` on, until more are known than a list may have. A set that rises is put in by one
-    // walk.
-    pub fn gather(&mut self, b: &[u8], at: usize, total: usize)
-        requires { at + 4 * total ≤ length b.now }
-        ensures { Gathered (insert_all (numbers_at b.now at total) self.old) self.new }
+    // Puts the numbers in, until more are known than a list may have. A set that rises is put in by one walk.
+    pub fn gather(&mut self, numbers: &[[u8; 4]])
+        ensures { Gathered (insert_all (u32s_in numbers.now) self.old) self.new }
     {
         // opened, so that the check knows its invariant
         let _ = &self.count;
         let mut from = Place(0);
         let mut last = Qubit(0);
-        for i in 0..total {
+        for bytes in numbers {
             if self.is_past_limit() {
                 return;
             }
-            let q = Qubit(u32_at(b, at + 4 * i));
+            let q = Qubit(u32::from_le_bytes(*bytes));
             from = self.note(walk_start(last, from, q), q);
             last = q;
         }
@@ -121,13 +118,8 @@ pub fn qubit_at(support: &[u32], p: Place) -> Qubit
 pub fn place_of(support: &[u32], q: Qubit) -> Place
     ensures { result.0 ≡ place_of support.now q.0 }
 {
-    let wanted = q.0;
-    for i in 0..support.len() {
-        if support[i] == wanted {
-            return Place(i);
-        }
-    }
-    Place(support.len())
+    let found = support.iter().position(|number| *number == q.0);
+    Place(found.unwrap_or(support.len()))
 }
 
 // The place that q has if the numbers from the place `from` on follow one another without a gap, if q stands there.
@@ -151,7 +143,8 @@ fn guess_from(support: &[u32], from: Place, q: Qubit) -> Option<Place>
     None
 }
 
-// The place at which q is to stand. The numbers before the place `from` are below it, and are not looked at.
+// The place at which q is to stand. The numbers before the place `from` are below it, and are not looked at. That the slice rises
+// is asked, since no slice carries it. What the guess misses is found by a walk: the guess is nearly always right.
 pub fn place_from(support: &[u32], from: Place, q: Qubit) -> Place
     requires { (from.0 ≤ lower q.0 support.now) × Rising 0 support.now }
     ensures { result.0 ≡ lower q.0 support.now }
@@ -159,20 +152,16 @@ pub fn place_from(support: &[u32], from: Place, q: Qubit) -> Place
     if let Some(guess) = guess_from(support, from, q) {
         return guess;
     }
-    let number = q.0;
-    for i in from.0..support.len() {
-        if support[i] >= number {
-            return Place(i);
-        }
-    }
-    Place(support.len())
+    let rest = &support[from.0..];
+    let found = rest.iter().position(|number| *number >= q.0);
+    Place(from.0 + found.unwrap_or(rest.len()))
 }
 
 // Where the walk to q starts: at the place `from`, past the qubit met last, if q is above that one, else anew.
 pub fn walk_start(last: Qubit, from: Place, q: Qubit) -> Place
     ensures { result.0 ≡ (if nat_lt last.0 q.0 then from.0 else 0) }
 {
-    if last.0 < q.0 {
+    if last < q {
         return from;
     }
     Place(0)

@@ -112,7 +112,8 @@ fn put_bodies(out: &mut [u8], at: usize, list: &[[u64; 5]], support: &[u32])
     }
 }
 
-// Writes the roll of the Paulis of a list, which stand over the places of a support, if the output has room.
+// Writes the roll of the Paulis of a list, which stand over the places of a support, if the output has room. That they do is a
+// fact of the words of the list (`OnPlaces`), which no value carries.
 pub fn write_roll(list: &[[u64; 5]], support: &[u32], out: &mut [u8]) -> Result<usize, Refusal>
     requires { (length list.now ≤ 256) × (length support.now ≤ 128) × OnPlaces (length support.now) (paulis_in list.now) }
     ensures told { told_of result ≡ told_bytes (answer (roll_over support.now (paulis_in list.now))) out.old }

@@ -6,7 +6,7 @@ ghost use Rattle.std.specs.Borrow.{sem};
 ghost use Rattle.pauli_group.specs.WorkArea.{LendsArea, cleared};
 
 use binar::row::clear_bits;
-use pauli::signed::paulis_at;
+use pauli::signed::fives_at;
 
 // A work area has at least so many words, and only these are used.
 pub const WORK_WORDS: usize = 4096;
@@ -42,7 +42,7 @@ impl Span {
         ensures list { paulis_in result.now ≡ list_in w.now self.base self.count }
         ensures count { length result.now ≡ self.count }
     {
-        paulis_at(w, self.base, self.count)
+        fives_at(w, self.base, self.count)
     }
 }
 

@@ -3,7 +3,7 @@ ghost use Rattle.std.specs.Prelude.{◌≡◌, ◌+◌, ◌*◌, ◌^◌, ◌<�
 ghost use Rattle.binar.specs.Layout.{form_in, FormLeft};
 ghost use Rattle.binar.specs.Row.{weight};
 ghost use Rattle.binar.specs.Solve.{transpose_solve};
-ghost use Rattle.pauli.specs.Bytes.{numbers_at};
+ghost use Rattle.pauli.specs.Bytes.{u32s_in};
 ghost use Rattle.pauli.specs.Condense.{list_of, nothing};
 ghost use Rattle.pauli.specs.Support.{Rising};
 ghost use Rattle.pauli.specs.Sets.{members, pauli_of};
@@ -24,7 +24,7 @@ use crate::rows::put_row;
 use binar::echelon::Layout;
 use binar::matrix_form::transpose_solve;
 use binar::row::clear_bits;
-use pauli::bytes::u32_at;
+use pauli::bytes::numbers_at;
 use pauli::condense::condense_from;
 use pauli::places::Places;
 use pauli::roll::Roll;
@@ -39,22 +39,22 @@ pub struct IndexSet {
     pub exponent: u8,
 }
 
-// Whether the total numbers from byte at on are all in the support. A set that rises is looked up by one walk.
-fn covers(b: &[u8], at: usize, total: usize, support: &[u32]) -> bool
-    requires { (at + 4 * total ≤ length b.now) × Rising 0 support.now }
-    ensures { result ≡ covered support.now (numbers_at b.now at total) }
+// Whether the numbers are all in the support. A set that rises is looked up by one walk.
+fn covers(numbers: &[[u8; 4]], support: &[u32]) -> bool
+    requires { Rising 0 support.now }
+    ensures { result ≡ covered support.now (u32s_in numbers.now) }
 {
     let mut from = Place(0);
     let mut last = Qubit(0);
-    for k in 0..total {
-        let q = Qubit(u32_at(b, at + 4 * k));
+    for bytes in numbers {
+        let q = Qubit(u32::from_le_bytes(*bytes));
         let place = place_from(support, walk_start(last, from, q), q);
         let i = place.0;
         if i >= support.len() {
             return false;
         }
         let met = qubit_at(support, place);
-        if met.0 != q.0 {
+        if met != q {
             return false;
         }
         from = Place(i + 1);
@@ -69,12 +69,8 @@ fn is_supported(roll: Roll, i: usize, support: &[u32]) -> bool
     ensures { result ≡ covered support.now ((get_or (list_of roll.entry.bytes.now) i nothing).xs ++ (get_or (list_of roll.entry.bytes.now) i nothing).zs) }
 {
     let e = roll.entry(i);
-    covers(
-        roll.bytes,
-        2 + 10 * roll.count + 4 * e.start,
-        e.xcount + e.zcount,
-        support,
-    )
+    let at = 2 + 10 * roll.count + 4 * e.start;
+    covers(numbers_at(roll.bytes, at, e.xcount + e.zcount), support)
 }
 
 // Finds the generators whose rows add up to that of p, by the form of their group.

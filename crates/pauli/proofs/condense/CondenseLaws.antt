@@ -1,16 +1,17 @@
 -- Laws of sets of places made from rising numbers.
-use Rattle.std.proofs.Common.{◌≡◌, ℕ, suc, ◌+◌, ◌-◌, ◌*◌, ◌%◌, ◌^◌, ◌<◌, ◌≤◌, List, [], ◌∷◌, length, sym, refl, ap, ◌∙◌, subst, ap₂, add-zero, pow-suc, arith, pow-add}
+use Rattle.std.proofs.Common.{◌≡◌, ℕ, suc, ◌+◌, ◌-◌, ◌*◌, ◌%◌, ◌^◌, ◌<◌, ◌≤◌, List, [], ◌∷◌, length, get_or, sym, refl, ap, ◌∙◌, subst, ap₂, add-zero, pow-suc, arith, pow-add}
 use mathlib.Core.List.Memᴰ.{head as here}
 use mathlib.Core.List.Memᴰ.{tail as there}
 use mathlib.Core.List.{Memᴰ as Mem}
-use lib.Bits.{bit_or, or_block, or_zero_r}
+use lib.Bits.{bit_or, or_block, or_zero_l, or_zero_r}
 use lib.Pow.{pow-lt}
 use Rattle.binar.specs.Row.{bit}
 use Rattle.binar.proofs.row.Bits.{bit_of_zero, ext}
 use Rattle.binar.proofs.row.Scan.{one_shifted}
 use Rattle.pauli.specs.declared.places.Places.{Places}
-use Rattle.pauli.specs.Bytes.{u32_at, numbers_at}
+use Rattle.pauli.specs.Bytes.{u32_at, u32s_in}
 use Rattle.pauli.specs.Support.{All, Rising}
+use Rattle.pauli.specs.Condense.{Covered}
 use Rattle.pauli.specs.Known.{lower}
 use Rattle.pauli.specs.Sets.{set_of, condense}
 use Rattle.pauli.specs.PlaceSet.{set_in}
@@ -18,7 +19,7 @@ use Rattle.pauli.proofs.places.Halves.{Words}
 use Rattle.pauli.proofs.condense.MoreBits.{bit_or_lem, bit_unit, bit_unit_other}
 use Rattle.pauli.proofs.condense.Places.{condense_or}
 use Rattle.pauli.proofs.support.SupportLaws.{rising_least, insert_known}
-use Rattle.pauli.proofs.support.Walk.{lower_stop, lower_go, lower_next, numbers_next, numbers_end}
+use Rattle.pauli.proofs.support.Walk.{lower_stop, lower_go, lower_next, numbers_from, numbers_next, numbers_end}
 
 -- ---- one place more
 
@@ -101,13 +102,24 @@ placing_end {qs} {set} p = sym (ap (bit_or set) (condense_zero qs 0 0 p.support 
 
 -- ---- the same for numbers in bytes, by a counter k
 
-module _ (b : List ℕ) (at total : ℕ) (qs : List ℕ) (whole set from k : ℕ) (p : Placing (numbers_at b (at + 4 * k) (total - k)) qs whole set from) where
-  pub bytes_end : total ≤ k → set ≡ whole
-  bytes_end h = placing_end (subst (λ (ns : List ℕ). Placing ns qs whole set from) (numbers_end b at total k h) p)
+pub bytes_start : (ls : List (List ℕ)) (qs : List ℕ) (set : ℕ) → Covered (u32s_in ls) qs → set ≡ 0 → Placing (numbers_from ls 0) qs (condense qs (set_of (u32s_in ls))) set 0
+unfolding numbers_from
+bytes_start ls qs set f e = record {
+  least = 0;
+  rise = f.rise;
+  support = f.support;
+  covers = f.in_support;
+  walk = λ s l. omega arith;
+  value = ap (λ (a : ℕ). bit_or a (condense qs (set_of (u32s_in ls)))) e ∙ or_zero_l _;
+}
 
-  module _ (h : k < total) (q : ℕ) (e : q ≡ u32_at b (at + 4 * k)) where
-    opened : Placing (q ∷ numbers_at b (at + 4 * (k + 1)) (total - (k + 1))) qs whole set from
-    opened = subst (λ (ns : List ℕ). Placing ns qs whole set from) (numbers_next b at total k h ∙ ap (λ (r : ℕ). r ∷ numbers_at b (at + 4 * (k + 1)) (total - (k + 1))) (sym e)) p
+module _ (ls : List (List ℕ)) (qs : List ℕ) (whole set from k : ℕ) (p : Placing (numbers_from ls k) qs whole set from) where
+  pub bytes_end : length ls ≤ k → set ≡ whole
+  bytes_end h = placing_end (subst (λ (ns : List ℕ). Placing ns qs whole set from) (numbers_end ls k h) p)
+
+  module _ (h : k < length ls) (q : ℕ) (e : q ≡ u32_at (get_or ls k []) 0) where
+    opened : Placing (q ∷ numbers_from ls (k + 1)) qs whole set from
+    opened = subst (λ (ns : List ℕ). Placing ns qs whole set from) (numbers_next ls k h ∙ ap (λ (r : ℕ). r ∷ numbers_from ls (k + 1)) (sym e)) p
 
     pub bytes_from : from ≤ lower q qs
     bytes_from = placing_from opened
@@ -115,5 +127,5 @@ module _ (b : List ℕ) (at total : ℕ) (qs : List ℕ) (whole set from k : ℕ
     pub bytes_in : lower q qs < length qs
     bytes_in = placing_in opened
 
-    pub bytes_next : (i s : ℕ) → i ≡ lower q qs → s ≡ bit_or set (2 ^ i) → Placing (numbers_at b (at + 4 * (k + 1)) (total - (k + 1))) qs whole s (i + 1)
+    pub bytes_next : (i s : ℕ) → i ≡ lower q qs → s ≡ bit_or set (2 ^ i) → Placing (numbers_from ls (k + 1)) qs whole s (i + 1)
     bytes_next = placing_next opened

@@ -1,10 +1,13 @@
 -- Numbers in bytes: what is written is read back, and what is read is written back. A place in b is named by what stands from
 -- it on: `drop i b ≡ le16 n ++ rest` says that n stands at byte i, in two bytes.
-use Rattle.std.proofs.Common.{◌≡◌, ℕ, zero, suc, ◌+◌, ◌*◌, ◌/◌, ◌%◌, ◌^◌, ◌<◌, ◌≤◌, List, [], ◌∷◌, ◌++◌, length, get_or, drop, refl, ap, append_assoc, add-zero, add_assoc, arith}
+use Rattle.std.proofs.Common.{◌≡◌, ℕ, zero, suc, ◌+◌, ◌*◌, ◌/◌, ◌%◌, ◌^◌, ◌<◌, ◌≤◌, List, [], ◌∷◌, ◌++◌, length, get_or, drop, take, map, refl, sym, ap, ◌∙◌, append_assoc, add-zero, add_assoc, arith}
+use Rattle.std.specs.Prelude.{slice_index}
+use Rattle.std.specs.Simd.{first_chunks}
+use Rattle.std.specs.Int.{w32, from_le_bytes}
 use native.Mathlib.Nat.{div-div-eq-div-mul}
-use Rattle.pauli.specs.Bytes.{u16_at, u32_at, le16, le32, numbers_at, le32s}
+use Rattle.pauli.specs.Bytes.{u16_at, u32_at, le16, le32, numbers_at, u32s_in, le32s}
 use Rattle.pauli.specs.Support.{All}
-use Rattle.pauli.proofs.roll.Items.{items_at, items_bytes, length_items_at, get_or_items_at, length_items_bytes, all_bytes_items, items_read, items_written}
+use Rattle.pauli.proofs.roll.Items.{items_at, items_bytes, length_items_at, get_or_items_at, length_items_bytes, all_bytes_items, items_read, items_written, chunk_items}
 use Rattle.pauli.proofs.support.Lists.{AllBytes, byte_at, drop_past, get_d_front, drop_one}
 
 -- n as k bytes
@@ -129,3 +132,21 @@ numbers_read b qs i rest l h =
 pub numbers_written : (b : List ℕ) → AllBytes b → (n i : ℕ) → i + 4 * n ≤ length b
     → le32s (numbers_at b i n) ++ drop (i + 4 * n) b ≡ drop i b
 numbers_written b low n i l = rw (numbers_items, le32s_items) (items_written 4 le32 length_le32 b (u32_at b) (u32_written b low) n i l)
+
+-- ---- numbers as fours of bytes
+
+pub u32_bytes : (l : List ℕ) → from_le_bytes w32 l ≡ u32_at l 0
+unfolding u32_at
+u32_bytes l = omega arith
+
+u32_shifted : (b : List ℕ) (i : ℕ) (l : List ℕ) → ((j : ℕ) → j < 4 → slice_index l j ≡ slice_index b (i + j)) → u32_at l 0 ≡ u32_at b i
+unfolding u32_at
+u32_shifted b i l same =
+    let e : slice_index l 0 ≡ slice_index b i = same 0 (omega arith) ∙ ap (slice_index b) (add-zero i) in
+    rw (e, same 1 (omega arith), same 2 (omega arith), same 3 (omega arith)) refl
+
+pub chunk_numbers : (b : List ℕ) (i n m k : ℕ) → m ≡ 4 * n → k ≡ n → u32s_in (first_chunks 4 k (take m (drop i b))) ≡ numbers_at b i n
+unfolding u32s_in
+chunk_numbers b i n m k e f =
+    ap (λ (j : ℕ). map (λ (l : List ℕ). u32_at l 0) (first_chunks 4 j (take m (drop i b)))) f
+    ∙ chunk_items 4 (λ l. u32_at l 0) (u32_at b) b (u32_shifted b) i n m e ∙ sym (numbers_items b i n)

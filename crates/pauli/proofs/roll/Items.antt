@@ -1,5 +1,8 @@
 -- Items of k bytes each, one after the other: a row of them is read and written back if each item is.
-use Rattle.std.proofs.Common.{◌≡◌, ℕ, zero, suc, ◌+◌, ◌*◌, ◌<◌, ◌≤◌, List, [], ◌∷◌, ◌++◌, length, get_or, drop, sym, refl, ap, ◌∙◌, ap₂, append_assoc, add-zero, mul-zero, arith, length-append}
+use Rattle.std.proofs.Common.{◌≡◌, ℕ, zero, suc, ◌+◌, ◌*◌, ◌<◌, ◌≤◌, List, [], ◌∷◌, ◌++◌, length, get_or, drop, sym, refl, ap, ◌∙◌, ap₂, append_assoc, add-zero, mul-zero, arith, length-append, length-drop, length-take-le, drop-drop, map, take}
+use Rattle.std.specs.Prelude.{slice_index}
+use Rattle.std.specs.Simd.{first_chunks}
+use Rattle.std.proofs.lemmas.List.{get_or-take, get_or-drop, drop-take}
 use Rattle.pauli.specs.Support.{All}
 use Rattle.pauli.proofs.support.Lists.{AllBytes, all_bytes_append, drop_past}
 
@@ -55,3 +58,25 @@ module _ {A : Type 0} (k : ℕ) (put : A → List ℕ) (size : (a : A) → lengt
     items_written one (suc n) i l =
         let past : i + k * suc n ≡ i + k + k * n = omega arith in
         rw (append_assoc, past, items_written one n (i + k) (omega arith)) (one i (omega arith))
+
+-- ---- items as a slice is cut into chunks
+
+pub length_stretch : (w : List ℕ) (i m : ℕ) → i + m ≤ length w → length (take m (drop i w)) ≡ m
+length_stretch w i m h = length-take-le m (drop i w) (rw (length-drop i w) (omega arith))
+
+-- the first k of what stands from place i of w on
+pub chunk_first : (k : ℕ) (w : List ℕ) (i m j : ℕ) → k ≤ m → j < k → slice_index (take k (take m (drop i w))) j ≡ slice_index w (i + j)
+chunk_first k w i m j h l = get_or-take k _ j 0 l ∙ get_or-take m (drop i w) j 0 (omega arith) ∙ get_or-drop i w j 0
+
+-- n chunks of k from place i of w on; `read` reads one
+pub chunk_items : {A : Type 0} (k : ℕ) (read : List ℕ → A) (at : ℕ → A) (w : List ℕ)
+    → ((i : ℕ) (l : List ℕ) → ((j : ℕ) → j < k → slice_index l j ≡ slice_index w (i + j)) → read l ≡ at i)
+    → (i n m : ℕ) → m ≡ k * n → map read (first_chunks k n (take m (drop i w))) ≡ items_at k at i n
+unfolding items_at
+chunk_items k read at w same i zero m e = refl
+chunk_items k read at w same i (suc n) m e =
+    let size : m ≡ k + k * n = omega arith in
+    let rest : drop k (take m (drop i w)) ≡ take (k * n) (drop (i + k) w) =
+    ap (λ (j : ℕ). drop k (take j (drop i w))) size ∙ drop-take k (k * n) (drop i w) ∙ ap (take (k * n)) (drop-drop k i w) in
+    ap₂ ◌∷◌ (same i _ (λ j l. chunk_first k w i m j (omega arith) l))
+    (ap (λ (l : List ℕ). map read (first_chunks k n l)) rest ∙ chunk_items k read at w same (i + k) n (k * n) refl)

@@ -15,7 +15,7 @@ use Rattle.pauli.proofs.roll.Checks.{entries_passed}
 use Rattle.pauli.proofs.roll.RollLaws.{parts_count, answer_parts}
 use Rattle.pauli.proofs.support.SupportLaws.{insert_all_append}
 use Rattle.pauli.proofs.roll.ListSupport.{numbers_append}
-use Rattle.pauli.proofs.support.Walk.{numbers_next, numbers_end}
+use Rattle.pauli.proofs.support.Walk.{numbers_from, numbers_next, numbers_end}
 
 -- ---- entries
 
@@ -76,16 +76,16 @@ entries_end b n i before h = rw (entries_none b n i h)
 
 -- ---- one set
 
-module _ (b : List ℕ) (i at total k : ℕ) (h : k < total) (q least : ℕ) (e : q ≡ u32_at b (at + 4 * k)) where
+module _ (ls : List (List ℕ)) (i k : ℕ) (h : k < length ls) (q least : ℕ) (e : q ≡ u32_at (get_or ls k []) 0) where
   abbrev here : Told Unit
-  here = check_set i least (numbers_at b (at + 4 * k) (total - k))
+  here = check_set i least (numbers_from ls k)
 
   abbrev further : Told Unit
-  further = check_set i (q + 1) (numbers_at b (at + 4 * (k + 1)) (total - (k + 1)))
+  further = check_set i (q + 1) (numbers_from ls (k + 1))
 
   set_step : here ≡ refuse_if (ltb highest_qubit q) 5 i (refuse_if (ltb q least) 6 i further)
   unfolding check_set
-  set_step = rw (numbers_next b at total k h, ← e, add-one q)
+  set_step = rw (numbers_next ls k h, ← e, add-one q)
 
   pub set_high : highest_qubit < q → here ≡ refused 5 i
   set_high w = set_step ∙ test_refuses _ 5 i _ (lt-ltb _ _ w)
@@ -97,12 +97,9 @@ module _ (b : List ℕ) (i at total k : ℕ) (h : k < total) (q least : ℕ) (e 
     pub set_rises : least ≤ q → here ≡ further
     set_rises w = set_step ∙ test_pass _ 5 i _ (le-ltb _ _ low) ∙ test_pass _ 6 i _ (le-ltb _ _ w)
 
-pub set_start : (b : List ℕ) (i at total : ℕ) → check_set i 0 (numbers_at b at total) ≡ check_set i 0 (numbers_at b (at + 4 * 0) (total - 0))
-set_start b i at total = simp (add-zero, sub-zero)
-
-pub set_end : (b : List ℕ) (i at total k least : ℕ) → total ≤ k → check_set i least (numbers_at b (at + 4 * k) (total - k)) ≡ answer tt
+pub set_end : (ls : List (List ℕ)) (i k least : ℕ) → length ls ≤ k → check_set i least (numbers_from ls k) ≡ answer tt
 unfolding check_set
-set_end b i at total k least h = rw (numbers_end b at total k h)
+set_end ls i k least h = rw (numbers_end ls k h)
 
 -- ---- all sets
 

@@ -1,8 +1,7 @@
 -- Laws of signed Paulis as the code holds them: exponents that wrap, and lists of Paulis in words.
-use Rattle.std.proofs.Common.{◌≡◌, ℕ, zero, suc, ◌+◌, ◌*◌, ◌/◌, ◌%◌, ◌^◌, ◌<◌, ◌≤◌, false, eqb, List, [], ◌∷◌, set, sym, refl, ap, ◌∙◌, ap₂, add-zero, add-one, arith, drop-drop, length-drop, length-take-le, length, get_or, take, drop, ne_eqb}
+use Rattle.std.proofs.Common.{◌≡◌, ℕ, zero, suc, ◌+◌, ◌*◌, ◌%◌, ◌^◌, ◌<◌, ◌≤◌, false, eqb, List, [], ◌∷◌, sym, refl, ap, ◌∙◌, ap₂, add-zero, arith, length, get_or, take, drop, map, ne_eqb}
 use native.Mathlib.Nat.{add-mod}
 use lib.Pow.{mod-mod-pow}
-use lib.Seq.{sets}
 use Rattle.pauli.specs.Pauli.{Pauli, I, normal, times, product_from, product, select, indexed_product}
 use Rattle.pauli.specs.Signed.{pauli_in, list_in, paulis_in}
 use Rattle.pauli.proofs.signed.Algebra.{times_normal_l, times_normal_r, normal_times}
@@ -10,7 +9,7 @@ use Rattle.pauli.proofs.places.Members.{at_indexes, at_hit, at_past, select_memb
 use Rattle.pauli.specs.Sets.{members}
 use Rattle.std.specs.Simd.{first_chunks}
 use Rattle.std.specs.Prelude.{slice_index}
-use Rattle.std.proofs.lemmas.List.{get_or-take, get_or-drop, drop-take}
+use Rattle.pauli.proofs.roll.Items.{items_at, chunk_items}
 use Rattle.pauli.proofs.signed.Products.{product_normal}
 
 -- ---- exponents
@@ -31,15 +30,6 @@ sum_not a b h = ne_eqb (a + b) 0 (λ e. h (omega arith))
 
 pub sum_zero : (a b : ℕ) → a ≡ 0 → eqb (a + b) 0 ≡ eqb b 0
 sum_zero a b h = let e : a + b ≡ b = omega arith in ap (λ (n : ℕ). eqb n 0) e
-
--- ---- words
-
-pub five : (l : List ℕ) (i a b c d e : ℕ) → set (set (set (set (set l i a) (i + 1) b) (i + 2) c) (i + 3) d) (i + 4) e ≡ sets l i (a ∷ b ∷ c ∷ d ∷ e ∷ [])
-five l i a b c d e =
-    let two : i + 2 ≡ suc (suc i) = omega arith in
-    let three : i + 3 ≡ suc (suc (suc i)) = omega arith in
-    let four : i + 4 ≡ suc (suc (suc (suc i))) = omega arith in
-    rw (add-one i, two, three, four)
 
 pub zero_bit : (b : ℕ) → b < 2 → (b ≡ 1 → ⊥) → b ≡ 0
 zero_bit zero h n = refl
@@ -65,25 +55,20 @@ pauli_shifted w l i same =
     let e : slice_index l 0 ≡ slice_index w i = same 0 (omega arith) ∙ ap (slice_index w) (add-zero i) in
     rw (e, same 1 (omega arith), same 2 (omega arith), same 3 (omega arith), same 4 (omega arith)) refl
 
--- the first five of n fives from word i of w on
-pub five_first : (w : List ℕ) (i m k : ℕ) → 5 ≤ m → k < 5 → slice_index (take 5 (take m (drop i w))) k ≡ slice_index w (i + k)
-five_first w i m k h l = get_or-take 5 _ k 0 l ∙ get_or-take m (drop i w) k 0 (omega arith) ∙ get_or-drop i w k 0
+paulis_items : (ls : List (List ℕ)) → paulis_in ls ≡ map (λ l. pauli_in l 0) ls
+unfolding paulis_in
+paulis_items [] = refl
+paulis_items (l ∷ ls) = ap (λ ps. pauli_in l 0 ∷ ps) (paulis_items ls)
 
-five_rest : (w : List ℕ) (i m k : ℕ) → m ≡ 5 + k → drop 5 (take m (drop i w)) ≡ take k (drop (i + 5) w)
-five_rest w i m k e = ap (λ (j : ℕ). drop 5 (take j (drop i w))) e ∙ drop-take 5 k (drop i w) ∙ ap (take k) (drop-drop 5 i w)
-
-chunk_lists : (w : List ℕ) (i n m : ℕ) → m ≡ 5 * n → paulis_in (first_chunks 5 n (take m (drop i w))) ≡ list_in w i n
-unfolding paulis_in list_in
-chunk_lists w i zero m e = refl
-chunk_lists w i (suc n) m e =
-    ap₂ ◌∷◌ (pauli_shifted w _ i (λ k l. five_first w i m k (omega arith) l))
-    (ap (λ (l : List ℕ). paulis_in (first_chunks 5 n l)) (five_rest w i m (5 * n) (omega arith)) ∙ chunk_lists w (i + 5) n (5 * n) refl)
-
-pub count_fives : (w : List ℕ) (i n m : ℕ) → i + m ≤ length w → m ≡ 5 * n → length (take m (drop i w)) / 5 ≡ n
-count_fives w i n m h e = let l : length (take m (drop i w)) ≡ m = length-take-le m (drop i w) (rw (length-drop i w) (omega arith)) in omega (arith, l)
+list_items : (w : List ℕ) (i n : ℕ) → list_in w i n ≡ items_at 5 (pauli_in w) i n
+unfolding list_in items_at
+list_items w i zero = refl
+list_items w i (suc n) = ap (λ ps. pauli_in w i ∷ ps) (list_items w (i + 5) n)
 
 pub chunk_paulis : (w : List ℕ) (i n m k : ℕ) → m ≡ 5 * n → k ≡ n → paulis_in (first_chunks 5 k (take m (drop i w))) ≡ list_in w i n
-chunk_paulis w i n m k e f = ap (λ (j : ℕ). paulis_in (first_chunks 5 j (take m (drop i w)))) f ∙ chunk_lists w i n m e
+chunk_paulis w i n m k e f =
+    ap (λ (j : ℕ). paulis_in (first_chunks 5 j (take m (drop i w)))) f ∙ paulis_items _
+    ∙ chunk_items 5 (λ l. pauli_in l 0) (pauli_in w) w (λ j l. pauli_shifted w l j) i n m e ∙ sym (list_items w i n)
 
 -- ---- the product of a list by its indexes
 

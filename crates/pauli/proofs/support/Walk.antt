@@ -1,11 +1,13 @@
 -- The known qubit numbers: the walk to a number's place, and what is known once it is put in.
-use Rattle.std.proofs.Common.{◌≡◌, ℕ, zero, suc, ◌+◌, ◌-◌, ◌*◌, ◌<◌, ◌≤◌, Bool, true, false, cond, not, eqb, ltb, List, [], ◌∷◌, ◌++◌, length, get_or, take, drop, set, sym, refl, ap, ◌∙◌, ap₂, append_assoc, suc-le-suc, add-zero, add-one, arith, length-append, length-drop, length-take-le, get_or-take, take_at, take-take, le-ltb, lt-ltb, eq-eqb, ne_eqb}
-use native.Mathlib.Nat.{sub-zero}
+use Rattle.std.proofs.Common.{◌≡◌, ℕ, zero, suc, ◌+◌, ◌-◌, ◌<◌, ◌≤◌, Bool, true, false, cond, not, eqb, ltb, List, [], ◌∷◌, ◌++◌, length, get_or, take, drop, set, sym, refl, ap, ◌∙◌, ap₂, append_assoc, suc-le-suc, add-one, arith, length-append, length-drop, length-take-le, get_or-take, take_at, take-take, le-ltb, lt-ltb, drop-cons, drop_of_length-le}
 use native.Mathlib.Decide.{dec_lt}
+use Rattle.std.proofs.Common.{Option, Some, None}
+use Rattle.std.specs.List.{position_or_len}
+use Rattle.std.specs.Option.{unwrap_or}
 use lib.Seq.{set_split}
 use Rattle.std.proofs.lemmas.List.{drop-take, drop_at}
 use Rattle.std.specs.List.{copy_within}
-use Rattle.pauli.specs.Bytes.{u32_at, numbers_at}
+use Rattle.pauli.specs.Bytes.{u32_at, u32s_in}
 use Rattle.pauli.specs.Support.{most_qubits, insert, insert_all, Rising}
 use Rattle.pauli.specs.Known.{place_of, first_place, lower, Gathered}
 use Rattle.pauli.proofs.support.Lists.{in_get_or}
@@ -22,24 +24,37 @@ module _ (test : ℕ → Bool) where
       go true e = hit e
       go false e = miss e
 
-  both_none : {X : Type 0} (r : ℕ) → test r ≡ true → test r ≡ false → X
-  both_none r e f = let z : ◌≡◌ {A = Bool} true false = sym e ∙ f in let w : ◌≡◌ {A = ℕ} 0 1 = cc in absurd (omega arith)
-
   pub first_le : (l : List ℕ) → first_place test l ≤ length l
   unfolding first_place
   first_le [] = omega arith
   first_le (r ∷ rs) = first_cases r rs (λ n. n ≤ suc (length rs)) (λ _. omega arith) (λ _. suc-le-suc (first_le rs))
 
-  pub first_hit : (l : List ℕ) (i : ℕ) → i < length l → test (get_or l i 0) ≡ true → first_place test l ≤ i
-  first_hit [] i h e = absurd (omega arith)
-  first_hit (r ∷ rs) zero h e = first_cases r rs (λ n. n ≤ 0) (λ _. omega arith) (λ f. both_none r e f)
-  first_hit (r ∷ rs) (suc i) h e = first_cases r rs (λ n. n ≤ suc i) (λ _. omega arith) (λ _. suc-le-suc (first_hit rs i (omega arith) e))
+  first_or_len : (l : List ℕ) → position_or_len test l ≡ first_place test l
+  unfolding first_place
+  first_or_len [] = refl
+  first_or_len (r ∷ rs) = go (test r) (first_or_len rs)
+    where
+      go : (t : Bool) → position_or_len test rs ≡ first_place test rs → cond (not t) (1 + position_or_len test rs) 0 ≡ cond t 0 (suc (first_place test rs))
+      go true e = refl
+      go false e = omega (arith, e)
 
-  pub first_miss : (l : List ℕ) (i : ℕ) → i ≤ first_place test l → i < length l → test (get_or l i 0) ≡ false → suc i ≤ first_place test l
-  first_miss [] i k h e = absurd (omega arith)
-  first_miss (r ∷ rs) zero k h e = first_cases r rs (λ n. 1 ≤ n) (λ f. both_none r f e) (λ _. omega arith)
-  first_miss (r ∷ rs) (suc i) k h e =
-      first_cases r rs (λ n. suc i ≤ n → suc (suc i) ≤ n) (λ _ j. absurd (omega arith)) (λ _ j. suc-le-suc (first_miss rs i (omega arith) (omega arith) e)) k
+  -- what a search of the list tells, or else the list's length
+  pub first_found : (l : List ℕ) (r : Option ℕ) → r ≡ cond (ltb (position_or_len test l) (length l)) (Some (position_or_len test l)) None
+      → unwrap_or r (length l) ≡ first_place test l
+  first_found l r e =
+      let n = first_place test l in
+      let found : r ≡ cond (ltb n (length l)) (Some n) None = rw (first_or_len l) at e in
+      elim (dec_lt n (length l)) [
+        | yes h ↦ ap (λ (o : Option ℕ). unwrap_or o (length l)) (rw (lt-ltb n (length l) h) at found)
+        | no h ↦ ap (λ (o : Option ℕ). unwrap_or o (length l)) (rw (le-ltb n (length l) (omega arith)) at found) ∙ omega (arith, first_le l)
+      ]
+
+  -- the first k, none of which passes, may be left out
+  pub first_rest : (k : ℕ) (l : List ℕ) → k ≤ first_place test l → k + first_place test (drop k l) ≡ first_place test l
+  first_rest zero l h = omega arith
+  first_rest (suc k) [] h = absurd (omega (arith, first_le []))
+  first_rest (suc k) (r ∷ rs) h =
+      first_cases r rs (λ n. suc k ≤ n → suc k + first_place test (drop k rs) ≡ n) (λ _ j. absurd (omega arith)) (λ _ j. omega (arith, first_rest k rs (omega arith))) h
 
 pub place_first : (l : List ℕ) (q : ℕ) → place_of l q ≡ first_place (λ r. eqb r q) l
 unfolding place_of first_place
@@ -47,27 +62,9 @@ place_first [] q = refl
 place_first (r ∷ rs) q = ap (λ n. cond (eqb r q) 0 (suc n)) (place_first rs q)
 
 module _ (l : List ℕ) (q : ℕ) where
-  pub place_le : place_of l q ≤ length l
-  place_le = rw place_first (first_le (λ r. eqb r q) l)
-
   pub lower_le : lower q l ≤ length l
   unfolding lower
   lower_le = first_le (λ r. not (ltb r q)) l
-
-  module _ (i : ℕ) (h : i < length l) where
-    pub place_hit : get_or l i 0 ≡ q → place_of l q ≤ i
-    place_hit e = rw place_first (first_hit (λ r. eqb r q) l i h (eq-eqb _ _ e))
-
-    pub place_miss : i ≤ place_of l q → (get_or l i 0 ≡ q → ⊥) → i + 1 ≤ place_of l q
-    place_miss k e = rw place_first (rw add-one (first_miss (λ r. eqb r q) l i (rw place_first at k) h (ne_eqb _ _ e)))
-
-    pub lower_hit : q ≤ get_or l i 0 → lower q l ≤ i
-    unfolding lower
-    lower_hit e = first_hit (λ r. not (ltb r q)) l i h (ap not (le-ltb _ _ e))
-
-    pub lower_miss : i ≤ lower q l → get_or l i 0 < q → i + 1 ≤ lower q l
-    unfolding lower
-    lower_miss k e = rw add-one (first_miss (λ r. not (ltb r q)) l i k h (ap not (lt-ltb _ _ e)))
 
 -- ---- q put in at a place
 
@@ -193,16 +190,22 @@ module _ (l : List ℕ) (n q : ℕ) (room : n < length l) where
 
 -- ---- numbers noted in turn
 
-pub numbers_next : (b : List ℕ) (at total i : ℕ) → i < total → numbers_at b (at + 4 * i) (total - i) ≡ u32_at b (at + 4 * i) ∷ numbers_at b (at + 4 * (i + 1)) (total - (i + 1))
-unfolding numbers_at
-numbers_next b at total i h =
-    let e : total - i ≡ suc (total - (i + 1)) = omega arith in
-    let f : at + 4 * i + 4 ≡ at + 4 * (i + 1) = omega arith in
-    rw (e, ← f)
+-- the numbers from number i on
+unfoldable pub numbers_from : List (List ℕ) → ℕ → List ℕ
+numbers_from ls i = u32s_in (drop i ls)
 
-pub numbers_end : (b : List ℕ) (at total i : ℕ) → total ≤ i → numbers_at b (at + 4 * i) (total - i) ≡ []
-unfolding numbers_at
-numbers_end b at total i h = let e : total - i ≡ 0 = omega arith in rw e
+module _ (ls : List (List ℕ)) where
+  pub numbers_start : u32s_in ls ≡ numbers_from ls 0
+  unfolding numbers_from
+  numbers_start = refl
+
+  pub numbers_next : (i : ℕ) → i < length ls → numbers_from ls i ≡ u32_at (get_or ls i []) 0 ∷ numbers_from ls (i + 1)
+  unfolding numbers_from u32s_in
+  numbers_next i h = rw (drop-cons ls i [] h, add-one i) refl
+
+  pub numbers_end : (i : ℕ) → length ls ≤ i → numbers_from ls i ≡ []
+  unfolding numbers_from u32s_in
+  numbers_end i h = ap u32s_in (drop_of_length-le ls h)
 
 pub insert_all_longer : (qs known : List ℕ) → length known ≤ length (insert_all qs known)
 unfolding insert_all
@@ -214,14 +217,14 @@ pub walk_from : (l : List ℕ) (last from : ℕ) → ((s : ℕ) → last < s →
 walk_from l last from walk q = elim (dec_lt last q) [ yes h ↦ rw (lt-ltb last q h) (walk q h) | no h ↦ rw (le-ltb last q (omega arith)) (omega arith) ]
 
 -- i of the numbers are noted, and the walk for a number above `last` may start at `from`
-module _ (b : List ℕ) (at total : ℕ) (old : List ℕ) where
+module _ (ls : List (List ℕ)) (old : List ℕ) where
   abbrev all : List ℕ
-  all = insert_all (numbers_at b at total) old
+  all = insert_all (u32s_in ls) old
 
   pub record Walking (known : List ℕ) (from last i : ℕ) : Type 0 where
-    pub done : i ≤ total
+    pub done : i ≤ length ls
     pub few : length known ≤ suc most_qubits
-    pub left : all ≡ insert_all (numbers_at b (at + 4 * i) (total - i)) known
+    pub left : all ≡ insert_all (numbers_from ls i) known
     pub walk : (s : ℕ) → last < s → from ≤ lower s known
     pub rises : Rising 0 known
 
@@ -229,31 +232,31 @@ module _ (b : List ℕ) (at total : ℕ) (old : List ℕ) where
   walking_start h rises = record {
     done = omega arith;
     few = h;
-    left = simp (add-zero, sub-zero);
+    left = ap (λ ns. insert_all ns old) (numbers_start ls);
     walk = λ s k. omega arith;
     rises = rises;
   }
 
   module _ (known : List ℕ) (from last i : ℕ) (w : Walking known from last i) where
-    pub walking_next : i < total → (q : ℕ) → q ≡ u32_at b (at + 4 * i) → (new : List ℕ) (p : ℕ) → length known ≤ most_qubits
+    pub walking_next : i < length ls → (q : ℕ) → q ≡ u32_at (get_or ls i []) 0 → (new : List ℕ) (p : ℕ) → length known ≤ most_qubits
         → new ≡ insert q known → p ≡ suc (lower q known) → Walking new p q (i + 1)
     unfolding insert_all
     walking_next h q e new p few t next = record {
       done = omega arith;
       few = rw t (omega (arith, few, (insert_length q known).1));
-      left = w.left ∙ rw (numbers_next b at total i h, ← e, t);
+      left = w.left ∙ rw (numbers_next ls i h, ← e, t);
       walk = λ s k. rw (next, t) (lower_next q s known k);
       rises = rw t (insert_rises 0 q known (omega arith) w.rises);
     }
 
     pub walking_full : most_qubits < length known → Gathered all known
     walking_full h =
-        let more = insert_all_longer (numbers_at b (at + 4 * i) (total - i)) known in
+        let more = insert_all_longer (numbers_from ls i) known in
         let long : suc most_qubits ≤ length all = rw w.left (omega (arith, more)) in
-        record { count = omega (arith, w.few, long); known = λ k. absurd (omega arith); among = λ q. rw w.left (insert_all_keeps (numbers_at b (at + 4 * i) (total - i)) known q); rises = w.rises }
+        record { count = omega (arith, w.few, long); known = λ k. absurd (omega arith); among = λ q. rw w.left (insert_all_keeps (numbers_from ls i) known q); rises = w.rises }
 
-    pub walking_end : total ≤ i → Gathered all known
+    pub walking_end : length ls ≤ i → Gathered all known
     unfolding insert_all
     walking_end h =
-        let e : all ≡ known = w.left ∙ rw (numbers_end b at total i h) in
+        let e : all ≡ known = w.left ∙ rw (numbers_end ls i h) in
         record { count = rw e (omega (arith, w.few)); known = λ _. sym e; among = λ q. rw e (λ h. h); rises = w.rises }

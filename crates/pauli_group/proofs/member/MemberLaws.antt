@@ -4,7 +4,7 @@ use mathlib.Core.List.{Memᴰ as Mem}
 use Rattle.binar.specs.Row.{weight}
 use Rattle.pauli.specs.declared.roll.Entry.{Entry}
 use Rattle.pauli.specs.RollAnswers.{told_entry}
-use Rattle.pauli.specs.Bytes.{u32_at, numbers_at, le16}
+use Rattle.pauli.specs.Bytes.{u32_at, numbers_at, u32s_in, le16}
 use Rattle.pauli.specs.Condense.{list_of, nothing}
 use Rattle.pauli.specs.Roll.{entry_at, count_of}
 use Rattle.pauli.specs.Support.{insert, Rising}
@@ -19,32 +19,35 @@ use Rattle.pauli.proofs.write.Puts.{Left, left_start, left_done, left_room, left
 use Rattle.pauli.proofs.condense.Sets.{members_count}
 use Rattle.pauli.proofs.condense.Places.{place_in, qubit_at_place, no_place}
 use Rattle.pauli.proofs.support.Lists.{in_get_or}
-use Rattle.pauli.proofs.support.Walk.{lower_here, lower_next, insert_there, numbers_next, numbers_end}
+use Rattle.pauli.proofs.support.Walk.{lower_here, lower_next, insert_there, numbers_from, numbers_start, numbers_next, numbers_end}
 use Rattle.pauli_group.specs.Inner.Members.{covered}
 use Rattle.pauli_group.specs.Calls.{le16s}
 
 -- ---- numbers in a support, one after the other
 
 -- the answer for all numbers is that for those from number k on, and the walk for a number above `last` may start at `from`
-pub record CoveredFrom (qs b : List ℕ) (at total from last k : ℕ) : Type 0 where
-  pub within : k ≤ total
-  pub same : covered qs (numbers_at b at total) ≡ covered qs (numbers_at b (at + 4 * k) (total - k))
+pub record CoveredFrom (qs : List ℕ) (ls : List (List ℕ)) (from last k : ℕ) : Type 0 where
+  pub within : k ≤ length ls
+  pub same : covered qs (u32s_in ls) ≡ covered qs (numbers_from ls k)
   pub walk : (s : ℕ) → last < s → from ≤ lower s qs
 
-module _ (qs b : List ℕ) (at total : ℕ) where
-  module _ (from last k : ℕ) (f : CoveredFrom qs b at total from last k) where
-    pub covered_end : total ≤ k → true ≡ covered qs (numbers_at b at total)
-    unfolding covered
-    covered_end h = sym (f.same ∙ ap (covered qs) (numbers_end b at total k h))
+module _ (qs : List ℕ) (ls : List (List ℕ)) where
+  pub covered_start : CoveredFrom qs ls 0 0 0
+  covered_start = record { within = omega arith; same = ap (covered qs) (numbers_start ls); walk = λ s h. omega arith }
 
-    module _ (h : k < total) (q : ℕ) (e : q ≡ u32_at b (at + 4 * k)) (i : ℕ) (p : i ≡ lower q qs) where
-      next : covered qs (numbers_at b at total)
-          ≡ cond (ltb (place_of qs q) (length qs)) (covered qs (numbers_at b (at + 4 * (k + 1)) (total - (k + 1)))) false
+  module _ (from last k : ℕ) (f : CoveredFrom qs ls from last k) where
+    pub covered_end : length ls ≤ k → true ≡ covered qs (u32s_in ls)
+    unfolding covered
+    covered_end h = sym (f.same ∙ ap (covered qs) (numbers_end ls k h))
+
+    module _ (h : k < length ls) (q : ℕ) (e : q ≡ u32_at (get_or ls k []) 0) (i : ℕ) (p : i ≡ lower q qs) where
+      next : covered qs (u32s_in ls)
+          ≡ cond (ltb (place_of qs q) (length qs)) (covered qs (numbers_from ls (k + 1))) false
       unfolding covered
-      next = f.same ∙ ap (covered qs) (numbers_next b at total k h) ∙ rw e
+      next = f.same ∙ ap (covered qs) (numbers_next ls k h) ∙ rw e
 
       -- a number that does not stand where it is to stand is not in the support
-      pub covered_none : Rising 0 qs → (i < length qs → get_or qs i 0 ≡ q → ⊥) → false ≡ covered qs (numbers_at b at total)
+      pub covered_none : Rising 0 qs → (i < length qs → get_or qs i 0 ≡ q → ⊥) → false ≡ covered qs (u32s_in ls)
       covered_none rises none =
           let out : ¬ Mem q qs = λ m.
           let stands = qubit_at_place qs q m in
@@ -52,7 +55,7 @@ module _ (qs b : List ℕ) (at total : ℕ) where
           none (omega (arith, same, place_in qs q m)) (rw same at stands) in
           sym (next ∙ rw (le-ltb (place_of qs q) (length qs) (omega (arith, no_place qs q out))))
 
-      pub covered_next : i < length qs → get_or qs i 0 ≡ q → CoveredFrom qs b at total (i + 1) q (k + 1)
+      pub covered_next : i < length qs → get_or qs i 0 ≡ q → CoveredFrom qs ls (i + 1) q (k + 1)
       covered_next l stands =
           let m : Mem q qs = rw (← stands) (in_get_or qs i 0 l) in
           let there : insert q qs ≡ qs = insert_there q qs (omega arith) (rw (← p) stands) in

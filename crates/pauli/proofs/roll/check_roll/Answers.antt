@@ -1,8 +1,8 @@
 -- Test by test, in the order of `read`.
 use Rattle.pauli.proofs.roll.ReaderLaws.{roll_short, roll_many, roll_cut, roll_entry, total_bound, roll_length, roll_filled, roll_set, roll_qubits, roll_passes}
 use Rattle.pauli.specs.Roll.{most_paulis}
-use Rattle.pauli.specs.Support.{most_qubits}
-use Rattle.std.proofs.Common.{sym, ap, ◌∙◌, arith}
+use Rattle.pauli.specs.Support.{most_qubits, insert_all}
+use Rattle.std.proofs.Common.{ℕ, suc, min, List, [], length, sym, ap, ◌∙◌, arith}
 use Rattle.pauli.specs.Refusals.{told_of, told_refusal}
 use Rattle.pauli.proofs.refusal.HandedOn.{handed_on}
 use Rattle.pauli.proofs.roll.check_roll.Goals as goal
@@ -48,8 +48,8 @@ returns-in_err-check_sets c = ap told_of (handed_on _ _ c.from_residual-in_err-c
 
 pub returns-then-distinct-gt-MOST_QUBITS : goal.returns-then-distinct-gt-MOST_QUBITS
 unfolding most_paulis most_qubits
-returns-then-distinct-gt-MOST_QUBITS c = ap told_refusal c.into-then-distinct-gt-MOST_QUBITS.ensures ∙ sym (roll_qubits _ c.if-b-lt2.false _ c.u16_at-n.ensures.0 c.if-n-gt-MOST_PAULIS.false c.if-b-n.false _ (sym c.in_ok-total.ensures) c.if-b-n-2.false _ (sym c.in_ok-check_sets.ensures) _ c.distinct.ensures c.if-distinct-gt-MOST_QUBITS.true)
+returns-then-distinct-gt-MOST_QUBITS c = ap told_refusal c.into-then-distinct-gt-MOST_QUBITS.ensures ∙ sym (roll_qubits _ c.if-b-lt2.false _ c.u16_at-n.ensures.0 c.if-n-gt-MOST_PAULIS.false c.if-b-n.false _ (sym c.in_ok-total.ensures) c.if-b-n-2.false _ (sym c.in_ok-check_sets.ensures) _ (c.distinct.ensures ∙ ap (λ (ns : List ℕ). min (length (insert_all ns [])) (suc most_qubits)) c.numbers_at.ensures) c.if-distinct-gt-MOST_QUBITS.true)
 
 pub returns : goal.returns
 unfolding most_paulis most_qubits
-returns c = sym (roll_passes _ c.if-b-lt2.false _ c.u16_at-n.ensures.0 c.if-n-gt-MOST_PAULIS.false c.if-b-n.false _ (sym c.in_ok-total.ensures) c.if-b-n-2.false _ (sym c.in_ok-check_sets.ensures) _ c.distinct.ensures c.if-distinct-gt-MOST_QUBITS.false)
+returns c = sym (roll_passes _ c.if-b-lt2.false _ c.u16_at-n.ensures.0 c.if-n-gt-MOST_PAULIS.false c.if-b-n.false _ (sym c.in_ok-total.ensures) c.if-b-n-2.false _ (sym c.in_ok-check_sets.ensures) _ (c.distinct.ensures ∙ ap (λ (ns : List ℕ). min (length (insert_all ns [])) (suc most_qubits)) c.numbers_at.ensures) c.if-distinct-gt-MOST_QUBITS.false)

@@ -1,7 +1,8 @@
 -- The five words stand from word `at` on.
 use Rattle.std.proofs.Common.{ℕ, List, ◌-◌, ◌∙◌, ap, arith, length}
 use Rattle.std.specs.Prelude.{slice_index}
-use Rattle.pauli.proofs.signed.SignedLaws.{pauli_shifted, five_first}
+use Rattle.pauli.proofs.signed.SignedLaws.{pauli_shifted}
+use Rattle.pauli.proofs.roll.Items.{chunk_first}
 use Rattle.pauli.specs.Pauli.{normal}
 use Rattle.pauli.proofs.signed.load.Goals as goal
 
@@ -11,4 +12,4 @@ returns c =
     let at = c.args.at in
     let chunk = rw c.unwrap.ensures at c.first_chunk.ensures.cases in
     c.from_words.ensures
-    ∙ ap normal (pauli_shifted w _ at (λ k l. ap (λ (ws : List ℕ). slice_index ws k) chunk.same ∙ five_first w at (length w - at) k (omega arith) l))
+    ∙ ap normal (pauli_shifted w _ at (λ k l. ap (λ (ws : List ℕ). slice_index ws k) chunk.same ∙ chunk_first 5 w at (length w - at) k (omega arith) l))

@@ -1,12 +1,13 @@
-use Rattle.std.proofs.Common.{arith}
-use Rattle.pauli.proofs.support.Walk.{place_le, place_hit, place_miss}
+use Rattle.std.proofs.Common.{ℕ, sym, ◌∙◌, eqb, rules, tests}
+use Rattle.std.proofs.lemmas.Iterator.{YieldsList-from_slice}
+use Rattle.std.proofs.lemmas.Iterator.Search.{position_from_yields_List}
+use Rattle.pauli.proofs.support.Walk.{first_found, place_first}
 use Rattle.pauli.proofs.support.place_of.Goals as goal
 
-pub returns-then-support-i : goal.returns-then-support-i
-returns-then-support-i c = omega (arith, place_hit c.args.support.now c.args.q.0 c.loop-i.i c.loop-i-test.true c.if-support-i.true)
-
-pub loop-i-preserved : goal.loop-i-preserved
-loop-i-preserved c = (omega arith, place_miss c.args.support.now c.args.q.0 c.loop-i.i c.loop-i-test.true c.loop-i.invariant.1 c.if-support-i.false)
-
 pub returns : goal.returns
-returns c = omega (arith, place_le c.args.support.now c.args.q.0)
+returns c =
+    let l = c.args.support.now in
+    let test = λ (n : ℕ). eqb n c.args.q.0 in
+    c.unwrap_or.ensures
+    ∙ first_found test l _ (position_from_yields_List test _ _ _ c.position-found.ensures.ran (YieldsList-from_slice l cc) (λ n b f k. (search rules, search (rules, tests))))
+    ∙ sym (place_first l c.args.q.0)

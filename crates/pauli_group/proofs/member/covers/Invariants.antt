@@ -1,6 +1,6 @@
--- Invariant: the answer is that for the numbers from number k on.
+-- Invariant: the answer is that for the numbers left.
 use Rattle.pauli_group.proofs.member.MemberLaws.{CoveredFrom}
 use Rattle.pauli_group.proofs.member.covers.Given as goal
 
-abbrev pub invariant-loop-k : goal.invariant-loop-k
-invariant-loop-k l = CoveredFrom l.support l.b l.at l.total l.from.0 l.last.0 l.k
+abbrev pub invariant-loop-bytes : goal.invariant-loop-bytes
+invariant-loop-bytes l = CoveredFrom l.support l.numbers l.from.0 l.last.0 l.bytes-index

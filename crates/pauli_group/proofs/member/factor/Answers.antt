@@ -40,8 +40,8 @@ returns-then-left-step-ne0-clause-told c =
     let list = span_list _ c.paulis.ensures.list c.generators.ensures in
     let over = rw c.step.ensures.0 at c.if-left-step-ne0.true in
     λ g. factored_phase g _ inside _ c.condense_from-p.ensures _ solved.told
-      _ (c.indexed_product-product.ensures ∙ ap (indexed_product _) (list ∙ kept))
-      _ (omega arith) over
+    _ (c.indexed_product-product.ensures ∙ ap (indexed_product _) (list ∙ kept))
+    _ (omega arith) over
 
 pub returns-clause-told : goal.returns-clause-told
 returns-clause-told c =
@@ -51,5 +51,5 @@ returns-clause-told c =
     let list = span_list _ c.paulis.ensures.list c.generators.ensures in
     let whole = rw c.step.ensures.0 at c.if-left-step-ne0.false in
     λ g. factored_found g _ inside _ c.condense_from-p.ensures _ solved.told
-      _ (c.indexed_product-product.ensures ∙ ap (indexed_product _) (list ∙ kept))
-      _ (omega arith) whole
+    _ (c.indexed_product-product.ensures ∙ ap (indexed_product _) (list ∙ kept))
+    _ (omega arith) whole

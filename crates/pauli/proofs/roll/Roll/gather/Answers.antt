@@ -9,8 +9,8 @@ overflow_mul-self c = omega (arith, accepted_length c.args.self.bytes.now c.args
 pub overflow_add-self : goal.overflow_add-self
 overflow_add-self c = omega (arith, accepted_length c.args.self.bytes.now c.args.self.count c.args.self.accepted)
 
-pub gather-requires : goal.gather-requires
-gather-requires c = omega (arith, c.numbers.ensures.0, accepted_length c.args.self.bytes.now c.args.self.count c.args.self.accepted)
+pub numbers_at-requires : goal.numbers_at-requires
+numbers_at-requires c = omega (arith, c.numbers.ensures.0, accepted_length c.args.self.bytes.now c.args.self.count c.args.self.accepted)
 
 pub returns : goal.returns
-returns c = rw (c.numbers.ensures.0, accepted_numbers c.args.self.bytes.now c.args.self.count c.args.self.accepted) at c.gather.ensures
+returns c = rw (c.numbers_at.ensures, c.numbers.ensures.0, accepted_numbers c.args.self.bytes.now c.args.self.count c.args.self.accepted) at c.gather.ensures

@@ -2,5 +2,5 @@
 use Rattle.pauli.proofs.support.Walk.{Walking}
 use Rattle.pauli.proofs.support.Support.gather.Given as goal
 
-abbrev pub invariant-loop-i : goal.invariant-loop-i
-invariant-loop-i l = Walking l.b l.at l.total l.initial.self l.self l.from.0 l.last.0 l.i
+abbrev pub invariant-loop-bytes : goal.invariant-loop-bytes
+invariant-loop-bytes l = Walking l.numbers l.initial.self l.self l.from.0 l.last.0 l.bytes-index

@@ -1,16 +1,17 @@
 -- A number that stands at its place is known; another is put in there.
 use Rattle.std.proofs.Common.{◌≤◌, ◌+◌, take, sym, ap, ◌∙◌, arith, length, length-take-le, get_or-take}
+use Rattle.std.proofs.lemmas.Bool.{eqb-true, eqb-false}
 use Rattle.pauli.proofs.support.SupportLaws.{insert_rises}
 use Rattle.pauli.proofs.support.Walk.{lower_le, noted_known, noted_moved}
 use Rattle.pauli.specs.Support.{most_qubits, insert}
 use Rattle.pauli.proofs.support.Support.note.Goals as goal
-use Rattle.pauli.proofs.support.Support.note.Goals.{then-i-count+else-self-i, else-i-count}
+use Rattle.pauli.proofs.support.Support.note.Goals.{then-i-count+else-eq, else-i-count}
 
-pub returns-then-self-i-clause-known : goal.returns-then-self-i-clause-known
-returns-then-self-i-clause-known c =
+pub returns-then-eq-clause-known : goal.returns-then-eq-clause-known
+returns-then-eq-clause-known c =
     let at = c.self.inside in
     let size = length-take-le at.count at.numbers (omega arith) in
-    let known = noted_known (take at.count at.numbers) c.args.q.0 c.place_from-i.result.0 c.place_from-i.ensures (omega (arith, size)) (get_or-take at.count at.numbers c.place_from-i.result.0 0 c.if-i-count.true ∙ c.if-self-i.true) in
+    let known = noted_known (take at.count at.numbers) c.args.q.0 c.place_from-i.result.0 c.place_from-i.ensures (omega (arith, size)) (get_or-take at.count at.numbers c.place_from-i.result.0 0 c.if-i-count.true ∙ eqb-true _ _ (sym c.eq.ensures ∙ c.if-eq.true)) in
     sym c.self.view_is ∙ known ∙ ap (insert c.args.q.0) c.self.view_is
 
 pub overflow_add-i : goal.overflow_add-i
@@ -58,7 +59,7 @@ invariant_of-self c =
     let size = length-take-le at.count at.numbers (omega arith) in
     let room : at.count + 1 ≤ 129 = omega (arith, size, ap length c.self.view_is, c.requires.0) in (
       room,
-      rw (noted_moved at.numbers at.count c.args.q.0 (omega (arith, room)) c.place_from-i.result.0 c.place_from-i.ensures (λ h e. elim c.if-i-count.branch [ then-i-count+else-self-i w ↦ w.if-self-i.false e | else-i-count w ↦ omega arith ]) _ c.copy_within.ensures.after) (insert_rises 0 c.args.q.0 _ (omega arith) c.self.invariant.1),
+      rw (noted_moved at.numbers at.count c.args.q.0 (omega (arith, room)) c.place_from-i.result.0 c.place_from-i.ensures (λ h e. elim c.if-i-count.branch [ then-i-count+else-eq w ↦ eqb-false _ _ (sym w.eq.ensures ∙ w.if-eq.false) e | else-i-count w ↦ omega arith ]) _ c.copy_within.ensures.after) (insert_rises 0 c.args.q.0 _ (omega arith) c.self.invariant.1),
     )
 
 pub returns-clause-known : goal.returns-clause-known
@@ -67,4 +68,4 @@ returns-clause-known c =
     let at = c.self.inside in
     let size = length-take-le at.count at.numbers (omega arith) in
     let room : at.count + 1 ≤ 129 = omega (arith, size, ap length c.self.view_is, c.requires.0) in
-    rw (← c.self.view_is) (noted_moved at.numbers at.count c.args.q.0 (omega (arith, room)) c.place_from-i.result.0 c.place_from-i.ensures (λ h e. elim c.if-i-count.branch [ then-i-count+else-self-i w ↦ w.if-self-i.false e | else-i-count w ↦ omega arith ]) _ c.copy_within.ensures.after)
+    rw (← c.self.view_is) (noted_moved at.numbers at.count c.args.q.0 (omega (arith, room)) c.place_from-i.result.0 c.place_from-i.ensures (λ h e. elim c.if-i-count.branch [ then-i-count+else-eq w ↦ eqb-false _ _ (sym w.eq.ensures ∙ w.if-eq.false) e | else-i-count w ↦ omega arith ]) _ c.copy_within.ensures.after)

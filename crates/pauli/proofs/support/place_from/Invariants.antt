@@ -1,7 +1,0 @@
--- Invariant: the place is not before i.
-use Rattle.std.proofs.Common.{◌≤◌, length}
-use Rattle.pauli.specs.Known.{lower}
-use Rattle.pauli.proofs.support.place_from.Given as goal
-
-abbrev pub invariant-loop-i : goal.invariant-loop-i
-invariant-loop-i l = (l.i ≤ length l.support) × (l.i ≤ lower l.number l.support)
