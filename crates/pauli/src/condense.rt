@@ -53,6 +53,8 @@ pub fn condense_from(roll: Roll, i: usize, support: &[u32]) -> Pauli
     ensures { held result ≡ condensed support.now (pauli_of (slice_index_or (list_of roll.entry.bytes.now) i nothing)) }
 {
     let e = roll.entry(i);
+    // The same sum stands in body_in, is_supported and capi: a function would have to tie the entry to the roll, which `Readable`
+    // does here and the roll's being accepted does there.
     let at = 2 + 10 * roll.count + 4 * e.start;
     let x = places_of(numbers_at(roll.bytes, at, e.xcount), support);
     let z = places_of(numbers_at(roll.bytes, at + 4 * e.xcount, e.zcount), support);

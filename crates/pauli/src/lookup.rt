@@ -30,7 +30,8 @@ fn looked_up(roll: Roll, i: usize) -> JoinedEntry
     }
 }
 
-// Generator n of the joined list: its exponent value and its counts.
+// Generator n of the joined list: its exponent value and its counts. Which roll it is in is told by two comparisons, here, in
+// joined_body and in capi: what each hands out differs in type.
 pub fn joined_entry(left: &[u8], right: &[u8], n: usize) -> Result<JoinedEntry, Refusal>
     ensures { told_by looked_in result ≡ entry_of left.now right.now n }
 {

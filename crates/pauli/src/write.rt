@@ -22,7 +22,7 @@ pub fn put_u16(out: &mut [u8], at: usize, v: usize)
     out[at..at + 2].copy_from_slice(&(v as u16).to_le_bytes());
 }
 
-// Writes a number as four bytes.
+// Writes a qubit number as four bytes. `put_u16` is given a count: the two have one line each.
 fn put_u32(out: &mut [u8], at: usize, number: u32)
     requires { at + 4 ≤ length out.old }
     ensures { out.new ≡ put_bytes out.old at (le32 number) }
