@@ -1,5 +1,6 @@
 // The call for the common part.
-ghost use Rattle.std.specs.Prelude.{◌≡◌, IfSome, ◌+◌, ◌*◌, ◌^◌, ◌<◌, ◌≤◌, ◌++◌, map, length};
+ghost use Rattle.std.specs.Prelude.{◌≡◌, IfSome, ◌+◌, ◌*◌, ◌^◌, ◌<◌, ◌≤◌, ◌++◌, length, slice_index};
+ghost use Rattle.std.specs.List.{AllWithin};
 ghost use Rattle.pauli.specs.Support.{All};
 ghost use Rattle.pauli.specs.Told.{answer};
 ghost use Rattle.pauli.specs.Condense.{list_of};
@@ -7,7 +8,7 @@ ghost use Rattle.pauli.specs.Signed.{held, pauli_in, list_in};
 ghost use Rattle.pauli.specs.Writing.{OnPlaces, told_bytes, left_in};
 ghost use Rattle.pauli_theory.specs.Standard.{support_of, phase_step};
 ghost use Rattle.pauli_theory.specs.Common.{with_exponent, phases_from, common_part, lesser};
-ghost use Rattle.pauli_theory.specs.Inner.CommonPlaces.{shared_exponent, shared_with};
+ghost use Rattle.pauli_theory.specs.Inner.CommonPlaces.{shared_exponent};
 ghost use Rattle.pauli_group.specs.Inner.Area.{target_at, further_at, stride_of, Outside};
 ghost use Rattle.pauli_group.specs.WorkArea.{cleared};
 ghost use Rattle.pauli_group.specs.Inner.Lists.{step_told, found};
@@ -16,7 +17,7 @@ ghost use Rattle.pauli_group.specs.Promises.{promise_of};
 ghost use Rattle.pauli_group.specs.Answers.{order_of};
 ghost use Rattle.pauli_group.specs.CallContracts.{CommonCall};
 ghost use Rattle.pauli_group.specs.Inner.Moved.{MovablePauli};
-ghost use Rattle.pauli_group.specs.Inner.Shared.{Solving, exponent_over, exponent_for, noted, shared_noted};
+ghost use Rattle.pauli_group.specs.Inner.Shared.{Solving, exponent_over, exponent_for, NotedBy, shared_at};
 ghost use Rattle.pauli.specs.Refusals.{told_of};
 
 use crate::answers::Phases;
@@ -32,21 +33,23 @@ use crate::scan::put_phase;
 use crate::standard::signs_of;
 use pauli::joined::{Pair, join_support};
 use pauli::refusal::Refusal;
-use pauli::roll::Roll;
+use pauli::roll::{MOST_PAULIS, Roll};
 use pauli::signed::{Pauli, indexed_product, load, store};
 use pauli::support::Support;
 use pauli::write::write_roll;
 use std::cmp::Ordering;
 
+// The phases of a group, and for each Pauli of the further list the exponent of the product of generators that solves for it.
+#[derive(Drop)]
+struct Exponents {
+    phases: Phases,
+    by: [u8; MOST_PAULIS],
+    ghost low: { AllWithin (λ e. e < 4) by 0 128 },
+}
+
 // The exponent of the product of those generators of a group that solve for the Pauli at word at; the group is over the places of
 // own, the Pauli over those of joint.
-fn exponent_of(
-    w: &mut [u64; WORK_WORDS],
-    at: usize,
-    group: Group,
-    own: &[u32],
-    joint: &[u32],
-) -> u64
+fn exponent_of(w: &mut [u64; WORK_WORDS], at: usize, group: Group, own: &[u32], joint: &[u32]) -> u8
     requires { (at + 5 ≤ 4096) × Solving w.old group.count group.places group.rank × (group.places ≡ length own.now) × ((pauli_in w.old at).x < 2 ^ length joint.now) × ((pauli_in w.old at).z < 2 ^ length joint.now) × MovablePauli joint.now own.now (pauli_in w.old at) }
     ensures told { result ≡ exponent_over joint.now own.now group.count group.places w.old (pauli_in w.old at) }
     ensures low { result < 4 }
@@ -55,55 +58,66 @@ fn exponent_of(
     let p = move_pauli(load(w, at), joint, own);
     match solve(w, group, p) {
         None => 0,
-        Some(set) => {
-            let product = indexed_product(group.generators().paulis(w), set);
-            (product.exponent % 4) as u64
-        }
+        Some(set) => indexed_product(group.generators().paulis(w), set).exponent % 4,
     }
 }
 
-// Notes with each of the m Paulis of the further list the exponent of the product that solves for it.
+// Notes for each of the m Paulis of the further list the exponent of the product that solves for it.
 // `OnPlaces` is a fact of the words in the area, which the next store may change: no value carries it.
 // m is a number: a Span would need, in place of m ≤ 128, that it stands behind the form and the generators. So in note_by.
-fn note_exponents(w: &mut [u64; WORK_WORDS], m: usize, group: Group, own: &[u32], joint: &[u32])
+fn note_exponents(
+    w: &mut [u64; WORK_WORDS],
+    m: usize,
+    group: Group,
+    own: &[u32],
+    joint: &[u32],
+) -> [u8; MOST_PAULIS]
     requires { (m ≤ 128) × Solving w.old group.count group.places group.rank × (group.places ≡ length own.now) × OnPlaces (length joint.now) (list_in w.old further_at m) × All (MovablePauli joint.now own.now) (list_in w.old further_at m) }
-    ensures { list_in w.new further_at m ≡ map (λ p. noted (exponent_over joint.now own.now group.count group.places w.old p) p) (list_in w.old further_at m) }
+    ensures by { NotedBy (exponent_over joint.now own.now group.count group.places w.old) result m w.old }
+    ensures low { AllWithin (λ e. e < 4) result 0 128 }
+    ensures rest { Outside target_at (stride_of group.count) w.old w.new }
 {
+    let mut by = [0; MOST_PAULIS];
     for i in 0..m {
-        let at = FURTHER + 5 * i;
-        let e = exponent_of(w, at, group, own, joint);
-        w[at] = w[at] % 4 * 4 + e;
+        by[i] = exponent_of(w, FURTHER + 5 * i, group, own, joint);
     }
+    by
 }
 
-// Notes with each of the m Paulis of the further list the exponent by the group of a roll; tells its phases.
+// Notes for each of the m Paulis of the further list the exponent by the group of a roll; tells its phases too.
 fn note_by(
     roll: Roll,
     promise: Promise,
     joint: &[u32],
     w: &mut [u64; WORK_WORDS],
     m: usize,
-) -> Phases
+) -> Exponents
     requires { (m ≤ 128) × OnPlaces (length joint.now) (list_in w.old further_at m) × All (MovablePauli joint.now (support_of (paulis (list_of roll.bytes.now)))) (list_in w.old further_at m) }
-    ensures step { step_told result ≡ phase_step (promise_of promise) (paulis (list_of roll.entry.bytes.now)) }
-    ensures list { list_in w.new further_at m ≡ map (λ p. noted (exponent_for joint.now (paulis (list_of roll.entry.bytes.now)) p) p) (list_in w.old further_at m) }
+    ensures step { step_told result.phases ≡ phase_step (promise_of promise) (paulis (list_of roll.entry.bytes.now)) }
+    ensures by { NotedBy (exponent_for joint.now (paulis (list_of roll.entry.bytes.now))) result.by m w.old }
+    ensures rest { Outside 0 further_at w.old w.new }
 {
     let mut known = Support::new();
     let group = group_of(roll, &mut known, w);
     let signs = signs_of(group.standards().paulis(w), promise);
-    note_exponents(w, m, group, known.qubits(), joint);
-    signs.phases
+    let by = note_exponents(w, m, group, known.qubits(), joint);
+    Exponents {
+        phases: signs.phases,
+        by,
+    }
 }
 
 // The first exponent that is, less u, a phase of the first group and, less v, of the second.
-fn shared_exponent(first: Phases, second: Phases, u: u64, v: u64) -> Option<u8>
+fn shared_exponent(first: Phases, second: Phases, u: u8, v: u8) -> Option<u8>
     requires { (u < 4) × (v < 4) }
     ensures below { IfSome result (λ e. e < 4) }
     ensures first { found result ≡ shared_exponent (step_told first) (step_told second) u v }
 {
     let a = first.step();
     let b = second.step();
-    (0..4).find(|e| (*e as u64 + 4 - u) % 4 % a + (*e as u64 + 4 - v) % 4 % b == 0)
+    (0u8..4).find(|e| {
+        (e.wrapping_sub(u) % 4) as u64 % a + (e.wrapping_sub(v) % 4) as u64 % b == 0
+    })
 }
 
 // p with this exponent.
@@ -113,16 +127,21 @@ fn with_exponent(e: u8, p: Pauli) -> Pauli
     Pauli { exponent: e, ..p }
 }
 
-// Keeps those Paulis of a list that have a shared exponent, with it, at its front; tells how many.
-fn keep_shared(w: &mut [u64; WORK_WORDS], list: Span, first: Phases, second: Phases) -> usize
+// Keeps those Paulis of a list whose exponents by the two groups have a shared one, with it, at its front; tells how many.
+fn keep_shared(
+    w: &mut [u64; WORK_WORDS],
+    list: Span,
+    first: &Exponents,
+    second: &Exponents,
+) -> usize
+    requires { list.count ≤ 128 }
     ensures few { result ≤ list.count }
-    ensures list { list_in w.new list.base result ≡ shared_with (shared_noted (step_told first) (step_told second)) (list_in w.old list.base list.count) }
+    ensures list { list_in w.new list.base result ≡ shared_at (λ i. shared_exponent (step_told first.now.phases) (step_told second.now.phases) (slice_index first.now.by i) (slice_index second.now.by i)) w.old list.base list.count }
 {
     let mut kept = 0;
     for i in 0..list.count {
-        let at = list.base + 5 * i;
-        if let Some(e) = shared_exponent(first, second, w[at] / 4 % 4, w[at] % 4) {
-            let p = load(w, at);
+        if let Some(e) = shared_exponent(first.phases, second.phases, first.by[i], second.by[i]) {
+            let p = load(w, list.base + 5 * i);
             store(w, list.base + 5 * kept, with_exponent(e, p));
             kept += 1;
         }
@@ -163,9 +182,9 @@ fn write_part(
     let m = common_basis(pair, joint, w);
     let first = note_by(pair.left, promises.left, joint, w, m);
     let second = note_by(pair.right, promises.right, joint, w, m);
-    let noted = Span::at(FURTHER, m);
-    let shared = Span::at(FURTHER, keep_shared(w, noted, first, second));
-    let total = append_phases(w, shared, first, second);
+    let basis = Span::at(FURTHER, m);
+    let shared = Span::at(FURTHER, keep_shared(w, basis, &first, &second));
+    let total = append_phases(w, shared, first.phases, second.phases);
     write_roll(Span::at(FURTHER, total).paulis(w), joint, out)
 }
 

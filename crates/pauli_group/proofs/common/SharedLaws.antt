@@ -1,6 +1,5 @@
--- Laws of the common part in the work area: exponents noted with the elements of a basis, the shared ones, and the phases.
-use Rattle.std.proofs.Common.{◌≡◌, Option as CodeOption, Some, None, MatchOption, ℕ, zero, suc, ◌+◌, ◌-◌, ◌*◌, ◌/◌, ◌%◌, ◌^◌, ◌<◌, ◌≤◌, max, List, [], ◌∷◌, ◌++◌, map, length, get_or, set, sym, refl, ap, ◌∙◌, subst, ap₂, append_assoc, append-nil, mod-eq_of_lt, add-one, arith, length-set, get_or-set_other, get_or-set_same}
-use mathlib.Core.List.{map-append}
+-- Laws of the common part in the work area: exponents noted for the elements of a basis, the shared ones, and the phases.
+use Rattle.std.proofs.Common.{◌≡◌, Option as CodeOption, Some, None, MatchOption, ℕ, zero, suc, ◌+◌, ◌-◌, ◌*◌, ◌%◌, ◌^◌, ◌<◌, ◌≤◌, max, List, [], ◌∷◌, ◌++◌, length, sym, refl, ap, ◌∙◌, subst, ap₂, append_assoc, append-nil, mod-eq_of_lt, add-one, arith}
 use mathlib.Core.Option.{Option, some, none}
 use lib.Seq.{sets}
 use Rattle.binar.specs.Layout.{form_in}
@@ -32,10 +31,10 @@ use Rattle.pauli_group.specs.Inner.Lists.{row_over, found}
 use Rattle.pauli_group.proofs.member.FactorLaws.{grouped_solvable}
 use Rattle.pauli_group.proofs.group.GroupedLaws.{list_length, list_few, group_places}
 use Rattle.pauli_group.proofs.area.AreaLaws.{form_room}
-use Rattle.pauli_group.proofs.list.ListLaws.{pauli_same, list_same, list_at_lem, on_places_at, list_append, list_snoc, list_kept, list_kept_after, pauli_kept_after, outside_refl, list_store, store_further}
+use Rattle.pauli_group.proofs.list.ListLaws.{list_at_lem, on_places_at, list_append, list_snoc, list_kept, list_kept_after, pauli_kept_after, outside_refl, list_store, store_further}
 use Rattle.pauli_group.proofs.member.SolveLaws.{solvable_kept, form_kept}
 use Rattle.pauli_group.specs.Inner.Moved.{MovablePauli}
-use Rattle.pauli_group.specs.Inner.Shared.{Solving, exponent_over, exponent_for, noted, shared_noted}
+use Rattle.pauli_group.specs.Inner.Shared.{Solving, exponent_over, exponent_for, NotedBy, shared_at}
 
 some_more : (i j : ℕ) → (i + j ≡ 0 → ⊥) → 0 < max i j
 some_more zero zero d = absurd (d refl)
@@ -96,73 +95,66 @@ module _ (a b u v : ℕ) where
 
 -- ---- the elements that have one, with it
 
+-- by what the exponents are of
+pub shared_all : (f : ℕ → Option ℕ) (g : Pauli → Option ℕ) (x : List ℕ) (base n : ℕ)
+    → ((i : ℕ) → i < n → f i ≡ g (pauli_in x (base + 5 * i))) → shared_at f x base n ≡ shared_with g (list_in x base n)
+unfolding shared_at shared_with list_in
+shared_all f g x base zero h = refl
+shared_all f g x base (suc n) h =
+    let p = pauli_in x (base + 5 * n) in
+    ap₂ (λ (ps : List Pauli) (o : Option ℕ). ps ++ cons_some (with_some o p) []) (shared_all f g x base n (λ i l. h i (omega arith))) (h n (omega arith))
+    ∙ sym (ap (λ (k : ℕ). shared_with g (list_in x base k)) (sym (add-one n)) ∙ ap (shared_with g) (list_snoc x base n) ∙ shared_append g (list_in x base n) (p ∷ []))
+
 -- of the Paulis from word base of the slice first on, the first i were looked at, and those kept stand in the slice w
-pub record KeptUpTo (base a b m : ℕ) (first : List ℕ) (i kept : ℕ) (w : List ℕ) : Type 0 where
+pub record KeptUpTo (base m : ℕ) (f : ℕ → Option ℕ) (first : List ℕ) (i kept : ℕ) (w : List ℕ) : Type 0 where
   pub low : kept ≤ i
   pub within : i ≤ m
-  pub list : list_in w base kept ≡ shared_with (shared_noted a b) (list_in first base i)
+  pub list : list_in w base kept ≡ shared_at f first base i
   pub rest : Outside base (5 * kept) first w
 
-module _ (base a b m : ℕ) (first : List ℕ) where
-  pub kept_none : KeptUpTo base a b m first 0 0 first
-  unfolding list_in shared_with
+module _ (base m : ℕ) (f : ℕ → Option ℕ) (first : List ℕ) where
+  pub kept_none : KeptUpTo base m f first 0 0 first
+  unfolding list_in shared_at
   kept_none = record { low = omega arith; within = omega arith; list = refl; rest = outside_refl base 0 first }
 
-  module _ (i kept : ℕ) (w : List ℕ) (K : KeptUpTo base a b m first i kept w) (h : i < m) where
+  module _ (i kept : ℕ) (w : List ℕ) (K : KeptUpTo base m f first i kept w) (h : i < m) where
     abbrev p : Pauli
     p = pauli_in first (base + 5 * i)
 
-    pub kept_here : pauli_in w (base + 5 * i) ≡ p
-    kept_here = pauli_kept_after K.rest (base + 5 * i) (let l = K.low in omega arith)
+    more : (o : Option ℕ) → o ≡ f i → shared_at f first base (i + 1) ≡ shared_at f first base i ++ cons_some (with_some o p) []
+    unfolding shared_at
+    more o e = ap (shared_at f first base) (add-one i) ∙ ap (λ o. shared_at f first base i ++ cons_some (with_some o p) []) (sym e)
 
-    more : shared_with (shared_noted a b) (list_in first base (i + 1))
-        ≡ shared_with (shared_noted a b) (list_in first base i) ++ cons_some (with_some (shared_noted a b p) p) []
-    unfolding shared_with
-    more = ap (shared_with (shared_noted a b)) (list_snoc first base i) ∙ shared_append (shared_noted a b) (list_in first base i) (p ∷ [])
+    pub kept_dropped : none ≡ f i → KeptUpTo base m f first (i + 1) kept w
+    unfolding with_some cons_some
+    kept_dropped n = record {
+      low = let k = K.low in omega arith;
+      within = omega arith;
+      list = K.list ∙ sym (more none n ∙ append-nil (shared_at f first base i));
+      rest = K.rest;
+    }
 
-    module _ (o : Option ℕ) (told_here : o ≡ shared_noted a b (pauli_in w (base + 5 * i))) where
-      told : o ≡ shared_noted a b p
-      told = told_here ∙ ap (shared_noted a b) kept_here
+    module _ (e : ℕ) (s : some e ≡ f i) (l : e < 4) (room : base + 5 * m ≤ length first) (q r : Held) (loaded : normal (held q) ≡ normal (pauli_in w (base + 5 * i)))
+        (made : held r ≡ with_exponent e (held q)) where
+      same : normal (held q) ≡ normal p
+      same = loaded ∙ ap normal (pauli_kept_after K.rest (base + 5 * i) (let l = K.low in omega arith))
 
-      pub kept_dropped : none ≡ o → KeptUpTo base a b m first (i + 1) kept w
+      element : normal (held r) ≡ with_exponent e p
+      unfolding normal with_exponent
+      element = ap normal made ∙ pauli_path (mod-eq_of_lt l) (ap (λ (t : Pauli). t.x) same) (ap (λ (t : Pauli). t.z) same)
+
+      pub kept_more : (u : List ℕ) → u ≡ sets w (base + 5 * kept) (pauli_words r) → KeptUpTo base m f first (i + 1) (kept + 1) u
       unfolding with_some cons_some
-      kept_dropped n = record {
+      kept_more u g = record {
         low = let k = K.low in omega arith;
         within = omega arith;
         list =
-            let z : none ≡ shared_noted a b p = n ∙ told in
-            K.list ∙ sym (more ∙ ap (λ o. shared_with (shared_noted a b) (list_in first base i) ++ cons_some (with_some o p) []) (sym z)
-            ∙ append-nil (shared_with (shared_noted a b) (list_in first base i)));
-        rest = K.rest;
+            ap (λ (x : List ℕ). list_in x base (kept + 1)) g
+            ∙ list_store w base kept r (let k = K.low in omega (arith, K.rest.size))
+            ∙ ap₂ (λ (ps : List Pauli) (t : Pauli). ps ++ (t ∷ [])) K.list element
+            ∙ sym (more (some e) s);
+        rest = store_further first w base kept r K.rest u g;
       }
-
-      module _ (e : ℕ) (s : some e ≡ o) (l : e < 4) (room : base + 5 * m ≤ length first) (q r : Held) (loaded : normal (held q) ≡ normal (pauli_in w (base + 5 * i)))
-          (made : held r ≡ with_exponent e (held q)) where
-        same : normal (held q) ≡ normal p
-        same = loaded ∙ ap normal kept_here
-
-        element : normal (held r) ≡ with_exponent e p
-        unfolding normal with_exponent
-        element = ap normal made ∙ pauli_path (mod-eq_of_lt l) (ap (λ (t : Pauli). t.x) same) (ap (λ (t : Pauli). t.z) same)
-
-        pub kept_more : (u : List ℕ) → u ≡ sets w (base + 5 * kept) (pauli_words r) → KeptUpTo base a b m first (i + 1) (kept + 1) u
-        unfolding with_some cons_some
-        kept_more u g = record {
-          low = let k = K.low in omega arith;
-          within = omega arith;
-          list =
-              let z : some e ≡ shared_noted a b p = s ∙ told in
-              ap (λ (x : List ℕ). list_in x base (kept + 1)) g
-              ∙ list_store w base kept r (let k = K.low in omega (arith, K.rest.size))
-              ∙ ap₂ (λ (ps : List Pauli) (t : Pauli). ps ++ (t ∷ [])) K.list element
-              ∙ sym (more ∙ ap (λ o. shared_with (shared_noted a b) (list_in first base i) ++ cons_some (with_some o p) []) (sym z));
-          rest = store_further first w base kept r K.rest u g;
-        }
-
-  pub found_noted : (w : List ℕ) (at : ℕ) (o : Option ℕ) → o ≡ shared_exponent a b (get_or w at 0 / 4 % 4) (get_or w at 0 % 4)
-      → o ≡ shared_noted a b (pauli_in w at)
-  unfolding shared_noted pauli_in
-  found_noted w at o h = h
 
 -- ---- phases behind them
 
@@ -259,93 +251,38 @@ module _ (w joint own : List ℕ) (at n places rank : ℕ) (S : Solving w n plac
 
 -- ---- exponents noted, one after the other
 
--- with the first i of the Paulis of the further list of the slice first, exponents are noted in the slice w
-pub record NotedUpTo (f : Pauli → Pauli) (first : List ℕ) (i : ℕ) (w : List ℕ) : Type 0 where
-  pub list : list_in w further_at i ≡ map f (list_in first further_at i)
-  pub size : length w ≡ length first
-  pub front : (k : ℕ) → k < target_at → get_or w k 0 ≡ get_or first k 0
-  pub middle : (k : ℕ) → list_at ≤ k → k < further_at → get_or w k 0 ≡ get_or first k 0
-  pub after : (k : ℕ) → further_at + 5 * i ≤ k → get_or w k 0 ≡ get_or first k 0
+module _ {first w : List ℕ} {n : ℕ} (O : Outside target_at (stride_of n) first w) {places rank : ℕ} (S : Solving first n places rank) where
+  -- the generators and the further list are behind the row to solve for
+  kept_from : target_at + stride_of n ≤ list_at
+  kept_from = omega (arith, (form_room n S.few).1)
 
-module _ (first joint own : List ℕ) (n places rank : ℕ) (S : Solving first n places rank) where
-  abbrev pub f : Pauli → Pauli
-  f p = noted (exponent_over joint own n places first p) p
+  list_here : list_in w list_at n ≡ list_in first list_at n
+  list_here = list_kept_after O list_at n kept_from
 
-  pub noted_none : NotedUpTo f first 0 first
-  unfolding list_in
-  noted_none = record { list = refl; size = refl; front = λ k h. refl; middle = λ k a b. refl; after = λ k h. refl }
+  pub noted_here : (i : ℕ) → pauli_in w (further_at + 5 * i) ≡ pauli_in first (further_at + 5 * i)
+  noted_here i = pauli_kept_after O (further_at + 5 * i) (omega (arith, kept_from))
 
-  module _ (i : ℕ) (w : List ℕ) (N : NotedUpTo f first i w) where
-    changed : Outside target_at (further_at + 5 * i) first w
-    changed = record { size = N.size; before = N.front; after = λ k h. N.after k (omega arith) }
+  pub noted_solving : Solving w n places rank
+  noted_solving = record {
+    form =
+        form_kept O (stride_of n) n (2 * places) rank target_at S.solvable (omega arith) row_words ∙ S.form
+        ∙ ap (form_of_places places) (sym list_here);
+    solvable = solvable_kept O (stride_of n) n (2 * places) rank target_at S.solvable (omega arith);
+    few = S.few;
+    small = S.small;
+  }
 
-    list_here : list_in w list_at n ≡ list_in first list_at n
-    list_here = list_same w first list_at n (λ k a b. N.middle k a (omega (arith, S.few)))
+  pub noted_element : (size m i : ℕ) → i < m → OnPlaces size (list_in first further_at m) → (qs rs : List ℕ) → All (MovablePauli qs rs) (list_in first further_at m)
+      → let p = pauli_in w (further_at + 5 * i) in (p.x < 2 ^ size) × (p.z < 2 ^ size) × MovablePauli qs rs p
+  noted_element size m i h on qs rs all =
+      let o = on_places_at size first further_at m i on h in
+      rw (noted_here i)
+      (o.0, o.1, subst (MovablePauli qs rs) (list_at_lem first further_at m i I h) (all_get (MovablePauli qs rs) (list_in first further_at m) I all i (rw (length_list first further_at m) h)))
 
-    pub noted_solving : Solving w n places rank
-    noted_solving = record {
-      form =
-          form_kept changed (stride_of n) n (2 * places) rank target_at S.solvable (omega arith) row_words ∙ S.form
-          ∙ ap (form_of_places places) (sym list_here);
-      solvable = solvable_kept changed (stride_of n) n (2 * places) rank target_at S.solvable (omega arith);
-      few = S.few;
-      small = S.small;
-    }
-
-    pub noted_here : pauli_in w (further_at + 5 * i) ≡ pauli_in first (further_at + 5 * i)
-    noted_here = pauli_same w first (further_at + 5 * i) (λ k a b. N.after k a)
-
-    pub noted_element : (size m : ℕ) → i < m → OnPlaces size (list_in first further_at m) → (qs rs : List ℕ) → All (MovablePauli qs rs) (list_in first further_at m)
-        → let p = pauli_in w (further_at + 5 * i) in (p.x < 2 ^ size) × (p.z < 2 ^ size) × MovablePauli qs rs p
-    noted_element size m h on qs rs all =
-        let o = on_places_at size first further_at m i on h in
-        rw noted_here
-        (o.0, o.1, subst (MovablePauli qs rs) (list_at_lem first further_at m i I h) (all_get (MovablePauli qs rs) (list_in first further_at m) I all i (rw (length_list first further_at m) h)))
-
-    module _ (e : ℕ) (told : e ≡ exponent_over joint own n places w (pauli_in w (further_at + 5 * i)))
-        (u : List ℕ) (o : Outside target_at (stride_of n) w u) (room : further_at + 5 * i + 5 ≤ length first) where
-      abbrev at : ℕ
-      at = further_at + 5 * i
-
-      abbrev word : ℕ
-      word = get_or u at 0 % 4 * 4 + e
-
-      further : (k : ℕ) → further_at ≤ k → get_or u k 0 ≡ get_or w k 0
-      further k h = o.after k (omega (arith, (form_room n S.few).1))
-
-      exponent_is : e ≡ exponent_over joint own n places first (pauli_in first at)
-      unfolding exponent_over
-      exponent_is = told ∙ ap₂ (λ ps p. solved_exponent places ps (moved_pauli joint own p)) list_here noted_here
-
-      module _ (v : List ℕ) (put : v ≡ set u at word) where
-        other : (k : ℕ) → (k ≡ at → ⊥) → get_or v k 0 ≡ get_or u k 0
-        other k d = ap (λ (l : List ℕ). get_or l k 0) put ∙ get_or-set_other u at k word 0 d
-
-        past : (k : ℕ) → further_at ≤ k → (k ≡ at → ⊥) → get_or v k 0 ≡ get_or w k 0
-        past k h d = other k d ∙ further k h
-
-        now_at : pauli_in v at ≡ f (pauli_in first at)
-        unfolding pauli_in noted with_exponent
-        now_at =
-            let here : get_or v at 0 ≡ word = ap (λ (l : List ℕ). get_or l at 0) put ∙ get_or-set_same u at word 0 (omega (arith, o.size, N.size)) in
-            let old : get_or u at 0 ≡ get_or first at 0 = further at (omega arith) ∙ N.after at (omega arith) in
-            let w1 : (j : ℕ) → 0 < j → get_or v (at + j) 0 ≡ get_or first (at + j) 0 = λ j h. past (at + j) (omega arith) (λ d. omega arith) ∙ N.after (at + j) (omega arith) in
-            pauli_path (here ∙ ap₂ (λ (a : ℕ) (b : ℕ). a % 4 * 4 + b) old exponent_is)
-            (ap₂ (λ (a : ℕ) (b : ℕ). a * 2 ^ 64 + b) (w1 2 (omega arith)) (w1 1 (omega arith)))
-            (ap₂ (λ (a : ℕ) (b : ℕ). a * 2 ^ 64 + b) (w1 4 (omega arith)) (w1 3 (omega arith)))
-
-        pub noted_next : NotedUpTo f first (i + 1) v
-        noted_next = record {
-          list =
-              list_snoc v further_at i
-              ∙ ap₂ (λ (ps : List Pauli) (p : Pauli). ps ++ (p ∷ []))
-              (list_same v w further_at i (λ k a b. past k a (λ d. omega arith)) ∙ N.list) now_at
-              ∙ sym (ap (map f) (list_snoc first further_at i) ∙ map-append f (list_in first further_at i) (pauli_in first at ∷ []));
-          size = ap length put ∙ length-set u at word ∙ o.size ∙ N.size;
-          front = λ k h. other k (λ d. omega arith) ∙ o.before k h ∙ N.front k h;
-          middle = λ k a b. other k (λ d. omega arith) ∙ o.after k (omega (arith, (form_room n S.few).1)) ∙ N.middle k a b;
-          after = λ k h. past k (omega arith) (λ d. omega arith) ∙ N.after k (omega arith);
-        }
+  pub noted_exponent : (joint own : List ℕ) (i e : ℕ) → e ≡ exponent_over joint own n places w (pauli_in w (further_at + 5 * i))
+      → e ≡ exponent_over joint own n places first (pauli_in first (further_at + 5 * i))
+  unfolding exponent_over
+  noted_exponent joint own i e told = told ∙ ap₂ (λ ps p. solved_exponent places ps (moved_pauli joint own p)) list_here (noted_here i)
 
 -- ---- by the group of an accepted roll
 
@@ -379,10 +316,11 @@ module _ (b : List ℕ) (n : ℕ) (count : count_of b ≡ answer n) {known x : L
     pub group_movable : All (MovablePauli qs (support_of gs)) (list_in entry further_at m) → All (MovablePauli qs known) (list_in x further_at m)
     group_movable all = rw (further_kept, G.support) all
 
-    pub group_noted : (y : List ℕ) → list_in y further_at m ≡ map (λ p. noted (exponent_over qs known n places x p) p) (list_in x further_at m)
-        → list_in y further_at m ≡ map (λ p. noted (exponent_for qs gs p) p) (list_in entry further_at m)
+    pub group_noted : (by : List ℕ) → NotedBy (exponent_over qs known n places x) by m x → NotedBy (exponent_for qs gs) by m entry
     unfolding exponent_over exponent_for
-    group_noted y e = e ∙ rw (further_kept, G.support, group_list, ← G.size)
+    group_noted by e = λ i h.
+        let here = pauli_kept_after o (further_at + 5 * i) (omega arith) in
+        e i h ∙ rw (here, G.support, group_list, ← G.size)
 
   -- the list itself, as a written roll
   pub list_on : OnPlaces places (list_in x list_at n)

@@ -25,4 +25,4 @@ pub returns-in-Some-clause-told : goal.returns-in-Some-clause-told
 returns-in-Some-clause-told c =
     let list = span_list _ c.paulis.ensures.list c.generators.ensures in
     exponent_set _ _ _ c.args.at _ _ _ c.requires.1 c.requires.2 _ _ c.load.ensures c.move_pauli-p.ensures _ c.in-Some.ensures.told _ c.solve.ensures.rest _
-    (c.indexed_product-product.ensures ∙ ap (indexed_product _) list)
+    (c.indexed_product.ensures ∙ ap (indexed_product _) list)

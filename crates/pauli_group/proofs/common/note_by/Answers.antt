@@ -1,11 +1,14 @@
-use Rattle.pauli_group.proofs.area.AreaLaws.{span_list}
+use Rattle.std.proofs.Common.{arith}
+use Rattle.pauli_group.specs.Inner.Area.{further_at}
+use Rattle.pauli_group.proofs.area.AreaLaws.{form_room, span_list}
+use Rattle.pauli_group.proofs.list.ListLaws.{outside_join, outside_wider}
 use Rattle.pauli_group.proofs.member.FactorLaws.{places_known}
 use Rattle.pauli_group.proofs.group.GroupLaws.{described}
 use Rattle.pauli_group.proofs.common.SharedLaws.{group_solving, group_further, group_movable, group_noted}
 use Rattle.pauli_group.proofs.common.note_by.Goals as goal
 
-pub note_exponents-requires : goal.note_exponents-requires
-note_exponents-requires c =
+pub note_exponents-by-requires : goal.note_exponents-by-requires
+note_exponents-by-requires c =
     let g = c.group_of-group.ensures in
     let p = c.requires in (
       p.0,
@@ -21,5 +24,6 @@ returns c =
     let standards = span_list _ c.paulis.ensures.list c.standards.ensures in
     let signs = rw standards at c.signs_of-signs.ensures in record {
       step = (described g.group _ _ _ _ signs.clash signs.step signs.stabilizer).step_is;
-      list = group_noted _ _ c.args.roll.accepted g.group c.group_of-group.array_long g.rest _ _ _ (rw (c.qubits.ensures.list, g.count) at c.note_exponents.ensures);
+      by = group_noted _ _ c.args.roll.accepted g.group c.group_of-group.array_long g.rest _ _ _ (rw (c.qubits.ensures.list, g.count) at c.note_exponents-by.ensures.by);
+      rest = outside_join g.rest (outside_wider 0 further_at c.note_exponents-by.ensures.rest (omega arith) (omega (arith, (form_room _ c.group_of-group.result.few.0).1)));
     }

@@ -20,30 +20,34 @@ note_by-second-requires c =
     let J = joint_is _ _ _ (rw (← c.qubits-joint.ensures.list) at c.join_support-support.ensures) c.args.pair.qubits in
     let B = c.common_basis-m.ensures in
     let N = c.note_by-first.ensures in
-    (B.few, once_on _ _ _ J _ _ B.list _ N.list, once_right _ _ _ J _ _ B.list _ N.list)
+    (B.few, once_on _ _ _ J _ _ B.list _ N.rest, once_right _ _ _ J _ _ B.list _ N.rest)
 
 pub write_roll-requires : goal.write_roll-requires
 write_roll-requires c =
     let J = joint_is _ _ _ (rw (← c.qubits-joint.ensures.list) at c.join_support-support.ensures) c.args.pair.qubits in
     let B = c.common_basis-m.ensures in
-    let kept = rw (c.at-noted.ensures.0, c.at-noted.ensures.1) at c.keep_shared.ensures.list in
+    let N = c.note_by-first.ensures in
+    let M = c.note_by-second.ensures in
+    let kept = rw (c.at-basis.ensures.0, c.at-basis.ensures.1) at c.keep_shared.ensures.list in
     let all = rw (c.at-shared.ensures.0, c.at-shared.ensures.1) at c.append_phases-total.ensures.list in (
-      omega (arith, c.append_phases-total.ensures.few, c.at-shared.ensures, c.keep_shared.ensures.few, c.at-noted.ensures, B.few),
+      omega (arith, c.append_phases-total.ensures.few, c.at-shared.ensures, c.keep_shared.ensures.few, c.at-basis.ensures, B.few),
       J.few,
       rw (span_list _ c.paulis.ensures.list c.at.ensures)
-          (part_places_lem _ _ _ J _ _ B.list _ c.note_by-first.ensures.list _ _ _ c.note_by-second.ensures.list _ _ c.note_by-first.ensures.step c.note_by-second.ensures.step _ _ kept _ _ all),
+          (part_places_lem _ _ _ J _ _ B.list _ N.rest _ M.rest _ _ N.by M.by _ _ _ _ N.step M.step _ _ kept _ _ all),
     )
 
 pub returns : goal.returns
 returns c =
     let J = joint_is _ _ _ (rw (← c.qubits-joint.ensures.list) at c.join_support-support.ensures) c.args.pair.qubits in
     let B = c.common_basis-m.ensures in
-    let kept = rw (c.at-noted.ensures.0, c.at-noted.ensures.1) at c.keep_shared.ensures.list in
+    let N = c.note_by-first.ensures in
+    let M = c.note_by-second.ensures in
+    let kept = rw (c.at-basis.ensures.0, c.at-basis.ensures.1) at c.keep_shared.ensures.list in
     let all = rw (c.at-shared.ensures.0, c.at-shared.ensures.1) at c.append_phases-total.ensures.list in
     let wrote = c.write_roll.ensures in
     let roll =
     ap (roll_over c.qubits-joint.result.now) (span_list _ c.paulis.ensures.list c.at.ensures)
-    ∙ part_written _ _ _ J _ _ B.list _ c.note_by-first.ensures.list _ _ _ c.note_by-second.ensures.list _ _ c.note_by-first.ensures.step c.note_by-second.ensures.step _ _ kept _ _ all in record {
+    ∙ part_written _ _ _ J _ _ B.list _ N.rest _ M.rest _ _ N.by M.by _ _ _ _ N.step M.step _ _ kept _ _ all in record {
       told = wrote.told ∙ ap (λ (bs : List ℕ). told_bytes (answer bs) c.args.out.now) roll;
       left = wrote.left ∙ ap (λ (bs : List ℕ). left_in (answer bs) c.args.out.now) roll;
     }
