@@ -259,7 +259,7 @@ module _ {first w : List ℕ} {n : ℕ} (O : Outside target_at (stride_of n) fir
   list_here : list_in w list_at n ≡ list_in first list_at n
   list_here = list_kept_after O list_at n kept_from
 
-  pub noted_here : (i : ℕ) → pauli_in w (further_at + 5 * i) ≡ pauli_in first (further_at + 5 * i)
+  noted_here : (i : ℕ) → pauli_in w (further_at + 5 * i) ≡ pauli_in first (further_at + 5 * i)
   noted_here i = pauli_kept_after O (further_at + 5 * i) (omega (arith, kept_from))
 
   pub noted_solving : Solving w n places rank
