@@ -1,4 +1,5 @@
-// Rows added to rows over GF(2).
+// Rows added to rows over GF(2). The two lie in one lent slice, and either may be the first (TwoRows): two slices would need a
+// split by cases at each call.
 ghost use Rattle.std.specs.Prelude.{◌≡◌, ◌+◌, ◌*◌, ◌^◌, ◌≤◌, ◌<◌};
 ghost use Rattle.binar.specs.Row.{◌⊕◌, bit};
 ghost use Rattle.binar.specs.Words.{row_at, put_row, TwoRows};

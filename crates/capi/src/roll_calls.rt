@@ -56,7 +56,8 @@ pub extern "C" fn howhiruke_joined_entry(left: &[u8], right: &[u8], n: usize) ->
     code_looked(found)
 }
 
-// Where the body of Pauli i of a roll stands in it; side is 0 for the left roll and 1 for the right one.
+// Where the body of Pauli i of a roll stands in it; side is 0 for the left roll and 1 for the right one. The sum is that of
+// pauli's condense_from, which says why it is no function.
 fn stretch_in(side: usize, roll: Roll, i: usize) -> Answer
     requires { i < roll.count }
     ensures { result ≡ code_body (answer (stretch_in side roll.entry.bytes.now i)) }
@@ -69,7 +70,8 @@ fn stretch_in(side: usize, roll: Roll, i: usize) -> Answer
     )
 }
 
-// Where the body of generator n of the joined list stands: in roll 0, the left one, or 1.
+// Where the body of generator n of the joined list stands: in roll 0, the left one, or 1. Which one is told by two comparisons, as
+// in joined_entry, which says why.
 #[unsafe(no_mangle)]
 pub extern "C" fn howhiruke_joined_body(left: &[u8], right: &[u8], n: usize) -> Answer
     ensures { Locating left.now right.now n result }

@@ -22,7 +22,8 @@ use pauli_group::member::{IndexSet, factor};
 use pauli_group::promise::Promise;
 use pauli_group::standard::signs_of;
 
-// The exponent's word of an element that is no member.
+// The exponent's word of an element that is no member. The area is lent, and words: a number has to stand for none, and a result is
+// named by where its five words start.
 const NO_MEMBER: u64 = 4;
 
 fn store_member(w: &mut [u64], at: usize, set: Places, exponent: u8)

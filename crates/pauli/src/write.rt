@@ -22,7 +22,7 @@ pub fn put_u16(out: &mut [u8], at: usize, v: usize)
     out[at..at + 2].copy_from_slice(&(v as u16).to_le_bytes());
 }
 
-// Writes a qubit number as four bytes. `put_u16` is given a count: the two have one line each.
+// Writes a number as four bytes. Beside `put_u16`: the two have one line each, and are given numbers of two types.
 fn put_u32(out: &mut [u8], at: usize, number: u32)
     requires { at + 4 ≤ length out.old }
     ensures { out.new ≡ put_bytes out.old at (le32 number) }
@@ -112,8 +112,8 @@ fn put_bodies(out: &mut [u8], at: usize, list: &[[u64; 5]], support: &[u32])
     }
 }
 
-// Writes the roll of the Paulis of a list, which stand over the places of a support, if the output has room. That they do is a
-// fact of the words of the list (`OnPlaces`), which no value carries.
+// Writes the roll of the Paulis of a list, which stand over the places of a support, if the output has room. That they stand over
+// these places is a fact of the words of the list (`OnPlaces`), which no value carries.
 pub fn write_roll(list: &[[u64; 5]], support: &[u32], out: &mut [u8]) -> Result<usize, Refusal>
     requires { (length list.now ≤ 256) × (length support.now ≤ 128) × OnPlaces (length support.now) (paulis_in list.now) }
     ensures told { told_of result ≡ told_bytes (answer (roll_over support.now (paulis_in list.now))) out.old }

@@ -63,8 +63,9 @@ fn exponent_of(w: &mut [u64; WORK_WORDS], at: usize, group: Group, own: &[u32], 
 }
 
 // Notes for each of the m Paulis of the further list the exponent of the product that solves for it.
-// `OnPlaces` is a fact of the words in the area, which the next store may change: no value carries it.
-// m is a number: a Span would need, in place of m ≤ 128, that it stands behind the form and the generators. So in note_by.
+// `OnPlaces` is a fact of the words in the area, which the next store may change: no value carries it. m is a number: a Span would
+// need, in place of m ≤ 128, that it stands behind the form and the generators. Both hold of note_by too. Own and joint are no
+// struct for the reason in moved, and own's length is the group's places since it is the support of that list.
 fn note_exponents(
     w: &mut [u64; WORK_WORDS],
     m: usize,

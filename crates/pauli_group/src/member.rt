@@ -39,7 +39,8 @@ pub struct IndexSet {
     pub exponent: u8,
 }
 
-// Whether the numbers are all in the support. A set that rises is looked up by one walk.
+// Whether the numbers are all in the support. A set that rises is looked up by one walk. The support is a slice that rises
+// (`Rising`), here and in is_supported, as `factor` is given it: a `&Support` would ask more of its callers.
 fn covers(numbers: &[[u8; 4]], support: &[u32]) -> bool
     requires { Rising 0 support.now }
     ensures { result ≡ covered support.now (u32s_in numbers.now) }
@@ -69,6 +70,7 @@ fn is_supported(roll: Roll, i: usize, support: &[u32]) -> bool
     ensures { result ≡ covered support.now ((get_or (list_of roll.entry.bytes.now) i nothing).xs ++ (get_or (list_of roll.entry.bytes.now) i nothing).zs) }
 {
     let e = roll.entry(i);
+    // As in condense_from, which says why this sum is no function.
     let at = 2 + 10 * roll.count + 4 * e.start;
     covers(numbers_at(roll.bytes, at, e.xcount + e.zcount), support)
 }

@@ -62,7 +62,8 @@ fn multiply_at(w: &mut [u64; WORK_WORDS], list: Span, is_x: bool, place: Place, 
 
 // Multiplies the m Paulis of the further list by the standard generators of a group, each at its pivot. The group is over the
 // places of own, the further list over those of joint.
-// m is a number: a Span would need, in place of m ≤ 128, that it stands behind the standard generators.
+// m is a number: a Span would need, in place of m ≤ 128, that it stands behind the standard generators. Own and joint are no struct
+// for the reason in moved, and own's length is the group's places since it is the support of that list.
 fn multiply_all(w: &mut [u64; WORK_WORDS], m: usize, group: Group, own: &[u32], joint: &[u32])
     requires { (m ≤ 128) × (group.places ≡ length own.now) × (length joint.now ≤ 128) × Other own.now joint.now w.old group.count group.rank group.total × All (λ p. p.e < 4) (list_in w.old further_at m) }
     ensures list { list_in w.new further_at m ≡ remainder_by own.now joint.now w.old group.count group.rank group.total (list_in w.old further_at m) }
@@ -97,7 +98,7 @@ fn remainder(pair: Pair, promise: Promise, joint: &[u32], w: &mut [u64; WORK_WOR
     a.total
 }
 
-// Writes the remainder of two rolls that can be joint, and clears the work area.
+// Writes the remainder of two rolls that can be joined, and clears the work area.
 pub(crate) fn write_modulo(
     pair: Pair,
     promise: Promise,

@@ -57,7 +57,7 @@ pub(crate) fn put_row(w: &mut [u64], at: usize, p: Pauli, s: usize)
 }
 
 // Writes the rows of the Paulis of a list, over s places, to the front of the area: rows of stride words, whose words past the
-// first four are zero.
+// first four are zero. `OnPlaces` is a fact of the words in the area, which the next store may change: no value carries it.
 pub(crate) fn put_rows(w: &mut [u64; WORK_WORDS], list: Span, s: usize, stride: usize)
     requires { (list.count * stride ≤ list.base) × (4 ≤ stride) × (s ≤ 128) × OnPlaces s (list_in w.old list.base list.count) }
     ensures { w.new ≡ image stride (map (row_over s) (list_in w.old list.base list.count)) (drop (list.count * stride) w.old) }
