@@ -46,6 +46,7 @@ CALLS = {
     16: Call("quotient", "quotient", 2, (2, 7), True),
     17: Call("common", "commongens", 2, (2, 7), True),
     18: Call("report", "report", 2, (), False),
+    19: Call("members", "members", 2, (), True),
 }
 
 
@@ -151,6 +152,8 @@ def questions(r):
         return [f"{kind} {first} {r.a} {second} {r.b}"]
     if r.op in (11, 12, 13, 18):
         return [f"{kind} {first} {second}"]
+    if r.op == 19:
+        return [f"{kind} {p} {first} {second}"]
     return [f"{kind} {p} {first} {q} {second}"]
 
 
@@ -176,11 +179,37 @@ def joined_result(r, answer):
     return Result(f"entry {pauli.e % 4} {len(pauli.x)} {len(pauli.z)}", b"")
 
 
-def member_result(answer):
+def factored(answer):
+    """The exponent and the indexes of a member, or none."""
     if answer == "none":
-        return Result("not member", b"")
+        return None
     _, exponent, _, *indexes = answer.split()
-    return Result(f"member {len(indexes)} phase {exponent}", b"".join(struct.pack("<H", int(i)) for i in indexes))
+    return int(exponent), [int(i) for i in indexes]
+
+
+def index_bytes(indexes):
+    return b"".join(struct.pack("<H", i) for i in indexes)
+
+
+def member_result(answer):
+    found = factored(answer)
+    if found is None:
+        return Result("not member", b"")
+    exponent, indexes = found
+    return Result(f"member {len(indexes)} phase {exponent}", index_bytes(indexes))
+
+
+def record(found):
+    """A result of many: byte 0, or byte 1, the exponent, how many indexes, and these."""
+    if found is None:
+        return b"\0"
+    exponent, indexes = found
+    return struct.pack("<BBH", 1, exponent, len(indexes)) + index_bytes(indexes)
+
+
+def members_result(answer):
+    records = [record(factored(one)) for one in answer.split("; ") if one]
+    return Result(f"results {len(records)} wrote {sum(map(len, records))}", b"".join(records))
 
 
 def listing_result(r, answer, early):
@@ -204,6 +233,8 @@ def answered(r, answer):
         return member_result(answer)
     if r.op in (12, 13):
         return joined_result(r, answer)
+    if r.op == 19:
+        return members_result(answer)
     if r.op == 14:
         return Result(ORDERS[answer], b"")
     return wrote(unhex(answer))

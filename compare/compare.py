@@ -32,7 +32,7 @@ import roll
 from calls import CALLS, PROMISES, Request, unhex
 from roll import Pauli, Refusal
 
-LAST = 18  # the last operation that replay has
+LAST = 19  # the last operation that replay has
 NAMES = {call.name: op for op, call in CALLS.items()}
 LISTING_OUTPUT = 131_072
 BLOCK = 10_000
@@ -65,6 +65,8 @@ def request_of(op, text):
         return whole(op, first=unhex(w[0]), second=unhex(w[1]))
     if op <= 17:
         return whole(op, PROMISES.index(w[0]), PROMISES.index(w[2]), first=unhex(w[1]), second=unhex(w[3]))
+    if op == 19:
+        return whole(op, PROMISES.index(w[0]), first=unhex(w[1]), second=unhex(w[2]))
     rolls = [unhex(word) for word in w]
     return whole(op, first=struct.pack("<I", len(rolls[0])) + rolls[0] + rolls[1])
 

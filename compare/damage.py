@@ -233,7 +233,7 @@ def idle_fields(rng, r):
     """Other values in the fields that the call does not take."""
     if r.op in (0, 1, 2, 9, 10, 11, 12, 13, 18):
         r = r._replace(p=rng.randrange(3))
-    if r.op < 14:
+    if r.op < 14 or r.op == 19:
         r = r._replace(q=rng.randrange(3))
     if r.op not in (7, 8, 10, 12, 13):
         r = r._replace(a=rng.randrange(NUMBERS))

@@ -41,6 +41,7 @@ pub(crate) enum Operation {
     Written(Written),
     Member,
     Report,
+    Members,
 }
 
 // No operation has the number.
@@ -71,6 +72,7 @@ impl TryFrom<u8> for Operation {
             16 => Ok(Operation::Written(Written::Quotient)),
             17 => Ok(Operation::Written(Written::Common)),
             18 => Ok(Operation::Report),
+            19 => Ok(Operation::Members),
             _ => Err(Unknown),
         }
     }

@@ -3,9 +3,10 @@ use crate::lines::{end_line, end_work_line, print_wrote};
 use crate::request::{Asked, OnRolls, Operation, Request, Written};
 use crate::tells::{
     print_body, print_compared, print_decided, print_entry, print_member, print_number,
-    print_phases,
+    print_phases, print_results,
 };
 use closing_report::report::closing_report;
+use factorizations::calls::indexed_factorizations_of;
 use pauli::join::join;
 use pauli::lookup::{joined_body, joined_entry};
 use pauli::product::product;
@@ -101,6 +102,21 @@ fn run_member<W: Write>(
     )
 }
 
+// Membership of every element, and how many bytes it wrote.
+fn run_members<W: Write>(
+    to: &mut W,
+    request: Request,
+    work: &mut [u64],
+    out: &mut [u8],
+) -> io::Result<usize> {
+    let (first, second) = (request.first, request.second);
+    let promise = request.promises.left;
+    print_results(
+        to,
+        indexed_factorizations_of(first, second, promise, work, out),
+    )
+}
+
 // Fills what the call is lent, makes the call, and prints its line.
 pub(crate) fn run<W: Write>(
     to: &mut W,
@@ -132,6 +148,10 @@ pub(crate) fn run<W: Write>(
         Operation::Report => {
             let n = print_wrote(to, closing_report(request.first, work, out))?;
             end_line(to, out, n, fill)
+        }
+        Operation::Members => {
+            let n = run_members(to, request, work, out)?;
+            end_work_line(to, out, n, work, fill)
         }
     }
 }

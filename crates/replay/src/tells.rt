@@ -1,6 +1,7 @@
 // What the calls tell, in words.
 use crate::lines::print_bytes;
 use closing_report::lines::phases_word;
+use factorizations::answers::Results;
 use pauli::lookup::JoinedEntry;
 use pauli::refusal::Refusal;
 use pauli_group::answers::{Factors, Phases};
@@ -70,6 +71,23 @@ pub(crate) fn print_member<W: Write>(
         Ok(None) => {
             write!(to, "not member")?;
             Ok(0)
+        }
+        Err(refusal) => {
+            write!(to, "{refusal}")?;
+            Ok(0)
+        }
+    }
+}
+
+// How many results there are, and how many bytes they take.
+pub(crate) fn print_results<W: Write>(
+    to: &mut W,
+    found: Result<Results, Refusal>,
+) -> io::Result<usize> {
+    match found {
+        Ok(results) => {
+            write!(to, "results {} wrote {}", results.count, results.bytes)?;
+            Ok(results.bytes)
         }
         Err(refusal) => {
             write!(to, "{refusal}")?;

@@ -78,9 +78,16 @@ fn commas(numbers: &[u8]) -> String {
     numbers.iter().map(u8::to_string).collect::<Vec<_>>().join(",")
 }
 
-fn member(group: &PauliGroup, element: &SparsePauli) -> Option<(String, u8)> {
-    let (indexes, exponent) = group.indexed_factorization_of(element)?;
-    Some((indexes.iter().map(|i| format!(" {i}")).collect(), exponent))
+fn spaced(indexes: &[usize]) -> String {
+    indexes.iter().map(|i| format!(" {i}")).collect()
+}
+
+/// What membership tells of an element.
+fn told(found: Option<&(Vec<usize>, u8)>) -> String {
+    match found {
+        None => "none".into(),
+        Some((indexes, exponent)) => format!("phase {exponent} indexes{}", spaced(indexes)),
+    }
 }
 
 #[allow(deprecated)]
@@ -92,10 +99,12 @@ fn reply(words: &[&str]) -> Option<String> {
         ["abelian", p, r] => yes(group(p, r)?.is_abelian()),
         ["stabilizer", p, r] => yes(group(p, r)?.is_stabilizer_group()),
         ["log2size", p, r] => group(p, r)?.log2_size().to_string(),
-        ["member", p, r, e, k] => match member(&group(p, r)?, &to_sparse(&element(e, k)?)) {
-            None => "none".into(),
-            Some((indexes, exponent)) => format!("phase {exponent} indexes{indexes}"),
-        },
+        ["member", p, r, e, k] => told(group(p, r)?.indexed_factorization_of(&to_sparse(&element(e, k)?)).as_ref()),
+        ["members", p, r, e] => {
+            let elements: Vec<SparsePauli> = list_of(e)?.iter().map(to_sparse).collect();
+            let results = group(p, r)?.indexed_factorizations_of(&elements);
+            results.iter().map(|o| told(o.as_ref())).collect::<Vec<_>>().join("; ")
+        }
         ["elements", p, r, start, count] => {
             let group = group(p, r)?;
             let start: u32 = start.parse().ok()?;
@@ -181,9 +190,9 @@ fn reply(words: &[&str]) -> Option<String> {
                 yes(group.is_abelian())
             )];
             for (number, pauli) in list_of(e)?.iter().enumerate() {
-                lines.push(match member(&group, &to_sparse(pauli)) {
+                lines.push(match group.indexed_factorization_of(&to_sparse(pauli)) {
                     None => format!("{number} not member"),
-                    Some((indexes, exponent)) => format!("{number} member{indexes} phase {exponent}"),
+                    Some((indexes, exponent)) => format!("{number} member{} phase {exponent}", spaced(&indexes)),
                 });
             }
             lines.join("; ")

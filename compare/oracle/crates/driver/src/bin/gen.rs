@@ -5,9 +5,9 @@ use driver::roll::{self, Plain};
 use std::io::Write;
 
 const PAIRS: [&str; 6] = ["join", "compare", "modulo", "quotient", "common", "commongens"];
-const OTHERS: [&str; 14] = [
-    "standard", "rank", "phases", "abelian", "stabilizer", "log2size", "member", "elements", "symplectic", "product",
-    "commute", "centralizer", "centralizerwithin", "report",
+const OTHERS: [&str; 15] = [
+    "standard", "rank", "phases", "abelian", "stabilizer", "log2size", "member", "members", "elements", "symplectic",
+    "product", "commute", "centralizer", "centralizerwithin", "report",
 ];
 
 fn main() {
@@ -232,6 +232,21 @@ impl Make {
         elements
     }
 
+    /// No element, one, a few, or up to a whole roll of them.
+    fn many_elements(&mut self, list: &[Bits], universe: &[u32]) -> Vec<Plain> {
+        let few = self.prng.below(20);
+        let count = self.prng.pick(&[0, 1, 8, 40, roll::MAX_PAULIS, few, few, few]);
+        let mut elements = Vec::new();
+        while elements.len() < count {
+            elements.extend(self.elements(list, universe));
+        }
+        elements.truncate(count);
+        while roll::distinct(&elements) > roll::MAX_QUBITS {
+            elements.pop();
+        }
+        elements
+    }
+
     /// A second list near the first: part of it, more than it, its products, with other signs, or another list.
     fn partner(&mut self, list: &[Bits], universe: &[u32], most: usize) -> Vec<Plain> {
         let n = universe.len();
@@ -289,6 +304,10 @@ impl Make {
                 let elements = self.elements(&list, &universe);
                 let k = self.prng.below(elements.len());
                 format!("member {} {roll} {} {k}", self.promise(), hexed(&elements))
+            }
+            "members" => {
+                let elements = self.many_elements(&list, &universe);
+                format!("members {} {roll} {}", self.promise(), hexed(&elements))
             }
             "report" => format!("report {roll} {}", hexed(&self.elements(&list, &universe))),
             "elements" => {
