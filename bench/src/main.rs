@@ -40,12 +40,12 @@ fn check(areas: &mut Areas, case: &Case, size: Size, request: &Request) {
 }
 
 /// How many requests are made in turn: fewer would be learned by the branch predictor, which no caller with new lists gets.
-fn turn(plan: Plan, size: Size) -> usize {
-    (16_384 / (size.generators * size.qubits)).clamp(plan.shortest, 1024)
+fn turn(plan: Plan, case: &Case, size: Size) -> usize {
+    (16_384 / (case.paulis(size.generators) * size.qubits)).clamp(plan.shortest, 1024)
 }
 
 fn measure(plan: Plan, areas: &mut Areas, case: &Case, size: Size) -> Figures {
-    let requests: Vec<Request> = (0..turn(plan, size)).map(|number| make(case, size, number)).collect();
+    let requests: Vec<Request> = (0..turn(plan, case, size)).map(|number| make(case, size, number)).collect();
     for request in &requests {
         check(areas, case, size, request);
     }
@@ -122,6 +122,7 @@ fn run(options: &Options) {
     let asked = |name: &str| options.only.as_deref().is_none_or(|only| only == name);
     print::heading();
     calls(options, &mut areas, &mut rows);
+    print::forty(&rows);
     if asked("growth") {
         growth(options, &mut areas, &mut rows);
     }

@@ -1,4 +1,5 @@
 //! Lines for the terminal, and CSV for the plots and tables.
+use crate::requests::MANY;
 use crate::timing::Figures;
 use std::fmt::Write;
 
@@ -32,6 +33,17 @@ pub fn line(row: &Row) {
         "{:<40} {:>4} {:>4} {:<10} {:>12.3} {:>12.3} {:>9.2}  {:.2} to {:.2}",
         row.title(), row.generators, row.qubits, row.kind, 1e6 * f.ours, 1e6 * f.theirs, f.ratio, f.low, f.high
     );
+}
+
+/// What forty elements cost in times of one, at the size that is held to a bar: 4 or less.
+pub fn forty(rows: &[Row]) {
+    let of = |told: &str| {
+        let at = |row: &&Row| (row.name, row.case, row.generators, row.qubits, row.kind) == (MANY, told, 40, 128, "dense");
+        rows.iter().find(at).map(|row| row.figures.ours)
+    };
+    if let (Some(one), Some(forty)) = (of("1 element"), of("40 elements")) {
+        println!("{MANY}, 40 generators, 128 qubits, dense: 40 elements take {:.2} times as long as 1", forty / one);
+    }
 }
 
 pub fn csv(rows: &[Row]) -> String {
