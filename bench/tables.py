@@ -69,7 +69,7 @@ def bars(rows):
     names = ("standard_generators", "indexed_factorization_of, member", "indexed_factorization_of, non-member")
     held = [at[name, kind] for kind in ("dense", "commuting") for name in names if (name, kind) in at]
     cells = [[f"{title(row)}, {size(row)}", "50 or more", ratio(row), times(row)] for row in held]
-    cells += forty(at)
+    cells += costs(rows)
     lowest = min(calls, key=lambda row: number(row, "ratio"))
     cells.append([f"the lowest of all {len(calls)}: {title(lowest)}, {size(lowest)}", "1 or more", ratio(lowest), times(lowest)])
     for shape in once((row["generators"], row["qubits"]) for row in of(rows, "matrices")):
@@ -80,14 +80,10 @@ def bars(rows):
     return table(["what", "bar", "ratio (quartiles)", "ours and theirs, µs"], cells)
 
 
-def forty(at):
-    """What forty elements cost in times of one."""
-    one, many = [at.get((f"indexed_factorizations_of, {told}", "dense")) for told in ("1 element", "40 elements")]
-    if not one or not many:
-        return []
-    cost = number(many, "ours_us") / number(one, "ours_us")
-    both = f"{short(number(many, 'ours_us'))} and {short(number(one, 'ours_us'))}, both ours"
-    return [["indexed_factorizations_of, 40 elements / 1 element, 40 generators, 128 qubits, dense", "4 or less", short(cost), both]]
+def costs(rows):
+    """Ours alone: what the dearer of two costs in times of the other."""
+    return [[f"{title(row)}, {size(row)}", "4 or less", ratio(row), f"ours: {short(number(row, 'theirs_us'))} and {short(number(row, 'ours_us'))}"]
+            for row in of(rows, "many")]
 
 
 def by_call(rows):

@@ -12,7 +12,7 @@ mod timing;
 use lists::Kind;
 use ours::Areas;
 use print::Row;
-use requests::{make, Call, Case, Request, Size, CASES};
+use requests::{make, Call, Case, Request, Size, CASES, MANY};
 use std::hint::black_box;
 use timing::{compare, Figures, Plan};
 
@@ -77,6 +77,26 @@ fn calls(options: &Options, areas: &mut Areas, rows: &mut Vec<Row>) {
     }
 }
 
+/// What forty elements cost in times of one, ours alone, at the size that is held to a bar.
+fn forty(options: &Options, rows: &mut Vec<Row>) {
+    let size = Size { generators: 40, qubits: 128, kind: Kind::Dense };
+    let many = |elements: usize| {
+        let case = CASES.iter().find(|case| case.call == Call::Factorizations(elements)).unwrap();
+        let requests: Vec<Request> = (0..options.plan.shortest).map(|number| make(case, size, number)).collect();
+        let mut areas = Areas::new();
+        move || {
+            for request in &requests {
+                black_box(areas.call(black_box(request)));
+            }
+        }
+    };
+    let figures = compare(options.plan, options.plan.shortest, many(1), many(40));
+    let (Size { generators, qubits, kind }, case) = (size, "40 elements / 1 element");
+    let row = Row { section: "many", name: MANY, case, generators, qubits, kind: kind.name(), figures };
+    print::cost(&row);
+    rows.push(row);
+}
+
 fn each_size(plan: Plan, call: Call) -> Vec<Size> {
     let mut sizes = Vec::new();
     for &generators in requests::generators_of(call) {
@@ -122,7 +142,9 @@ fn run(options: &Options) {
     let asked = |name: &str| options.only.as_deref().is_none_or(|only| only == name);
     print::heading();
     calls(options, &mut areas, &mut rows);
-    print::forty(&rows);
+    if asked(MANY) {
+        forty(options, &mut rows);
+    }
     if asked("growth") {
         growth(options, &mut areas, &mut rows);
     }

@@ -1,9 +1,9 @@
 //! Lines for the terminal, and CSV for the plots and tables.
-use crate::requests::MANY;
 use crate::timing::Figures;
 use std::fmt::Write;
 
-/// One measurement. `section` is `calls`, `growth` or `matrices`; there, `generators` are rows and `qubits` half of the columns.
+/// One measurement. `section` is `calls`, `growth`, `many` or `matrices`. In `many` both times are ours, `theirs` that of the dearer. In
+/// `matrices` the `generators` are rows and `qubits` half of the columns.
 pub struct Row {
     pub section: &'static str,
     pub name: &'static str,
@@ -35,15 +35,12 @@ pub fn line(row: &Row) {
     );
 }
 
-/// What forty elements cost in times of one, at the size that is held to a bar: 4 or less.
-pub fn forty(rows: &[Row]) {
-    let of = |told: &str| {
-        let at = |row: &&Row| (row.name, row.case, row.generators, row.qubits, row.kind) == (MANY, told, 40, 128, "dense");
-        rows.iter().find(at).map(|row| row.figures.ours)
-    };
-    if let (Some(one), Some(forty)) = (of("1 element"), of("40 elements")) {
-        println!("{MANY}, 40 generators, 128 qubits, dense: 40 elements take {:.2} times as long as 1", forty / one);
-    }
+/// Ours alone: what the dearer of two costs in times of the other.
+pub fn cost(row: &Row) {
+    let f = &row.figures;
+    let size = format!("{} generators, {} qubits, {}", row.generators, row.qubits, row.kind);
+    let times = format!("{:.3} and {:.3} us", 1e6 * f.theirs, 1e6 * f.ours);
+    println!("{}, {size}: {:.2} ({:.2} to {:.2}), ours {times}", row.title(), f.ratio, f.low, f.high);
 }
 
 pub fn csv(rows: &[Row]) -> String {
