@@ -69,6 +69,7 @@ def bars(rows):
     names = ("standard_generators", "indexed_factorization_of, member", "indexed_factorization_of, non-member")
     held = [at[name, kind] for kind in ("dense", "commuting") for name in names if (name, kind) in at]
     cells = [[f"{title(row)}, {size(row)}", "50 or more", ratio(row), times(row)] for row in held]
+    cells += costs(rows)
     lowest = min(calls, key=lambda row: number(row, "ratio"))
     cells.append([f"the lowest of all {len(calls)}: {title(lowest)}, {size(lowest)}", "1 or more", ratio(lowest), times(lowest)])
     for shape in once((row["generators"], row["qubits"]) for row in of(rows, "matrices")):
@@ -77,6 +78,12 @@ def bars(rows):
         name = f"echelon form {shape[0]} by {2 * int(shape[1])}, the fastest of M4RI's ways ({fastest['case']})"
         cells.append([name, "1 or more", ratio(fastest), times(fastest)])
     return table(["what", "bar", "ratio (quartiles)", "ours and theirs, µs"], cells)
+
+
+def costs(rows):
+    """Ours alone: what the dearer of two costs in times of the other."""
+    return [[f"{title(row)}, {size(row)}", "4 or less", ratio(row), f"ours: {short(number(row, 'theirs_us'))} and {short(number(row, 'ours_us'))}"]
+            for row in of(rows, "many")]
 
 
 def by_call(rows):

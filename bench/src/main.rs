@@ -12,7 +12,7 @@ mod timing;
 use lists::Kind;
 use ours::Areas;
 use print::Row;
-use requests::{make, Call, Case, Request, Size, CASES};
+use requests::{make, Call, Case, Request, Size, CASES, MANY};
 use std::hint::black_box;
 use timing::{compare, Figures, Plan};
 
@@ -40,12 +40,12 @@ fn check(areas: &mut Areas, case: &Case, size: Size, request: &Request) {
 }
 
 /// How many requests are made in turn: fewer would be learned by the branch predictor, which no caller with new lists gets.
-fn turn(plan: Plan, size: Size) -> usize {
-    (16_384 / (size.generators * size.qubits)).clamp(plan.shortest, 1024)
+fn turn(plan: Plan, case: &Case, size: Size) -> usize {
+    (16_384 / (case.paulis(size.generators) * size.qubits)).clamp(plan.shortest, 1024)
 }
 
 fn measure(plan: Plan, areas: &mut Areas, case: &Case, size: Size) -> Figures {
-    let requests: Vec<Request> = (0..turn(plan, size)).map(|number| make(case, size, number)).collect();
+    let requests: Vec<Request> = (0..turn(plan, case, size)).map(|number| make(case, size, number)).collect();
     for request in &requests {
         check(areas, case, size, request);
     }
@@ -75,6 +75,26 @@ fn calls(options: &Options, areas: &mut Areas, rows: &mut Vec<Row>) {
             note(rows, Row { section: "calls", name, case, generators, qubits, kind: kind.name(), figures });
         }
     }
+}
+
+/// What forty elements cost in times of one, ours alone, at the size that is held to a bar.
+fn forty(options: &Options, rows: &mut Vec<Row>) {
+    let size = Size { generators: 40, qubits: 128, kind: Kind::Dense };
+    let many = |elements: usize| {
+        let case = CASES.iter().find(|case| case.call == Call::Factorizations(elements)).unwrap();
+        let requests: Vec<Request> = (0..options.plan.shortest).map(|number| make(case, size, number)).collect();
+        let mut areas = Areas::new();
+        move || {
+            for request in &requests {
+                black_box(areas.call(black_box(request)));
+            }
+        }
+    };
+    let figures = compare(options.plan, options.plan.shortest, many(1), many(40));
+    let (Size { generators, qubits, kind }, case) = (size, "40 elements / 1 element");
+    let row = Row { section: "many", name: MANY, case, generators, qubits, kind: kind.name(), figures };
+    print::cost(&row);
+    rows.push(row);
 }
 
 fn each_size(plan: Plan, call: Call) -> Vec<Size> {
@@ -122,6 +142,9 @@ fn run(options: &Options) {
     let asked = |name: &str| options.only.as_deref().is_none_or(|only| only == name);
     print::heading();
     calls(options, &mut areas, &mut rows);
+    if asked(MANY) {
+        forty(options, &mut rows);
+    }
     if asked("growth") {
         growth(options, &mut areas, &mut rows);
     }

@@ -1,6 +1,6 @@
 //! Requests answered by the static library.
 use crate::requests::{Call, Request};
-use howhiruke::{Membership, Order, Phases, Promise, Refusal};
+use howhiruke::{Membership, Order, Phases, Promise, Refusal, Results};
 
 /// What a call tells: up to three numbers, and how many bytes it wrote.
 pub type Told = ([u64; 3], usize);
@@ -52,6 +52,10 @@ fn membership(answer: Result<Membership, Refusal>) -> Told {
     }
 }
 
+fn memberships(answer: Result<Results, Refusal>) -> Told {
+    answer.map_or_else(refused, |results| ([results.count as u64, results.bytes as u64, 0], results.bytes))
+}
+
 impl Areas {
     pub fn new() -> Self {
         Areas { work: vec![0; howhiruke::WORK_WORDS], out: vec![0; 1 << 18] }
@@ -72,6 +76,9 @@ impl Areas {
             Call::Log2Size => number(howhiruke::log2_size(left, NONE, work)),
             Call::Factorization => {
                 membership(howhiruke::indexed_factorization_of(left, right, request.number, NONE, work, out))
+            }
+            Call::Factorizations(_) => {
+                memberships(howhiruke::indexed_factorizations_of(left, right, NONE, work, out))
             }
             Call::Elements(start) => roll(howhiruke::elements(left, NONE, start, 128, work, out)),
             Call::SymplecticForm => roll(howhiruke::symplectic_form_of(left, work, out)),

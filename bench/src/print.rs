@@ -2,7 +2,8 @@
 use crate::timing::Figures;
 use std::fmt::Write;
 
-/// One measurement. `section` is `calls`, `growth` or `matrices`; there, `generators` are rows and `qubits` half of the columns.
+/// One measurement. `section` is `calls`, `growth`, `many` or `matrices`. In `many` both times are ours, `theirs` that of the dearer. In
+/// `matrices` the `generators` are rows and `qubits` half of the columns.
 pub struct Row {
     pub section: &'static str,
     pub name: &'static str,
@@ -32,6 +33,14 @@ pub fn line(row: &Row) {
         "{:<40} {:>4} {:>4} {:<10} {:>12.3} {:>12.3} {:>9.2}  {:.2} to {:.2}",
         row.title(), row.generators, row.qubits, row.kind, 1e6 * f.ours, 1e6 * f.theirs, f.ratio, f.low, f.high
     );
+}
+
+/// Ours alone: what the dearer of two costs in times of the other.
+pub fn cost(row: &Row) {
+    let f = &row.figures;
+    let size = format!("{} generators, {} qubits, {}", row.generators, row.qubits, row.kind);
+    let times = format!("{:.3} and {:.3} us", 1e6 * f.theirs, 1e6 * f.ours);
+    println!("{}, {size}: {:.2} ({:.2} to {:.2}), ours {times}", row.title(), f.ratio, f.low, f.high);
 }
 
 pub fn csv(rows: &[Row]) -> String {

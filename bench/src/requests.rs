@@ -4,6 +4,7 @@ use crate::ours::REFUSED;
 use crate::random::Random;
 use driver::answer::{group_of, to_sparse};
 use driver::roll::{self, Plain};
+use paulimer::pauli_group::PauliGroup;
 
 #[derive(Clone, Copy, PartialEq, Eq, Debug)]
 pub enum Call {
@@ -17,6 +18,8 @@ pub enum Call {
     IsStabilizerGroup,
     Log2Size,
     Factorization,
+    /// So many elements, members and others in turn.
+    Factorizations(usize),
     Elements(u32),
     SymplecticForm,
     PartialCmp,
@@ -61,6 +64,7 @@ impl Case {
     pub fn fits(&self, first: u64) -> bool {
         match (self.call, self.relation) {
             (Call::Factorization, relation) => first == u64::from(relation == Relation::Member),
+            (Call::Factorizations(count), _) => first == count as u64,
             (Call::PartialCmp, Relation::Same) => first == 0,
             (Call::PartialCmp, Relation::Around) => first <= 1,
             (Call::PartialCmp, _) => first == 3,
@@ -68,11 +72,20 @@ impl Case {
             _ => first != REFUSED,
         }
     }
+
+    /// How many Paulis are read where each list has so many.
+    pub fn paulis(&self, generators: usize) -> usize {
+        match self.call {
+            Call::Factorizations(elements) => generators + elements,
+            _ => generators,
+        }
+    }
 }
 
 pub const PAGE_START: u32 = 1000;
+pub const MANY: &str = "indexed_factorizations_of";
 
-pub const CASES: [Case; 23] = [
+pub const CASES: [Case; 27] = [
     case(Call::CheckRoll, "check_roll", "", Relation::None),
     case(Call::Product, "product", "", Relation::Apart),
     case(Call::Join, "join", "", Relation::Apart),
@@ -84,6 +97,10 @@ pub const CASES: [Case; 23] = [
     case(Call::Log2Size, "log2_size", "", Relation::None),
     case(Call::Factorization, "indexed_factorization_of", "member", Relation::Member),
     case(Call::Factorization, "indexed_factorization_of", "non-member", Relation::NoMember),
+    case(Call::Factorizations(1), MANY, "1 element", Relation::None),
+    case(Call::Factorizations(8), MANY, "8 elements", Relation::None),
+    case(Call::Factorizations(40), MANY, "40 elements", Relation::None),
+    case(Call::Factorizations(128), MANY, "128 elements", Relation::None),
     case(Call::Elements(0), "elements", "first page", Relation::None),
     case(Call::Elements(PAGE_START), "elements", "later page", Relation::None),
     case(Call::SymplecticForm, "symplectic_form_of", "", Relation::None),
@@ -133,13 +150,18 @@ pub fn make(case: &Case, size: Size, number: usize) -> Request {
     let random = &mut Random(seed as u64);
     let (left, right) = match (case.call, case.relation) {
         (Call::ClosingReport, _) => return closing(random, size),
+        (Call::Factorizations(count), _) => {
+            let list = one_list(random, size);
+            let elements = members_and_others(random, size, &list, count);
+            (list, elements)
+        }
         (_, Relation::None) => (one_list(random, size), vec![]),
         (_, Relation::Member | Relation::NoMember) => {
             let list = one_list(random, size);
             let element = if case.relation == Relation::Member {
                 lists::member(random, &list)
             } else {
-                no_member(random, size, &list)
+                no_member(random, size, &list, &group_of(None, &list))
             };
             (list, vec![element])
         }
@@ -154,25 +176,33 @@ fn one_list(random: &mut Random, size: Size) -> Vec<Plain> {
     size.kind.list(random, size.generators, size.qubits)
 }
 
-fn is_member(list: &[Plain], element: &Plain) -> bool {
-    group_of(None, list).indexed_factorization_of(&to_sparse(element)).is_some()
+fn is_member(group: &PauliGroup, element: &Plain) -> bool {
+    group.indexed_factorization_of(&to_sparse(element)).is_some()
 }
 
 /// Some element on the generators' own qubits whose bits do not solve; else a member times i; else one on a further qubit.
-fn no_member(random: &mut Random, size: Size, list: &[Plain]) -> Plain {
+fn no_member(random: &mut Random, size: Size, list: &[Plain], group: &PauliGroup) -> Plain {
     let qubits = lists::support(list);
     for _ in 0..8 {
         let element = lists::stranger(size.kind, random, &qubits);
-        if !is_member(list, &element) {
+        if !is_member(group, &element) {
             return element;
         }
     }
     let mut element = lists::member(random, list);
     element.e = (element.e + 1) % 4;
-    if is_member(list, &element) {
+    if is_member(group, &element) {
         element.x.push(size.qubits as u32);
     }
     element
+}
+
+/// Members and others in turn, a member first.
+fn members_and_others(random: &mut Random, size: Size, list: &[Plain], count: usize) -> Vec<Plain> {
+    let group = group_of(None, list);
+    (0..count)
+        .map(|i| if i % 2 == 0 { lists::member(random, list) } else { no_member(random, size, list, &group) })
+        .collect()
 }
 
 fn two_lists(random: &mut Random, size: Size, relation: Relation) -> (Vec<Plain>, Vec<Plain>) {
@@ -214,9 +244,7 @@ fn apart(random: &mut Random, side: Size, mut left: Vec<Plain>, shared: usize) -
 fn closing(random: &mut Random, size: Size) -> Request {
     let mut list = one_list(random, size);
     loop {
-        let elements: Vec<Plain> = (0..8)
-            .map(|i| if i % 2 == 0 { lists::member(random, &list) } else { no_member(random, size, &list) })
-            .collect();
+        let elements = members_and_others(random, size, &list, 8);
         let generators = roll::write(&list);
         let mut input = Vec::from((generators.len() as u32).to_le_bytes());
         input.extend(generators);

@@ -52,6 +52,7 @@ fn on_two(request: &Request) -> Told {
     match request.call {
         Call::Product => product(request),
         Call::Factorization => member(request),
+        Call::Factorizations(_) => members(left, right),
         Call::Join => written((&group(left) | &group(right)).generators()),
         Call::PartialCmp => number(order(group(left).partial_cmp(&group(right)))),
         Call::Modulo => written(group(left).modulo(&group(right)).generators()),
@@ -78,6 +79,20 @@ fn member(request: &Request) -> Told {
             ([1, indexes.len() as u64, u64::from(exponent)], bytes)
         }
     }
+}
+
+fn members(left: &[u8], right: &[u8]) -> Told {
+    let elements: Vec<SparsePauli> = list(right).iter().map(to_sparse).collect();
+    let results = group(left).indexed_factorizations_of(&elements);
+    let bytes: Vec<u8> = results.iter().flat_map(record).collect();
+    ([results.len() as u64, bytes.len() as u64, 0], bytes)
+}
+
+/// A result as the library writes it.
+fn record(result: &Option<(Vec<usize>, u8)>) -> Vec<u8> {
+    let Some((indexes, exponent)) = result else { return vec![0] };
+    let numbers = std::iter::once(indexes.len()).chain(indexes.iter().copied());
+    [1, *exponent].into_iter().chain(numbers.flat_map(|n| (n as u16).to_le_bytes())).collect()
 }
 
 fn page(bytes: &[u8], start: u32) -> Told {
