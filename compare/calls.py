@@ -47,6 +47,7 @@ CALLS = {
     17: Call("common", "commongens", 2, (2, 7), True),
     18: Call("report", "report", 2, (), False),
     19: Call("members", "members", 2, (), True),
+    20: Call("multiply", "product", 2, (7,), False),
 }
 
 
@@ -110,7 +111,7 @@ def is_past(r, lists):
     """Whether a number of the request is past its list."""
     if r.op == 7:
         return r.a >= len(lists[1])
-    if r.op == 10:
+    if r.op in (10, 20):
         return r.a >= len(lists[0]) or r.b >= len(lists[1])
     if r.op in (12, 13):
         return r.a >= len(lists[0]) + len(lists[1])
@@ -150,6 +151,8 @@ def questions(r):
         return [f"{kind} {first}"]
     if r.op == 10:
         return [f"{kind} {first} {r.a} {second} {r.b}"]
+    if r.op == 20:
+        return [f"{word} {first} {r.a} {second} {r.b}" for word in (kind, "commute")]
     if r.op in (11, 12, 13, 18):
         return [f"{kind} {first} {second}"]
     if r.op == 19:
@@ -197,6 +200,12 @@ def member_result(answer):
         return Result("not member", b"")
     exponent, indexes = found
     return Result(f"member {len(indexes)} phase {exponent}", index_bytes(indexes))
+
+
+def product_result(answers):
+    """The product, and whether its factors anticommute."""
+    written = unhex(answers[0])
+    return Result(f"wrote {len(written)} {'commute' if answers[1] == 'yes' else 'anticommute'}", written)
 
 
 def record(found):
@@ -251,6 +260,8 @@ def result(r, answers):
         return Refusal(10, 0)
     if answers[0] == "refused 11":
         return Refusal(11, 0)
+    if r.op == 20 and answers[0] not in ("bad", "panic"):
+        return product_result(answers)
     return answered(r, answers[0])
 
 
@@ -260,7 +271,7 @@ def is_bad(r, found, answers):
     if r.op == 18:
         return found.written.startswith(b"refused")
     if isinstance(found, Refusal) and found.number <= 8:
-        return found.number < 8 or r.op < 12
+        return found.number < 8 or r.op < 12 or r.op == 20
     return r.op == 8 and int(answers[1]) > MOST_RANK
 
 

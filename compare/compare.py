@@ -32,7 +32,7 @@ import roll
 from calls import CALLS, PROMISES, Request, unhex
 from roll import Pauli, Refusal
 
-LAST = 19  # the last operation that replay has
+LAST = 20  # the last operation that replay has
 NAMES = {call.name: op for op, call in CALLS.items()}
 LISTING_OUTPUT = 131_072
 BLOCK = 10_000
@@ -59,7 +59,7 @@ def request_of(op, text):
         return whole(op, PROMISES.index(w[0]), a=int(w[2]), b=int(w[3]), first=unhex(w[1]))
     if op == 9:
         return whole(op, first=unhex(w[0]))
-    if op == 10:
+    if op in (10, 20):
         return whole(op, a=int(w[1]), b=int(w[3]), first=unhex(w[0]), second=unhex(w[2]))
     if op <= 13:
         return whole(op, first=unhex(w[0]), second=unhex(w[1]))

@@ -184,7 +184,8 @@ def damaged_numbers(rng, r):
         counts[0] = counts[1]
     near = [rng.choice([n, n + 1, max(n - 1, 0), n + 256, n + 65_536, NUMBERS - 1, rng.randrange(NUMBERS)]) for n in counts]
     which = rng.randrange(1, 4)
-    return r._replace(a=near[0] if which & 1 or r.op != 10 else r.a, b=near[1] if which & 2 and r.op == 10 else r.b)
+    both = r.op in (10, 20)
+    return r._replace(a=near[0] if which & 1 or not both else r.a, b=near[1] if which & 2 and both else r.b)
 
 
 def damaged_work(rng, r):
@@ -204,7 +205,7 @@ def damaged_rank(rng, r):
 def ways_of(op):
     """What can be damaged in a request of an operation, besides the output."""
     ways = [damaged_rolls] * 6
-    ways += [damaged_numbers] * 2 if op in (7, 10, 12, 13) else []
+    ways += [damaged_numbers] * 2 if op in (7, 10, 12, 13, 20) else []
     ways += [damaged_work] * 2 if CALLS[op].area else []
     ways += [damaged_sizes] if CALLS[op].rolls == 2 else []
     ways += [damaged_rank] if op == 8 else []
@@ -231,13 +232,13 @@ def damaged_input(rng, r):
 
 def idle_fields(rng, r):
     """Other values in the fields that the call does not take."""
-    if r.op in (0, 1, 2, 9, 10, 11, 12, 13, 18):
+    if r.op in (0, 1, 2, 9, 10, 11, 12, 13, 18, 20):
         r = r._replace(p=rng.randrange(3))
-    if r.op < 14 or r.op == 19:
+    if r.op < 14 or r.op in (19, 20):
         r = r._replace(q=rng.randrange(3))
-    if r.op not in (7, 8, 10, 12, 13):
+    if r.op not in (7, 8, 10, 12, 13, 20):
         r = r._replace(a=rng.randrange(NUMBERS))
-    if r.op not in (8, 10):
+    if r.op not in (8, 10, 20):
         r = r._replace(b=rng.randrange(NUMBERS))
     if CALLS[r.op].rolls == 1 or r.op == 18:
         r = r._replace(second=rng.randbytes(rng.randrange(20)))

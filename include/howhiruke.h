@@ -96,8 +96,8 @@ enum { HOWHIRUKE_ORDER_EQUAL = 0, HOWHIRUKE_ORDER_LESS = 1, HOWHIRUKE_ORDER_GREA
 /* first: how many Paulis the roll has. Refusals 1 to 7. */
 howhiruke_answer howhiruke_check_roll(const uint8_t *roll, size_t roll_len);
 
-/* Writes a roll of one Pauli, the product of Pauli i of left and Pauli j of right. first: its length. Refusals 1 to 8, 12; 7 also
- * for the qubits of both rolls together. */
+/* Writes a roll of one Pauli, the product of Pauli i of left and Pauli j of right. first: its length; second: 1 if the two
+ * anticommute, else 0. Refusals 1 to 8, 12; 7 also for the qubits of both rolls together. */
 howhiruke_answer howhiruke_product(const uint8_t *left, size_t left_len, size_t i,
                                    const uint8_t *right, size_t right_len, size_t j,
                                    uint8_t *out, size_t out_len);

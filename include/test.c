@@ -140,6 +140,14 @@ static void wrote(const char *row, howhiruke_answer a, roll r)
         wrong(row, a);
 }
 
+/* The same of a product: second tells whether its factors anticommute. */
+static void multiplied(const char *row, howhiruke_answer a, roll r, uint64_t anticommute)
+{
+    told(row, a, r.n, anticommute, 0);
+    if (memcmp(out, r.b, r.n) || !kept(r.n))
+        wrong(row, a);
+}
+
 static void listed(const char *row, howhiruke_answer a, roll r)
 {
     wrote(row, a, r);
@@ -205,7 +213,9 @@ static void others(void)
     worked("greater", CALL(partial_cmp, ROLL(bell), ROLL(xx), 0, 0, WORK), HOWHIRUKE_ORDER_GREATER);
     told("not a member", CALL(indexed_factorization_of, ROLL(bell), ROLL(x), 0, HOWHIRUKE_PROMISE_NONE, WORK, OUT), 0, 0, 0);
     pauli minus_xz = {2, {0, E}, {0, E}};
-    wrote("Z times X", CALL(product, ROLL(z), 0, ROLL(x), 0, OUT), LIST(minus_xz));
+    multiplied("Z times X", CALL(product, ROLL(z), 0, ROLL(x), 0, OUT), LIST(minus_xz), 1);
+    pauli zz_xx = {0, {0, 1, E}, {0, 1, E}};
+    multiplied("ZZ times XX", CALL(product, ROLL(bell), 1, ROLL(bell), 0, OUT), LIST(zz_xx), 0);
     wrote("join", CALL(join, ROLL(bell), ROLL(x1), OUT), LIST(XX, ZZ, X1));
     told("joined entry", CALL(joined_entry, ROLL(bell), ROLL(x1), 1), 0, 0, 2);
     told("joined body", CALL(joined_body, ROLL(bell), ROLL(x1), 1), 0, 30, 8);

@@ -1,6 +1,6 @@
 //! Requests answered by the static library.
 use crate::requests::{Call, Request};
-use howhiruke::{Membership, Order, Phases, Promise, Refusal, Results};
+use howhiruke::{Membership, Order, Phases, Product, Promise, Refusal, Results};
 
 /// What a call tells: up to three numbers, and how many bytes it wrote.
 pub type Told = ([u64; 3], usize);
@@ -52,6 +52,10 @@ fn membership(answer: Result<Membership, Refusal>) -> Told {
     }
 }
 
+fn product(answer: Result<Product, Refusal>) -> Told {
+    answer.map_or_else(refused, |product| ([u64::from(product.anticommute), 0, 0], product.bytes))
+}
+
 fn memberships(answer: Result<Results, Refusal>) -> Told {
     answer.map_or_else(refused, |results| ([results.count as u64, results.bytes as u64, 0], results.bytes))
 }
@@ -66,7 +70,7 @@ impl Areas {
         let (work, out) = (&mut self.work[..], &mut self.out[..]);
         match request.call {
             Call::CheckRoll => number(howhiruke::check_roll(left)),
-            Call::Product => roll(howhiruke::product(left, request.number, right, request.other, out)),
+            Call::Product => product(howhiruke::product(left, request.number, right, request.other, out)),
             Call::Join => roll(howhiruke::join(left, right, out)),
             Call::StandardGenerators => roll(howhiruke::standard_generators(left, work, out)),
             Call::Rank => number(howhiruke::rank(left, work)),

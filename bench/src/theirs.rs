@@ -5,7 +5,7 @@ use crate::requests::{Call, Request};
 use binar::Bitwise;
 use driver::answer::{group_of, to_plain, to_sparse};
 use driver::roll::{self, Plain};
-use paulimer::pauli::{Pauli, PauliBinaryOps, SparsePauli};
+use paulimer::pauli::{commutes_with, Pauli, PauliBinaryOps, SparsePauli};
 use paulimer::pauli_group::{symplectic_form_of, PauliGroup};
 use std::cmp::Ordering;
 use std::fmt::Write;
@@ -66,8 +66,10 @@ fn on_two(request: &Request) -> Told {
 
 fn product(request: &Request) -> Told {
     let mut product = to_sparse(&list(&request.left)[request.number]);
-    product.mul_assign_right(&to_sparse(&list(&request.right)[request.other]));
-    written(&[product])
+    let other = to_sparse(&list(&request.right)[request.other]);
+    let anticommute = u64::from(!commutes_with(&product, &other));
+    product.mul_assign_right(&other);
+    ([anticommute, 0, 0], written(&[product]).1)
 }
 
 fn member(request: &Request) -> Told {

@@ -5,19 +5,24 @@ use Rattle.binar.specs.Layout.{form_stride, fits, formed}
 use Rattle.binar.specs.Laid.{laid_out}
 use Rattle.pauli.specs.Told.{Told, map_told}
 use Rattle.pauli.specs.Writing.{told_bytes, left_in}
-use Rattle.pauli.specs.JoinCalls.{stretch_of, roll_numbered, body_of}
+use Rattle.pauli.specs.JoinCalls.{product_of, made_of, stretch_of, roll_numbered, body_of}
 use Rattle.pauli_theory.specs.Membership.{Factorization}
 use Rattle.pauli_group.specs.WorkArea.{area_after}
 use Rattle.pauli_group.specs.Calls.{told_member, member_left}
 use Rattle.factorizations.specs.Calls.{told_results}
 use Rattle.factorizations.specs.Records.{results_bytes}
 use Rattle.capi.specs.declared.answer.Answer.{Answer}
-use Rattle.capi.specs.Code.{code_number, code_body, code_member, code_results, code_form}
+use Rattle.capi.specs.Code.{code_number, code_product, code_body, code_member, code_results, code_form}
 
 -- a call that writes a roll, and uses no work area
 pub record Writing (result : Told (List ℕ)) (out : List ℕ) (r : Answer) (out' : List ℕ) : Type 0 where
   pub told : r ≡ code_number (told_bytes result out)
   pub left : out' ≡ left_in result out
+
+-- the product of factor i of the one roll and factor j of the other
+pub record Multiplying (l : List ℕ) (i : ℕ) (r : List ℕ) (j : ℕ) (out : List ℕ) (found : Answer) (out' : List ℕ) : Type 0 where
+  pub told : found ≡ code_product (made_of l i r j out)
+  pub left : out' ≡ left_in (product_of l i r j) out
 
 -- a call that answers by the code given, where `checked` is what the checks up to 9 tell
 pub record Telling {A : Type 0} (code : Answer) (checked : Told A) (work : List ℕ) (r : Answer) (work' : List ℕ) : Type 0 where

@@ -2,8 +2,9 @@
 use Rattle.std.proofs.Math.Option.{Option, some, none as nothing}
 use Rattle.std.specs.Prelude.{List, ℕ, length, Option as CodeOption, Some, None}
 use Rattle.pauli.specs.Told.{Told, answer, refused}
-use Rattle.pauli.specs.JoinCalls.{Looked, Stretch}
+use Rattle.pauli.specs.JoinCalls.{Looked, Made, Stretch}
 use Rattle.pauli_theory.specs.Order.{Order, equal, less, greater, no_order}
+use Rattle.pauli_group.specs.Answers.{yes_number}
 use Rattle.pauli_group.specs.Calls.{Factored}
 use Rattle.factorizations.specs.Calls.{Totals}
 use Rattle.sizes.specs.Calls.{Joined}
@@ -21,6 +22,11 @@ code_values first second third = record { refusal = 0; place = 0; first = first;
 abbrev pub code_number : Told ℕ → Answer
 code_number (answer n) = code_values n 0 0
 code_number (refused n p) = code_refusal n p
+
+-- the length in bytes of a product's roll, and whether its factors anticommute
+abbrev pub code_product : Told Made → Answer
+code_product (answer m) = code_values m.bytes (yes_number m.anticommute) 0
+code_product (refused n p) = code_refusal n p
 
 -- how many phases there are: 1 (0), 2 (0,2) or 4 (0,1,2,3)
 abbrev pub code_phases : Told (List ℕ) → Answer

@@ -1,14 +1,16 @@
 // The answer of a call as five numbers, and what codes each kind of answer.
 ghost use Rattle.std.specs.Prelude.{◌≡◌};
 ghost use Rattle.pauli.specs.Lookups.{looked_in};
+ghost use Rattle.pauli.specs.ProductAnswers.{made_in};
 ghost use Rattle.pauli.specs.Refusals.{number_of, told_of, told_by};
 ghost use Rattle.pauli_group.specs.Answers.{phases_told, yes_number, factored_in, order_of};
 ghost use Rattle.factorizations.specs.Answers.{totals_in};
 ghost use Rattle.sizes.specs.Answers.{sizes_in};
-ghost use Rattle.capi.specs.Code.{code_refusal, code_values, code_number, code_phases, code_looked, code_member, code_results, code_sizes, order_number, code_order, code_form};
+ghost use Rattle.capi.specs.Code.{code_refusal, code_values, code_number, code_product, code_phases, code_looked, code_member, code_results, code_sizes, order_number, code_order, code_form};
 
 use factorizations::answers::Results;
 use pauli::lookup::JoinedEntry;
+use pauli::product::Multiplied;
 use pauli::refusal::{Refusal, number_of};
 use pauli_group::answers::{Factors, Phases};
 use sizes::answers::JoinedSizes;
@@ -63,6 +65,15 @@ pub(crate) fn code_decided(decided: Result<bool, Refusal>) -> Answer
     ensures { result ≡ code_number (told_by yes_number decided) }
 {
     decided.map_or_else(code_refusal, |yes| code_values(usize::from(yes), 0, 0))
+}
+
+pub(crate) fn code_product(made: Result<Multiplied, Refusal>) -> Answer
+    ensures { result ≡ code_product (told_by made_in made) }
+{
+    made.map_or_else(
+        code_refusal,
+        |m| code_values(m.bytes, usize::from(m.anticommute), 0),
+    )
 }
 
 pub(crate) fn code_looked(found: Result<JoinedEntry, Refusal>) -> Answer

@@ -2,11 +2,11 @@
 ghost use Rattle.std.specs.Prelude.{◌≡◌, ◌<◌};
 ghost use Rattle.pauli.specs.Roll.{count_of};
 ghost use Rattle.pauli.specs.Told.{answer};
-ghost use Rattle.pauli.specs.JoinCalls.{product_of, join_of, entry_of, stretch_in};
+ghost use Rattle.pauli.specs.JoinCalls.{join_of, entry_of, stretch_in};
 ghost use Rattle.capi.specs.Code.{code_number, code_looked, code_body};
-ghost use Rattle.capi.specs.CallContracts.{Writing, Locating};
+ghost use Rattle.capi.specs.CallContracts.{Writing, Multiplying, Locating};
 
-use crate::answer::{Answer, code_looked, code_number, code_refusal, code_values};
+use crate::answer::{Answer, code_looked, code_number, code_product, code_refusal, code_values};
 use pauli::join::join;
 use pauli::joined::Pair;
 use pauli::lookup::joined_entry;
@@ -23,7 +23,7 @@ pub extern "C" fn howhiruke_check_roll(roll: &[u8]) -> Answer
     code_number(checked)
 }
 
-// Writes the product of Pauli i of the one roll and Pauli j of the other.
+// Writes the product of Pauli i of the one roll and Pauli j of the other, and tells whether the two anticommute.
 #[unsafe(no_mangle)]
 pub extern "C" fn howhiruke_product(
     left: &[u8],
@@ -32,10 +32,10 @@ pub extern "C" fn howhiruke_product(
     j: usize,
     out: &mut [u8],
 ) -> Answer
-    ensures { Writing (product_of left.now i right.now j) out.old result out.new }
+    ensures { Multiplying left.now i right.now j out.old result out.new }
 {
-    let wrote = product(left, i, right, j, out);
-    code_number(wrote)
+    let made = product(left, i, right, j, out);
+    code_product(made)
 }
 
 // Writes the joined roll.

@@ -1,12 +1,13 @@
 -- The calls on two rolls: product, joining and the two lookups of a joined generator, in document 01's order of refusals.
-use Rattle.std.specs.Prelude.{ℕ, zero, suc, ◌+◌, ◌-◌, ◌*◌, ◌%◌, cond, List, [], ◌∷◌, ◌++◌, length, take, drop, nat_le, nat_lt, slice_index_or}
+use Rattle.std.specs.Prelude.{ℕ, zero, suc, ◌+◌, ◌-◌, ◌*◌, ◌%◌, Bool, ◌==◌, cond, List, [], ◌∷◌, ◌++◌, length, take, drop, nat_le, nat_lt, slice_index_or}
 use Rattle.pauli.specs.Told.{Told, answer, refused, refuse_if, and_then, map_told}
 use Rattle.pauli.specs.Bytes.{u16_at}
 use Rattle.pauli.specs.Roll.{most_paulis, Sparse, entry_at, support, read, write}
 use Rattle.pauli.specs.Support.{most_qubits}
-use Rattle.pauli.specs.Pauli.{times}
+use Rattle.pauli.specs.Pauli.{Pauli, times, anticommute}
 use Rattle.pauli.specs.Sets.{pauli_of, sparse_of}
 use Rattle.pauli.specs.Condense.{nothing}
+use Rattle.pauli.specs.Writing.{told_bytes}
 
 -- two lists, each from its own roll
 pub record Lists : Type 0 where
@@ -25,11 +26,36 @@ few_qubits b next = refuse_if (nat_lt most_qubits (length (support (b.left ++ b.
 unfoldable pub within : {A : Type 0} → ℕ → List Sparse → Told A → Told A
 within n ps next = refuse_if (nat_le (length ps) n) 8 0 next
 
--- product of factor i of one roll and factor j of another: "A product takes joined 7 alone, over both its rolls"
-unfoldable pub product_of : List ℕ → ℕ → List ℕ → ℕ → Told (List ℕ)
-product_of l i r j =
+-- ---- the product of factor i of one roll and factor j of another
+
+pub record Factors : Type 0 where
+  pub left : Pauli
+  pub right : Pauli
+
+-- the two factors: "A product takes joined 7 alone, over both its rolls"
+unfoldable pub factors_of : List ℕ → ℕ → List ℕ → ℕ → Told Factors
+factors_of l i r j =
     and_then (read_both l r) λ b. few_qubits b (within i b.left (within j b.right
-    (answer (write (sparse_of (times (pauli_of (slice_index_or b.left i nothing)) (pauli_of (slice_index_or b.right j nothing))) ∷ [])))))
+    (answer (record { left = pauli_of (slice_index_or b.left i nothing); right = pauli_of (slice_index_or b.right j nothing) }))))
+
+-- the roll of their product
+unfoldable pub product_of : List ℕ → ℕ → List ℕ → ℕ → Told (List ℕ)
+product_of l i r j = map_told (λ f. write (sparse_of (times f.left f.right) ∷ [])) (factors_of l i r j)
+
+-- "The signed product shall also say whether its factors anticommute": the length of its roll in bytes, and whether they do
+pub record Made : Type 0 where
+  pub bytes : ℕ
+  pub anticommute : Bool
+
+-- the told length of a roll, beside whether the factors anticommute: 1 if they do, else 0
+unfoldable pub made_with : ℕ → Told ℕ → Told Made
+made_with bit told = map_told (λ n. record { bytes = n; anticommute = bit == 1 }) told
+
+-- what a product tells; a refused one, also for its output, tells nothing of its factors
+unfoldable pub made_of : List ℕ → ℕ → List ℕ → ℕ → List ℕ → Told Made
+made_of l i r j out = and_then (factors_of l i r j) λ f. made_with (anticommute f.left f.right) (told_bytes (product_of l i r j) out)
+
+-- ---- joining
 
 -- "Joining is left then right"; joined 2, then joined 7
 unfoldable pub joined_of : List ℕ → List ℕ → Told (List Sparse)

@@ -18,5 +18,7 @@ pub mod JoinContract
 pub mod Lookups
 pub mod JoinTheorems
 pub mod Product
+pub mod ProductAnswers
 pub mod ProductContract
 pub mod ReadBack
+pub mod ProductTheorems

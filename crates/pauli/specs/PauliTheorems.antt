@@ -4,7 +4,8 @@ use mathlib.Core.List.{Memᴰ as Mem}
 use Rattle.binar.specs.Row.{◌⊕◌, bit, dot, weight}
 use Rattle.pauli.specs.Roll.{Sparse, support}
 use Rattle.pauli.specs.Support.{All, Rising}
-use Rattle.pauli.specs.Pauli.{Pauli, I, phase, Y, normal, Same, times, turned, anticommute, pauli_weight, order_four, product, State, act}
+use Rattle.pauli.specs.Pauli.{Pauli, I, phase, Y, normal, Same, times, turned, anticommute, pauli_weight, order_four, product, indexed_product, State, act}
+use Rattle.pauli.specs.Signed.{stored, times_stored, product_stored}
 use Rattle.pauli.specs.Sets.{set_of, members, pauli_of, condense, expand, row_of, pauli_of_row}
 use Rattle.pauli.specs.Known.{place_of}
 
@@ -40,6 +41,12 @@ pub record AlgebraLaw : Type 0 where
   -- exponents of products are values
   pub times_exponent : (p q : Pauli) → (times p q).e < 4
   pub product_exponent : (qs : List Pauli) → (product qs).e < 4
+
+-- what is stored of a Pauli, of a product and of the product of generators has its value
+pub record StoredLaw : Type 0 where
+  pub value : (p : Pauli) → normal (stored p) ≡ normal p
+  pub product : (p q : Pauli) → normal (times_stored p q) ≡ times p q
+  pub indexed : (s : ℕ) (gs : List Pauli) → normal (product_stored s gs) ≡ indexed_product s gs
 
 -- 3. Sets as numbers and as rising lists
 pub record SetLaw : Type 0 where

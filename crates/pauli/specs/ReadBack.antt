@@ -6,10 +6,13 @@ use Rattle.pauli.specs.Roll.{Sparse, read, encode}
 use Rattle.pauli.specs.Pauli.{Pauli, normal, times}
 use Rattle.pauli.specs.Sets.{pauli_of}
 use Rattle.pauli.specs.Condense.{nothing}
+use Rattle.pauli.specs.JoinCalls.{Made}
 use Rattle.pauli.specs.JoinContract.{JoinCall}
 use Rattle.pauli.specs.ProductContract.{ProductCall}
+use Rattle.pauli.specs.ProductAnswers.{made_in}
+use Rattle.pauli.specs.declared.product.Multiplied.{Multiplied}
 use Rattle.pauli.specs.declared.refusal.Refusal.{Refusal}
-use Rattle.pauli.specs.Refusals.{told_of}
+use Rattle.pauli.specs.Refusals.{told_of, told_by}
 
 -- these bytes are an accepted roll that holds exactly these Paulis, in this order, by value
 pub record Holds (bytes : List ℕ) (ps : List Pauli) : Type 0 where
@@ -29,6 +32,6 @@ JoiningReadBack =
 -- the product of factor i of the one list and factor j of the other: they hold the product alone
 abbrev pub ProductReadBack : Type 0
 ProductReadBack =
-    (l : List ℕ) (i : ℕ) (r : List ℕ) (j : ℕ) (out : List ℕ) (wrote : Result ℕ Refusal) (out' : List ℕ) (ps qs : List Sparse) (n : ℕ)
-    → ProductCall l i r j out wrote out' → read l ≡ answer ps → read r ≡ answer qs → told_of wrote ≡ answer n
-    → Holds (take n out') (times (pauli_of (slice_index_or ps i nothing)) (pauli_of (slice_index_or qs j nothing)) ∷ [])
+    (l : List ℕ) (i : ℕ) (r : List ℕ) (j : ℕ) (out : List ℕ) (found : Result Multiplied Refusal) (out' : List ℕ) (ps qs : List Sparse) (m : Made)
+    → ProductCall l i r j out found out' → read l ≡ answer ps → read r ≡ answer qs → told_by made_in found ≡ answer m
+    → Holds (take m.bytes out') (times (pauli_of (slice_index_or ps i nothing)) (pauli_of (slice_index_or qs j nothing)) ∷ [])

@@ -1,11 +1,12 @@
 // The call for the product of two Paulis of rolls.
 ghost use Rattle.std.specs.Prelude.{◌≡◌, ◌≤◌, length};
 ghost use Rattle.pauli.specs.Condense.{Readable, list_of};
-ghost use Rattle.pauli.specs.Product.{product_bytes};
+ghost use Rattle.pauli.specs.Product.{product_bytes, made_over};
+ghost use Rattle.pauli.specs.ProductAnswers.{made_in};
 ghost use Rattle.pauli.specs.ProductContract.{ProductCall};
 ghost use Rattle.pauli.specs.Told.{answer};
-ghost use Rattle.pauli.specs.Writing.{told_bytes, left_in};
-ghost use Rattle.pauli.specs.Refusals.{told_of};
+ghost use Rattle.pauli.specs.Writing.{left_in};
+ghost use Rattle.pauli.specs.Refusals.{told_by};
 
 use crate::condense::condense_from;
 use crate::joined::join_support;
@@ -13,6 +14,13 @@ use crate::refusal::{Reason, Refusal};
 use crate::roll::Roll;
 use crate::signed::store;
 use crate::write::write_roll;
+
+// How many bytes the product's roll has, and whether its factors anticommute.
+#[derive(Clone, Copy)]
+pub struct Multiplied {
+    pub bytes: usize,
+    pub anticommute: bool,
+}
 
 // Writes the product of Pauli i of the one roll and Pauli j of the other, over a support that has their qubits.
 fn write_product(
@@ -22,27 +30,31 @@ fn write_product(
     j: usize,
     support: &[u32],
     out: &mut [u8],
-) -> Result<usize, Refusal>
+) -> Result<Multiplied, Refusal>
     requires { Readable left.bytes.now left.count i support.now × Readable right.bytes.now right.count j support.now × (length support.now ≤ 128) }
-    ensures told { told_of result ≡ told_bytes (answer (product_bytes support.now (list_of left.entry.bytes.now) i (list_of right.entry.bytes.now) j)) out.old }
+    ensures told { told_by made_in result ≡ made_over support.now (list_of left.entry.bytes.now) i (list_of right.entry.bytes.now) j out.old }
     ensures left { out.new ≡ left_in (answer (product_bytes support.now (list_of left.entry.bytes.now) i (list_of right.entry.bytes.now) j)) out.old }
 {
     let p = condense_from(left, i, support);
     let q = condense_from(right, j, support);
-    let product = p.times(q).pauli;
+    let product = p.times(q);
     let mut w = [0u64; 5];
-    store(&mut w, 0, product);
-    write_roll(&[w], support, out)
+    store(&mut w, 0, product.pauli);
+    let bytes = write_roll(&[w], support, out)?;
+    Ok(Multiplied {
+        bytes,
+        anticommute: product.anticommute,
+    })
 }
 
-// Multiplies factor i of the one roll by factor j of the other, and writes the product as a roll.
+// Multiplies factor i of the one roll by factor j of the other, writes the product as a roll, and tells whether the two anticommute.
 pub fn product(
     left: &[u8],
     i: usize,
     right: &[u8],
     j: usize,
     out: &mut [u8],
-) -> Result<usize, Refusal>
+) -> Result<Multiplied, Refusal>
     ensures { ProductCall left.now i right.now j out.old result out.new }
 {
     let left = Roll::read(left)?;

@@ -1,8 +1,9 @@
 // Signed Paulis over the places of a support: i^exponent times X on the places of x, then Z on those of z.
-ghost use Rattle.std.specs.Prelude.{◌≡◌, ◌+◌, ◌*◌, ◌≤◌, length, ◌==◌};
+ghost use Rattle.std.specs.Prelude.{◌≡◌, ◌+◌, ◌*◌, ◌<◌, ◌≤◌, length, ◌==◌};
 ghost use Rattle.std.proofs.lemmas.List.Edits.{sets};
-ghost use Rattle.pauli.specs.Pauli.{I, normal, times, anticommute, pauli_weight, order_four, is_identity, indexed_product};
-ghost use Rattle.pauli.specs.Signed.{held, pauli_in, pauli_words, list_in, paulis_in};
+ghost use Rattle.binar.specs.Row.{dot};
+ghost use Rattle.pauli.specs.Pauli.{I, anticommute, pauli_weight, order_four, is_identity};
+ghost use Rattle.pauli.specs.Signed.{held, pauli_in, pauli_words, list_in, paulis_in, stored, times_stored, product_stored};
 ghost use Rattle.pauli.specs.PlaceSet.{set_in};
 
 use crate::places::Places;
@@ -15,10 +16,34 @@ pub struct Pauli {
     pub z: Places,
 }
 
-// What a multiplication gives.
+// What a multiplication gives: the product, and whether its factors anticommute.
 #[derive(Clone, Copy)]
 pub struct Product {
     pub pauli: Pauli,
+    pub anticommute: bool,
+}
+
+// How two factors overlap.
+#[derive(Clone, Copy)]
+struct Crossed {
+    // 1 where z of the left one and x of the right one share an odd number of places, which makes a minus sign, else 0: a number, as
+    // what `dot` gives
+    sign: u64,
+    anticommute: bool,
+}
+
+// The one test of anticommutation.
+fn cross(p: Pauli, q: Pauli) -> Crossed
+    ensures sign { (result.sign ≡ dot (set_in p.z) (set_in q.x)) × (result.sign < 2) }
+    ensures anticommute { result.anticommute ≡ (anticommute (held p) (held q) == 1) }
+{
+    let x = p.x;
+    let z = p.z;
+    let sign = z.dot(q.x);
+    Crossed {
+        sign,
+        anticommute: (x.dot(q.z) + sign) % 2 == 1,
+    }
 }
 
 impl Pauli {
@@ -34,7 +59,7 @@ impl Pauli {
 
     // The Pauli whose five words these are.
     pub fn from_words(words: &[u64; 5]) -> Pauli
-        ensures { normal (held result) ≡ normal (pauli_in words.now 0) }
+        ensures { held result ≡ stored (pauli_in words.now 0) }
     {
         Pauli {
             exponent: (words[0] % 256) as u8,
@@ -58,35 +83,26 @@ impl Pauli {
         [(self.exponent % 4) as u64, x.low, x.high, z.low, z.high]
     }
 
-    // The product with other on the right. No `*`: what else a multiplication tells belongs to its answer, a struct of its own.
+    // The product with other on the right, and whether the two anticommute. No `*`, since it tells both.
     pub fn times(self, other: Pauli) -> Product
-        ensures { normal (held result.pauli) ≡ times (held self) (held other) }
+        ensures pauli { held result.pauli ≡ times_stored (held self) (held other) }
+        ensures anticommute { result.anticommute ≡ (anticommute (held self) (held other) == 1) }
     {
         let ux = other.x;
         let uz = other.z;
         let x = self.x;
         let z = self.z;
-        let crossed = z.dot(ux);
+        let crossed = cross(self, other);
         let sum = self.exponent.wrapping_add(other.exponent);
-        let sign = (2 * crossed) as u8;
+        let sign = (2 * crossed.sign) as u8;
         Product {
             pauli: Pauli {
                 exponent: sum.wrapping_add(sign),
                 x: x ^ ux,
                 z: z ^ uz,
             },
+            anticommute: crossed.anticommute,
         }
-    }
-
-    // Whether the two anticommute.
-    pub fn anticommutes(self, other: Pauli) -> bool
-        ensures { result ≡ (anticommute (held self) (held other) == 1) }
-    {
-        let x = self.x;
-        let z = self.z;
-        let ux = other.x;
-        let uz = other.z;
-        (x.dot(uz) + z.dot(ux)) % 2 == 1
     }
 
     // How many places are in x or z.
@@ -123,7 +139,7 @@ impl Pauli {
 // The Pauli whose five words start at word at.
 pub fn load(w: &[u64], at: usize) -> Pauli
     requires { at + 5 ≤ length w.now }
-    ensures { normal (held result) ≡ normal (pauli_in w.now at) }
+    ensures { held result ≡ stored (pauli_in w.now at) }
 {
     Pauli::from_words(w[at..].first_chunk::<5>().unwrap())
 }
@@ -148,7 +164,7 @@ pub fn store(w: &mut [u64], at: usize, p: Pauli)
 // The product of those Paulis of the list whose numbers are in the set, in rising order. The numbers of an index set are places
 // too: places in the list of generators.
 pub fn indexed_product(list: &[[u64; 5]], set: Places) -> Pauli
-    ensures { normal (held result) ≡ indexed_product (set_in set) (paulis_in list.now) }
+    ensures { held result ≡ product_stored (set_in set) (paulis_in list.now) }
 {
     let mut product = Pauli::identity();
     for p in set.iter() {

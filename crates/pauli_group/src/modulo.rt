@@ -14,7 +14,7 @@ ghost use Rattle.pauli_group.specs.WorkArea.{cleared};
 ghost use Rattle.pauli_group.specs.Calls.{paulis, list_bytes};
 ghost use Rattle.pauli_group.specs.Promises.{promise_of};
 ghost use Rattle.pauli_group.specs.CallContracts.{ModuloCall};
-ghost use Rattle.pauli_group.specs.Inner.Remainder.{Other, remainder_by, Remainder};
+ghost use Rattle.pauli_group.specs.Inner.Remainder.{multiplied_stored, Other, remainder_by, Remainder};
 ghost use Rattle.pauli.specs.Refusals.{told_of};
 
 use crate::area::{FURTHER, STANDARD, Span, WORK_WORDS, area_of, clear};
@@ -35,7 +35,7 @@ use pauli::write::write_roll;
 // definition multiplied_at takes it.
 fn multiplied(p: Pauli, is_x: bool, place: Place, other: Pauli) -> Pauli
     requires { place.0 < 128 }
-    ensures { normal (held result) ≡ normal (multiplied_at is_x place.0 (held other) (held p)) }
+    ensures { held result ≡ multiplied_stored is_x place.0 (held other) (held p) }
 {
     let mut set = p.z;
     if is_x {

@@ -58,7 +58,7 @@ pub(crate) fn some_order_four(list: &[[u64; 5]]) -> bool
 fn anticommutes_with_some(list: &[[u64; 5]], p: Pauli) -> bool
     ensures { yes_number result ≡ anticommutes_with_some (held p) (paulis_in list.now) }
 {
-    some(list, |q| p.anticommutes(q))
+    some(list, |q| p.times(q).anticommute)
 }
 
 // Whether two of the Paulis of a list anticommute.

@@ -5,13 +5,13 @@ ghost use Rattle.pauli.specs.Pauli.{normal};
 ghost use Rattle.pauli.specs.Signed.{held, list_in, paulis_in};
 ghost use Rattle.pauli.specs.Told.{answer};
 ghost use Rattle.pauli.specs.Writing.{told_bytes, left_in};
-ghost use Rattle.pauli_theory.specs.Symplectic.{position, times_if, cleared as cleared_by, symplectic_form};
+ghost use Rattle.pauli_theory.specs.Symplectic.{position, cleared as cleared_by, symplectic_form};
 ghost use Rattle.pauli_group.specs.Inner.Area.{list_at, standard_at, Outside};
 ghost use Rattle.pauli_group.specs.WorkArea.{cleared};
 ghost use Rattle.pauli_group.specs.Calls.{paulis, symplectic_bytes};
 ghost use Rattle.pauli_group.specs.CallContracts.{SymplecticCall};
 ghost use Rattle.pauli_group.specs.Inner.Lists.{found};
-ghost use Rattle.pauli_group.specs.Inner.Pairs.{PairedTo};
+ghost use Rattle.pauli_group.specs.Inner.Pairs.{times_if_stored, PairedTo};
 ghost use Rattle.pauli.specs.Refusals.{told_of};
 
 use crate::area::{FURTHER, LIST, STANDARD, Span, WORK_WORDS, area_of, clear};
@@ -38,14 +38,14 @@ fn first_anticommuting(list: &[[u64; 5]], x: Pauli) -> Option<usize>
     ensures below { IfSome result (λ k. k < length list.now) }
 {
     list.iter()
-        .position(|words| x.anticommutes(Pauli::from_words(words)))
+        .position(|words| x.times(Pauli::from_words(words)).anticommute)
 }
 
 // g times q, if g anticommutes with p.
 fn times_if(p: Pauli, q: Pauli, g: Pauli) -> Pauli
-    ensures { normal (held result) ≡ normal (times_if (held p) (held q) (held g)) }
+    ensures { held result ≡ times_if_stored (held p) (held q) (held g) }
 {
-    if g.anticommutes(p) {
+    if g.times(p).anticommute {
         return g.times(q).pauli;
     }
     g

@@ -7,6 +7,8 @@ use pauli_group::promise::{Promise, Promises};
 pub(crate) enum OnRolls {
     Check,
     Product,
+    // the same call, whose whole answer is printed
+    Multiply,
     Join,
     Body,
     Entry,
@@ -73,6 +75,7 @@ impl TryFrom<u8> for Operation {
             17 => Ok(Operation::Written(Written::Common)),
             18 => Ok(Operation::Report),
             19 => Ok(Operation::Members),
+            20 => Ok(Operation::OnRolls(OnRolls::Multiply)),
             _ => Err(Unknown),
         }
     }

@@ -2,8 +2,8 @@
 use crate::lines::{end_line, end_work_line, print_wrote};
 use crate::request::{Asked, OnRolls, Operation, Request, Written};
 use crate::tells::{
-    print_body, print_compared, print_decided, print_entry, print_member, print_number,
-    print_phases, print_results,
+    print_body, print_compared, print_decided, print_entry, print_member, print_multiplied,
+    print_number, print_phases, print_results,
 };
 use closing_report::report::closing_report;
 use factorizations::calls::indexed_factorizations_of;
@@ -34,7 +34,11 @@ fn run_rolls<W: Write>(
     let (first, second) = (request.first, request.second);
     let (a, b) = (request.a as usize, request.b as usize);
     match call {
-        OnRolls::Product => return print_wrote(to, product(first, a, second, b, out)),
+        OnRolls::Product => {
+            let wrote = product(first, a, second, b, out).map(|m| m.bytes);
+            return print_wrote(to, wrote);
+        }
+        OnRolls::Multiply => return print_multiplied(to, product(first, a, second, b, out)),
         OnRolls::Join => return print_wrote(to, join(first, second, out)),
         OnRolls::Check => print_number(to, "count", check_roll(first))?,
         OnRolls::Body => print_body(to, joined_body(first, second, a))?,

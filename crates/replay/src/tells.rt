@@ -3,6 +3,7 @@ use crate::lines::print_bytes;
 use closing_report::lines::phases_word;
 use factorizations::answers::Results;
 use pauli::lookup::JoinedEntry;
+use pauli::product::Multiplied;
 use pauli::refusal::Refusal;
 use pauli_group::answers::{Factors, Phases};
 use std::cmp::Ordering;
@@ -55,6 +56,28 @@ pub(crate) fn print_entry<W: Write>(
     match found {
         Ok(e) => write!(to, "entry {} {} {}", e.exponent, e.xcount, e.zcount),
         Err(refusal) => write!(to, "{refusal}"),
+    }
+}
+
+// What a product tells, and how many bytes it wrote.
+pub(crate) fn print_multiplied<W: Write>(
+    to: &mut W,
+    made: Result<Multiplied, Refusal>,
+) -> io::Result<usize> {
+    match made {
+        Ok(m) => {
+            let word = if m.anticommute {
+                "anticommute"
+            } else {
+                "commute"
+            };
+            write!(to, "wrote {} {word}", m.bytes)?;
+            Ok(m.bytes)
+        }
+        Err(refusal) => {
+            write!(to, "{refusal}")?;
+            Ok(0)
+        }
     }
 }
 

@@ -194,6 +194,15 @@ pub enum Membership {
     NotMember,
 }
 
+/// The product of two Paulis, whose roll is in the output.
+#[derive(Clone, Copy, Debug, PartialEq, Eq)]
+pub struct Product {
+    /// How many bytes its roll has.
+    pub bytes: usize,
+    /// Whether the two anticommute.
+    pub anticommute: bool,
+}
+
 /// The results for a roll of elements, which are in the output.
 #[derive(Clone, Copy, Debug, PartialEq, Eq)]
 pub struct Results {
@@ -251,12 +260,13 @@ pub fn check_roll(roll: &[u8]) -> Result<usize, Refusal> {
     number(unsafe { calls::howhiruke_check_roll(roll.as_ptr(), roll.len()) })
 }
 
-/// Writes a roll of one Pauli, the product of Pauli `i` of `left` and Pauli `j` of `right`; its length. Reasons 1 to 8 and 12; 7 also for
-/// the qubits of both rolls together.
-pub fn product(left: &[u8], i: usize, right: &[u8], j: usize, out: &mut [u8]) -> Result<usize, Refusal> {
-    number(unsafe {
+/// Writes a roll of one Pauli, the product of Pauli `i` of `left` and Pauli `j` of `right`. Reasons 1 to 8 and 12; 7 also for the qubits
+/// of both rolls together.
+pub fn product(left: &[u8], i: usize, right: &[u8], j: usize, out: &mut [u8]) -> Result<Product, Refusal> {
+    let a = told(unsafe {
         calls::howhiruke_product(left.as_ptr(), left.len(), i, right.as_ptr(), right.len(), j, out.as_mut_ptr(), out.len())
-    })
+    })?;
+    Ok(Product { bytes: a.first as usize, anticommute: a.second == 1 })
 }
 
 /// Writes the roll of the Paulis of `left`, then those of `right`; its length. Reasons 1 to 7 and 12; 2 and 7 also joined.

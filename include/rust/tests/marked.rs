@@ -165,8 +165,10 @@ fn rolls() {
     let x1 = roll(&[X1]);
     let mut out = [0; 64];
     assert_eq!(check_roll(&bell), Ok(2));
-    let n = product(&roll(&[Z]), 0, &roll(&[X]), 0, &mut out).unwrap();
-    assert_eq!(out[..n], roll(&[(2, &[0], &[0])]));
+    let Product { bytes, anticommute } = product(&roll(&[Z]), 0, &roll(&[X]), 0, &mut out).unwrap();
+    assert_eq!(out[..bytes], roll(&[(2, &[0], &[0])]));
+    assert!(anticommute);
+    assert!(!product(&bell, 0, &bell, 1, &mut out).unwrap().anticommute);
     let n = join(&bell, &x1, &mut out).unwrap();
     assert_eq!(out[..n], roll(&[XX, ZZ, X1]));
     assert_eq!(joined_entry(&bell, &x1, 1), Ok(Entry { exponent: 0, xcount: 0, zcount: 2 }));

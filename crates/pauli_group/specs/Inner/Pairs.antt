@@ -1,10 +1,15 @@
 -- Symplectic pairing in the work area.
 use Rattle.std.specs.Prelude.{◌≡◌, ℕ, ◌+◌, ◌<◌, List, map}
-use Rattle.pauli.specs.Pauli.{Pauli, normal}
-use Rattle.pauli.specs.Signed.{list_in}
+use Rattle.binar.specs.Row.{if_bit}
+use Rattle.pauli.specs.Pauli.{Pauli, normal, anticommute}
+use Rattle.pauli.specs.Signed.{list_in, times_stored}
 use Rattle.pauli_theory.specs.Symplectic.{paired_from}
 use Rattle.pauli_group.specs.declared.symplectic.Pairing.{Pairing}
 use Rattle.pauli_group.specs.Inner.Area.{list_at, standard_at, further_at}
+
+-- g times q as it is stored, if g anticommutes with p
+unfoldable pub times_if_stored : Pauli → Pauli → Pauli → Pauli
+times_if_stored p q g = if_bit (anticommute g p) (times_stored g q) g
 
 -- what the pairing comes to from here on: of the Paulis left in the list, with the conjugate and the commuting elements so far
 unfoldable pub paired_in : List ℕ → Pairing → List Pauli

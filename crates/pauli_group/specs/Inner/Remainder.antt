@@ -1,16 +1,21 @@
 -- The remainder of a list by another, in the work area.
-use Rattle.std.specs.Prelude.{◌≡◌, ℕ, ◌+◌, ◌*◌, ◌<◌, ◌≤◌, List, ◌++◌, map, length, take, drop, slice_index}
+use Rattle.std.specs.Prelude.{◌≡◌, ℕ, Bool, cond, ◌+◌, ◌*◌, ◌<◌, ◌≤◌, List, ◌++◌, map, length, take, drop, slice_index}
 use mathlib.Core.List.{Memᴰ as Mem}
+use Rattle.binar.specs.Row.{bit, if_bit}
 use Rattle.pauli.specs.Support.{Rising}
 use Rattle.pauli.specs.Condense.{condensed}
 use Rattle.pauli.specs.Pauli.{Pauli}
-use Rattle.pauli.specs.Signed.{list_in}
+use Rattle.pauli.specs.Signed.{list_in, times_stored}
 use Rattle.pauli.specs.Writing.{OnPlaces}
 use Rattle.pauli_theory.specs.Group.{Promise}
 use Rattle.pauli_theory.specs.Modulo.{modulo}
 use Rattle.pauli_theory.specs.Inner.ModuloPlaces.{moved_pauli, multiplied_by_all_over}
 use Rattle.pauli_theory.specs.Standard.{support_of}
 use Rattle.pauli_group.specs.Inner.Area.{standard_at, further_at, stride_of}
+
+-- g times other as it is stored, if g has a one at the place: in x for true, in z for false
+unfoldable pub multiplied_stored : Bool → ℕ → Pauli → Pauli → Pauli
+multiplied_stored is_x place other g = if_bit (cond is_x (bit g.x place) (bit g.z place)) (times_stored g other) g
 
 -- the form and the standard generators of a list of n in the area x, over the places of own, whose numbers are all in qs
 pub record Other (own qs x : List ℕ) (n rank total : ℕ) : Type 0 where
