@@ -1,3 +1,4 @@
 pub mod ProductLaws
 pub mod JoinedLists
 pub mod ReadBack
+pub mod ProductTheorems

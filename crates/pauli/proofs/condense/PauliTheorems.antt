@@ -7,11 +7,12 @@ use Rattle.binar.specs.Row.{◌⊕◌, dot}
 use Rattle.pauli.specs.Pauli.{Y, order_four, act}
 use Rattle.pauli.specs.Roll.{Sparse, support}
 use Rattle.pauli.specs.Sets.{pauli_of}
-use Rattle.pauli.specs.PauliTheorems.{ActionLaw, YLaw, AlgebraLaw, SetLaw, PauliOn, SupportLaw}
+use Rattle.pauli.specs.PauliTheorems.{ActionLaw, YLaw, AlgebraLaw, SetLaw, PauliOn, SupportLaw, StoredLaw}
 use Rattle.pauli.proofs.roll.ListSupport.{support_rises, sets_in_support, in_support}
 use Rattle.pauli.proofs.condense.Action.{act_times, same_acts, acts_same}
 use Rattle.pauli.proofs.signed.Algebra.{times_assoc, I-times, times-I, times_same, times_lt, turned_is, turned_four, times_swap, times_self, anticommute_comm, anticommute_times_l, anticommute_times_r, order_four_times}
 use Rattle.pauli.proofs.signed.Products.{product_append, product_lt}
+use Rattle.pauli.proofs.signed.SignedLaws.{stored_value, times_value, indexed_value}
 use Rattle.pauli.proofs.condense.Sets.{set_has, set_only, members_rise, set_members, members_set, members_count}
 use Rattle.pauli.proofs.condense.Places.{place_law}
 
@@ -41,6 +42,9 @@ algebra_law =
       times_exponent = times_lt;
       product_exponent = product_lt;
     }
+
+pub stored_law : StoredLaw
+stored_law = record { value = λ p. stored_value p refl; product = λ p q. times_value p q refl; indexed = λ s gs. indexed_value s gs refl }
 
 pub set_law : SetLaw
 set_law =

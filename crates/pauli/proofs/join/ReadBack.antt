@@ -1,11 +1,11 @@
 -- Lists of Paulis within the limits, written and read back; and what the first bytes of an output are, by what its call told and left.
-use Rattle.std.proofs.Common.{◌≡◌, ℕ, ◌+◌, ◌≤◌, List, [], ◌∷◌, ◌++◌, map, length, get_or, take, drop, sym, refl, ap, ◌∙◌, subst, ap₂, ⊎_elim, arith, take_at, ltb-false, leb-false, Result}
+use Rattle.std.proofs.Common.{◌≡◌, ℕ, ◌+◌, ◌≤◌, List, [], ◌∷◌, ◌++◌, map, length, get_or, take, drop, sym, refl, ap, ◌∙◌, subst, ap₂, ⊎_elim, arith, take_at, Result}
 use mathlib.Core.List.Memᴰ
 use mathlib.Core.List.Memᴰ.{append_cases as in-append}
 use mathlib.Core.List.{map-map, Memᴰ as Mem}
 use lib.ListN.{length-map}
 use Rattle.binar.proofs.Lists.{all_join, all_map, all_over}
-use Rattle.pauli.specs.Told.{Told, answer, refused, and_then}
+use Rattle.pauli.specs.Told.{Told, answer, refused}
 use Rattle.pauli.specs.Roll.{most_paulis, highest_qubit, Sparse, numbers, support, read, write, by_value}
 use Rattle.pauli.specs.Support.{most_qubits, All, Rising}
 use Rattle.pauli.specs.RollTheorems.{AllowedSet}
@@ -14,7 +14,7 @@ use Rattle.pauli.specs.PauliTheorems.{On, PauliOn}
 use Rattle.pauli.specs.Sets.{members, pauli_of, sparse_of}
 use Rattle.pauli.specs.Condense.{nothing}
 use Rattle.pauli.specs.Writing.{put_bytes, told_bytes, left_in}
-use Rattle.pauli.specs.JoinCalls.{read_both, few_qubits, within, product_of, join_of}
+use Rattle.pauli.specs.JoinCalls.{product_of, join_of}
 use Rattle.pauli.specs.ReadBack.{Holds, JoiningReadBack, ProductReadBack}
 use Rattle.pauli.proofs.signed.Algebra.{pauli_path}
 use Rattle.pauli.proofs.support.Lists.{all_in, all_mem, in_get_or}
@@ -27,6 +27,7 @@ use Rattle.pauli.proofs.roll.ListSupport.{in_support, support_only, support_rise
 use Rattle.pauli.proofs.roll.RollLaws.{answer_parts, by_value_exponents}
 use Rattle.pauli.proofs.roll.Told.{refused_none, test_passed}
 use Rattle.pauli.proofs.join.JoinedLists.{written_read, joined_law}
+use Rattle.pauli.proofs.join.ProductLaws.{product_answer, made_answered, made_size}
 use Rattle.pauli.specs.declared.refusal.Refusal.{Refusal}
 use Rattle.pauli.specs.Refusals.{told_of}
 
@@ -130,11 +131,15 @@ told_bytes_lem (answer bs) out n e =
     (bs, refl, rw (room, same) (put_front out bs))
 
 -- so they hold what the result's bytes hold
+left_holds : (t : Told (List ℕ)) (out out' : List ℕ) (n : ℕ) → told_bytes t out ≡ answer n → out' ≡ left_in t out
+    → (ps : List Pauli) → ((bs : List ℕ) → t ≡ answer bs → Holds bs ps) → Holds (take n out') ps
+left_holds t out out' n e left ps holds =
+    let (bs, s, front) = told_bytes_lem t out n e in
+    subst (λ (b : List ℕ). Holds b ps) (sym (ap (take n) left ∙ front)) (holds bs s)
+
 pub call_holds : (t : Told (List ℕ)) (out : List ℕ) (wrote : Result ℕ Refusal) (out' : List ℕ) (n : ℕ) → told_of wrote ≡ told_bytes t out → out' ≡ left_in t out
     → told_of wrote ≡ answer n → (ps : List Pauli) → ((bs : List ℕ) → t ≡ answer bs → Holds bs ps) → Holds (take n out') ps
-call_holds t out wrote out' n told left e ps holds =
-    let (bs, s, front) = told_bytes_lem t out n (sym told ∙ e) in
-    subst (λ (b : List ℕ). Holds b ps) (sym (ap (take n) left ∙ front)) (holds bs s)
+call_holds t out wrote out' n told left e = left_holds t out out' n (sym told ∙ e) left
 
 -- ---- the two calls
 
@@ -152,17 +157,17 @@ joining_read_back l r out wrote out' ps qs n c el er e =
     }
 
 pub product_read_back : ProductReadBack
-unfolding product_of read_both and_then few_qubits within most_paulis
-product_read_back l i r j out wrote out' ps qs n c el er e =
+unfolding most_paulis
+product_read_back l i r j out found out' ps qs m c el er e =
     let P = pauli_of (get_or ps i nothing) in
     let Q = pauli_of (get_or qs j nothing) in
-    call_holds (product_of l i r j) out wrote out' n c.told c.left e (times P Q ∷ []) λ bs s.
-    let (few, s₁) = test_passed _ 7 0 _ bs (rw (el, er) at s) in
-    let (first, s₂) = test_passed _ 8 0 _ bs s₁ in
-    let (second, s₃) = test_passed _ 8 0 _ bs s₂ in
-    let limits = joined_qubits l r ps qs el er (ltb-false most_qubits (length (support (ps ++ qs))) few) in
-    let left = (support_law (ps ++ qs)).covers (get_or ps i nothing) (Memᴰ.append_left qs (in_get_or ps i nothing (leb-false (length ps) i first))) in
-    let right = (support_law (ps ++ qs)).covers (get_or qs j nothing) (Memᴰ.append_right ps (in_get_or qs j nothing (leb-false (length qs) j second))) in
+    let made = sym c.told ∙ e in
+    let a = made_answered l i r j out m made ps qs el er in
+    left_holds (product_of l i r j) out out' m.bytes (made_size l i r j out m made ps qs el er) c.left (times P Q ∷ []) λ bs s.
+    let limits = joined_qubits l r ps qs el er a.few in
+    let left = (support_law (ps ++ qs)).covers (get_or ps i nothing) (Memᴰ.append_left qs (in_get_or ps i nothing a.first)) in
+    let right = (support_law (ps ++ qs)).covers (get_or qs j nothing) (Memᴰ.append_right ps (in_get_or qs j nothing a.second)) in
+    let given = product_answer l i r j _ a.factors in
     let same : write (sparse_of (times P Q) ∷ []) ≡ bs = cc in
     subst (λ (b : List ℕ). Holds b (times P Q ∷ [])) same
     (written_holds (support (ps ++ qs)) limits (times P Q ∷ []) (on_times (support (ps ++ qs)) P Q left right, tt) (omega arith))

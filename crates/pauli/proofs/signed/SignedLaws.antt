@@ -1,10 +1,10 @@
 -- Laws of signed Paulis as the code holds them: exponents that wrap, and lists of Paulis in words.
-use Rattle.std.proofs.Common.{◌≡◌, ℕ, zero, suc, ◌+◌, ◌*◌, ◌%◌, ◌^◌, ◌<◌, ◌≤◌, false, eqb, List, [], ◌∷◌, sym, refl, ap, ◌∙◌, ap₂, add-zero, arith, length, get_or, take, drop, map, ne_eqb}
-use native.Mathlib.Nat.{add-mod}
+use Rattle.std.proofs.Common.{◌≡◌, ℕ, zero, suc, ◌+◌, ◌*◌, ◌%◌, ◌<◌, ◌≤◌, false, eqb, List, [], ◌∷◌, sym, refl, ap, ◌∙◌, add-zero, arith, length, get_or, take, drop, map, ne_eqb}
 use lib.Pow.{mod-mod-pow}
 use Rattle.pauli.specs.Pauli.{Pauli, I, normal, times, product_from, product, select, indexed_product}
-use Rattle.pauli.specs.Signed.{pauli_in, list_in, paulis_in}
-use Rattle.pauli.proofs.signed.Algebra.{times_normal_l, times_normal_r, normal_times}
+use Rattle.binar.specs.Row.{dot}
+use Rattle.pauli.specs.Signed.{pauli_in, list_in, paulis_in, stored, times_stored, stored_from, product_stored}
+use Rattle.pauli.proofs.signed.Algebra.{pauli_path, times_normal_l, normal_times}
 use Rattle.pauli.proofs.places.Members.{at_indexes, at_hit, at_past, select_members}
 use Rattle.pauli.specs.Sets.{members}
 use Rattle.std.specs.Simd.{first_chunks}
@@ -18,12 +18,15 @@ use Rattle.pauli.proofs.signed.Products.{product_normal}
 pub byte_value : (n : ℕ) → n % 256 % 4 ≡ n % 4
 byte_value n = mod-mod-pow n 6 2
 
--- sums that wrap at 256 have the value of the sum
-pub wrap_value : (e f d g s r : ℕ) → s ≡ (e + f) % 2 ^ 8 → r ≡ (s + 2 * g) % 2 ^ 8 → g ≡ d → r % 4 ≡ (e + f + 2 * d) % 4
-wrap_value e f d g s r p q h =
-    ap (λ (n : ℕ). n % 4) q ∙ mod-mod-pow (s + 2 * g) 6 2
-    ∙ ap₂ (λ (a : ℕ) (b : ℕ). (a + 2 * b) % 4) p h ∙ add-mod ((e + f) % 2 ^ 8) (2 * d) 4
-    ∙ ap (λ (n : ℕ). (n + 2 * d % 4) % 4) (mod-mod-pow (e + f) 6 2) ∙ sym (add-mod (e + f) (2 * d) 4)
+wrap_first : (a b : ℕ) → (a % 256 + b) % 256 ≡ (a + b) % 256
+wrap_first a b = omega arith
+
+wrap_second : (a b c : ℕ) → (a + b % 256 + c) % 256 ≡ (a + b + c) % 256
+wrap_second a b c = omega arith
+
+-- two sums that wrap at 256 are one that does
+pub wrap_sum : (e f d g : ℕ) → g ≡ d → ((e + f) % 256 + 2 * g) % 256 ≡ (e + f + 2 * d) % 256
+wrap_sum e f d g h = ap (λ (n : ℕ). ((e + f) % 256 + 2 * n) % 256) h ∙ wrap_first (e + f) (2 * d)
 
 pub sum_not : (a b : ℕ) → (a ≡ 0 → ⊥) → eqb (a + b) 0 ≡ false
 sum_not a b h = ne_eqb (a + b) 0 (λ e. h (omega arith))
@@ -34,6 +37,32 @@ sum_zero a b h = let e : a + b ≡ b = omega arith in ap (λ (n : ℕ). eqb n 0)
 pub zero_bit : (b : ℕ) → b < 2 → (b ≡ 1 → ⊥) → b ≡ 0
 zero_bit zero h n = refl
 zero_bit (suc b) h n = absurd (n (omega arith))
+
+-- ---- what is stored, by value
+
+pub stored_value : {h : Pauli} (p : Pauli) → h ≡ stored p → normal h ≡ normal p
+unfolding normal stored
+stored_value p e = ap normal e ∙ pauli_path (byte_value p.e) refl refl
+
+pub times_value : {h : Pauli} (p q : Pauli) → h ≡ times_stored p q → normal h ≡ times p q
+unfolding normal times_stored times
+times_value p q e = ap normal e ∙ pauli_path (byte_value (p.e + q.e + 2 * dot p.z q.x)) refl refl
+
+from_stored : (p q : Pauli) (gs : List Pauli) → normal p ≡ normal q → normal (stored_from p gs) ≡ normal (product_from q gs)
+unfolding stored_from product_from
+from_stored p q [] e = e
+from_stored p q (g ∷ gs) e =
+    from_stored (times_stored p g) (times q g) gs
+    (times_value p g refl ∙ sym (times_normal_l p g) ∙ ap (λ (r : Pauli). times r g) e ∙ times_normal_l q g ∙ sym (normal_times q g))
+
+pub indexed_value : {h : Pauli} (s : ℕ) (gs : List Pauli) → h ≡ product_stored s gs → normal h ≡ indexed_product s gs
+unfolding product_stored indexed_product product
+indexed_value s gs e = ap normal e ∙ from_stored I I (select s gs) refl ∙ product_normal (select s gs)
+
+-- a factor's exponent counts by its byte
+times_byte : (p q : Pauli) → times_stored p (stored q) ≡ times_stored p q
+unfolding times_stored stored
+times_byte p q = pauli_path (wrap_second p.e q.e (2 * dot p.z q.x)) refl refl
 
 -- ---- lists of Paulis
 
@@ -72,33 +101,29 @@ chunk_paulis w i n m k e f =
 
 -- ---- the product of a list by its indexes
 
-pub from_same : (p q : Pauli) (gs : List Pauli) → normal p ≡ normal q → normal (product_from p gs) ≡ normal (product_from q gs)
-unfolding product_from
-from_same p q [] e = e
-from_same p q (g ∷ gs) e = ap (λ (r : Pauli). normal (product_from r gs)) (sym (times_normal_l p g) ∙ ap (λ (r : Pauli). times r g) e ∙ times_normal_l q g)
-
 -- p times the Paulis of the list at these indexes
 unfoldable pub product_at : List (List ℕ) → List ℕ → Pauli → Pauli
-product_at ls is p = normal (product_from p (at_indexes is (paulis_in ls)))
+product_at ls is p = stored_from p (at_indexes is (paulis_in ls))
 
 module _ (ls : List (List ℕ)) where
-  pub product_start : (s : ℕ) → indexed_product s (paulis_in ls) ≡ product_at ls (members s) I
-  unfolding product_at indexed_product product
-  product_start s = sym (product_normal (select s (paulis_in ls))) ∙ ap (λ (gs : List Pauli). normal (product_from I gs)) (select_members (paulis_in ls) s)
+  pub product_start : (s : ℕ) → product_stored s (paulis_in ls) ≡ product_at ls (members s) I
+  unfolding product_at product_stored
+  product_start s = ap (stored_from I) (select_members (paulis_in ls) s)
 
-  pub product_end : (p : Pauli) → product_at ls [] p ≡ normal p
-  unfolding product_at at_indexes product_from
+  pub product_end : (p : Pauli) → product_at ls [] p ≡ p
+  unfolding product_at at_indexes stored_from
   product_end p = refl
 
   module _ (i : ℕ) (is : List ℕ) (p : Pauli) where
     pub product_past : length ls ≤ i → product_at ls (i ∷ is) p ≡ product_at ls is p
     unfolding product_at
-    product_past h = ap (λ (gs : List Pauli). normal (product_from p gs)) (at_past (paulis_in ls) i is (rw length_paulis h))
+    product_past h = ap (stored_from p) (at_past (paulis_in ls) i is (rw length_paulis h))
 
     -- r is the product with the Pauli g at index i, whose words are l
-    pub product_hit : i < length ls → (l : List ℕ) (g r : Pauli) → l ≡ get_or ls i l → normal g ≡ normal (pauli_in l 0) → normal r ≡ times p g → product_at ls (i ∷ is) p ≡ product_at ls is r
-    unfolding product_at product_from
+    pub product_hit : i < length ls → (l : List ℕ) (g r : Pauli) → l ≡ get_or ls i l → g ≡ stored (pauli_in l 0) → r ≡ times_stored p g
+        → product_at ls (i ∷ is) p ≡ product_at ls is r
+    unfolding product_at stored_from
     product_hit h l g r at e f =
-        ap (λ (gs : List Pauli). normal (product_from p gs)) (at_hit (paulis_in ls) i is I (rw length_paulis h))
-        ∙ from_same (times p (get_or (paulis_in ls) i I)) r (at_indexes is (paulis_in ls))
-        (normal_times _ _ ∙ ap (times p) (pauli_at ls i l h ∙ ap (λ (ws : List ℕ). pauli_in ws 0) (sym at)) ∙ sym (times_normal_r _ _) ∙ ap (times p) (sym e) ∙ times_normal_r _ _ ∙ sym f)
+        ap (stored_from p) (at_hit (paulis_in ls) i is I (rw length_paulis h))
+        ∙ ap (λ (q : Pauli). stored_from q (at_indexes is (paulis_in ls)))
+        (ap (times_stored p) (pauli_at ls i l h ∙ ap (λ (ws : List ℕ). pauli_in ws 0) (sym at)) ∙ sym (times_byte p _) ∙ ap (times_stored p) (sym e) ∙ sym f)

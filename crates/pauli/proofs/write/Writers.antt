@@ -8,12 +8,12 @@ use Rattle.pauli.specs.declared.signed.Pauli.{Pauli as Held}
 use Rattle.pauli.specs.Bytes.{le16, le32, le32s}
 use Rattle.pauli.specs.Roll.{numbers, entry, table, bodies, encode}
 use Rattle.pauli.specs.Pauli.{Pauli, normal, cons_if, select}
-use Rattle.pauli.specs.Signed.{held, pauli_in, list_in, paulis_in}
+use Rattle.pauli.specs.Signed.{held, pauli_in, list_in, paulis_in, stored}
 use Rattle.pauli.specs.PlaceSet.{set_in}
 use Rattle.pauli.specs.Told.{answer, refused, refuse_if}
 use Rattle.pauli.specs.Writing.{put_bytes, entry_bytes, numbers_of, table_of, sparse_over, OnPlaces, roll_over, told_bytes, left_in}
 use Rattle.pauli.proofs.roll.BytesLaws.{length_le32s, le32s_append}
-use Rattle.pauli.proofs.signed.SignedLaws.{length_paulis}
+use Rattle.pauli.proofs.signed.SignedLaws.{length_paulis, stored_value}
 use Rattle.pauli.proofs.write.Puts.{put_append, Left, left_step, left_room}
 
 -- ---- a Pauli that was loaded
@@ -23,9 +23,11 @@ pub record Loaded (r : Held) (p : Pauli) : Type 0 where
   pub x : set_in r.x ≡ p.x
   pub z : set_in r.z ≡ p.z
 
-pub loaded : (r : Held) (p : Pauli) → normal (held r) ≡ normal p → Loaded r p
+pub loaded : (r : Held) (p : Pauli) → held r ≡ stored p → Loaded r p
 unfolding normal held
-loaded r p h = record { e = ap (λ (q : Pauli). q.e) h; x = ap (λ (q : Pauli). q.x) h; z = ap (λ (q : Pauli). q.z) h }
+loaded r p h =
+    let value = stored_value p h in
+    record { e = ap (λ (q : Pauli). q.e) value; x = ap (λ (q : Pauli). q.x) value; z = ap (λ (q : Pauli). q.z) value }
 
 -- ---- the Paulis of words
 

@@ -3,15 +3,16 @@ use Rattle.std.proofs.Common.{sym, ap, ◌∙◌, arith}
 use Rattle.pauli.proofs.join.ProductLaws.{left_refused, right_refused, many_refused, past_left_refused, past_right_refused, left_readable, right_readable, written}
 use borrow.Author.Tests.{ltb-true, ltb-false}
 use Rattle.pauli.specs.Support.{most_qubits}
-use Rattle.pauli.specs.Refusals.{told_of, told_refusal}
+use Rattle.pauli.specs.ProductAnswers.{made_in}
+use Rattle.pauli.specs.Refusals.{told_by, told_refusal}
 use Rattle.pauli.proofs.refusal.HandedOn.{handed_on}
 use Rattle.pauli.proofs.product.product.Goals as goal
 
 pub returns-in_err-left : goal.returns-in_err-left
-returns-in_err-left c = left_refused c.args.left.now c.args.i c.args.right.now c.args.j c.args.out.now _ _ _ (ap told_of (handed_on _ _ c.from_residual.ensures.1)) (sym c.in_err-left.ensures.count)
+returns-in_err-left c = left_refused c.args.left.now c.args.i c.args.right.now c.args.j c.args.out.now _ _ _ (ap (told_by made_in) (handed_on _ _ c.from_residual.ensures.1)) (sym c.in_err-left.ensures.count)
 
 pub returns-in_err-right : goal.returns-in_err-right
-returns-in_err-right c = right_refused c.args.left.now c.args.i c.args.right.now c.args.j c.args.out.now _ (sym c.in_ok-left.ensures.count) _ _ _ (ap told_of (handed_on _ _ c.from_residual-in_err-right.ensures.1)) (sym c.in_err-right.ensures.count)
+returns-in_err-right c = right_refused c.args.left.now c.args.i c.args.right.now c.args.j c.args.out.now _ (sym c.in_ok-left.ensures.count) _ _ _ (ap (told_by made_in) (handed_on _ _ c.from_residual-in_err-right.ensures.1)) (sym c.in_err-right.ensures.count)
 
 pub returns-then-is_past_limit : goal.returns-then-is_past_limit
 unfolding most_qubits

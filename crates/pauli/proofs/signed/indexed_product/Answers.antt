@@ -20,7 +20,7 @@ loop-p-preserved-in-Some-get c =
       tt,
       c.loop-p.invariant.2 ∙ ap (λ is. product_at ls is (held c.loop-p.product)) c.in-Some.ensures.steps
           ∙ product_hit ls c.in-Some.p.0 _ _ (ltb-true _ _ (sym words.ensures.lookup.0)) words.words.now (held c.from_words.result) (held c.times.result.pauli)
-          words.ensures.lookup.1 c.from_words.ensures c.times.ensures,
+          words.ensures.lookup.1 c.from_words.ensures c.times.ensures.pauli,
     )
 
 pub loop-p-preserved : goal.loop-p-preserved
