@@ -11,7 +11,7 @@ use Rattle.binar.proofs.row.Bits.{bit_of_zero, xor_self}
 use Rattle.binar.proofs.Lists.{all_of, all_map, all_over}
 use Rattle.binar.proofs.echelon.Span.{if_bit_case}
 use Rattle.pauli.specs.Support.{All, Rising}
-use Rattle.pauli.specs.Pauli.{Pauli, I, normal, times, anticommute, order_four, select, indexed_product, phase}
+use Rattle.pauli.specs.Pauli.{Pauli, I, normal, times, order_four, select, indexed_product, phase}
 use Rattle.pauli.specs.Sets.{condense, expand}
 use Rattle.pauli.specs.PauliTheorems.{On, PauliOn}
 use Rattle.pauli.specs.Condense.{condensed}
@@ -21,7 +21,7 @@ use Rattle.pauli.proofs.signed.Products.{product_none, indexed_cons}
 use Rattle.pauli.proofs.condense.MoreBits.{in_or}
 use Rattle.pauli.proofs.condense.Places.{condense_lt, condense_sum, condense_or, condense_dot, expand_condense}
 use Rattle.pauli.proofs.condense.Rows.{on-I}
-use Rattle.pauli.proofs.write.Condensed.{condensed_times}
+use Rattle.pauli.proofs.write.Condensed.{condensed_times, condensed_anticommute}
 use Rattle.pauli_theory.specs.Standard.{if_zero, some_order_four, some_anticommute, appended, exponent_mod, bare, some_imaginary, some_minus}
 use Rattle.pauli_theory.proofs.Tests.{order_four_largest, imaginary, imaginary_largest, minus, minus_largest, largest_map, some_anticommute_map}
 use Rattle.pauli_theory.proofs.Grade.{sign_test}
@@ -88,12 +88,7 @@ module _ (qs : List ℕ) (h : Rising 0 qs) where
       ∙ condensed_times qs h a p (if_bit_case (PauliOn qs) (s % 2) (λ z. on-I qs) (λ l. on.0))
       ∙ ap (condensed qs) (sym (indexed_cons s g gs))
 
-  -- commutation, order and weight 0
-  pub condensed_anticommute : (p q : Pauli) → PauliOn qs p → anticommute (condensed qs p) (condensed qs q) ≡ anticommute p q
-  unfolding anticommute condensed
-  condensed_anticommute p q on =
-      ap₂ (λ (a b : ℕ). (a + b) % 2) (condense_dot qs h p.x q.z on.x) (condense_dot qs h p.z q.x on.z)
-
+  -- order and weight 0
   pub condensed_order_four : (p : Pauli) → PauliOn qs p → order_four (condensed qs p) ≡ order_four p
   unfolding order_four condensed
   condensed_order_four p on = ap (λ (d : ℕ). (p.e + d) % 2) (condense_dot qs h p.x p.z on.x)
@@ -127,7 +122,7 @@ module _ (qs : List ℕ) (h : Rising 0 qs) where
         ∙ sym (order_four_largest ps)
 
     pub condensed_some_anticommute : some_anticommute (map (condensed qs) ps) ≡ some_anticommute ps
-    condensed_some_anticommute = some_anticommute_map (condensed qs) (PauliOn qs) (λ p q a b. condensed_anticommute p q a) ps on
+    condensed_some_anticommute = some_anticommute_map (condensed qs) (PauliOn qs) (λ p q a b. condensed_anticommute qs h p q a) ps on
 
     pub condensed_some_imaginary : some_imaginary (map (condensed qs) ps) ≡ some_imaginary ps
     unfolding condensed

@@ -19,12 +19,12 @@ use Rattle.pauli.specs.Sets.{sparse_of}
 use Rattle.pauli.proofs.signed.Algebra.{pauli_path, normal_same, times_same}
 use Rattle.pauli.proofs.condense.Places.{condense_lt}
 use Rattle.pauli.proofs.condense.Rows.{on-I, on_times}
-use Rattle.pauli.proofs.write.Condensed.{condensed_times}
+use Rattle.pauli.proofs.write.Condensed.{condensed_times, condensed_anticommute}
 use Rattle.pauli_theory.specs.Standard.{support_of}
 use Rattle.pauli_theory.specs.Symplectic.{position, swap_remove, times_if, cleared, on_position, paired_from, symplectic_form}
 use Rattle.pauli_theory.proofs.Rows.{support_rises, support_on}
 use Rattle.pauli_theory.proofs.Symplectic.{symplectic_law}
-use Rattle.pauli_theory.proofs.Placed.{condensed-I, condensed_anticommute}
+use Rattle.pauli_theory.proofs.Placed.{condensed-I}
 use Rattle.pauli_theory.proofs.OverPlaces.{placed}
 use Rattle.pauli_theory.proofs.Written.{written_over}
 
