@@ -9,9 +9,9 @@ use Rattle.pauli.specs.Support.{All}
 use Rattle.pauli.proofs.support.Lists.{in_get_or}
 use Rattle.pauli.specs.declared.signed.Pauli.{Pauli as Held}
 use Rattle.pauli.specs.Pauli.{Pauli, I, normal, times}
-use Rattle.pauli.specs.Signed.{held, pauli_in, list_in}
+use Rattle.pauli.specs.Signed.{held, pauli_in, list_in, times_stored}
 use Rattle.pauli.proofs.signed.Algebra.{normal_lt, normal_times, times_normal_l, times_normal_r}
-use Rattle.pauli.proofs.signed.SignedLaws.{zero_bit}
+use Rattle.pauli.proofs.signed.SignedLaws.{zero_bit, times_value}
 use Rattle.pauli.proofs.write.Writers.{length_list}
 use Rattle.pauli_theory.specs.Inner.ModuloPlaces.{moved_pauli, pivot_place, multiplied_at, multiplied_over, multiplied_by_all_over}
 use Rattle.pauli_theory.proofs.ModuloPlaces.{over_next, over_end, pivot_place_lem}
@@ -19,7 +19,7 @@ use Rattle.pauli_group.specs.Inner.Area.{standard_at, further_at, stride_of, Out
 use Rattle.pauli_group.proofs.area.AreaLaws.{form_room}
 use Rattle.pauli_group.proofs.list.ListLaws.{list_map_at, on_places_at, pauli_kept, outside_refl, outside_join}
 use Rattle.pauli_group.specs.Inner.Moved.{Movable, MovablePauli}
-use Rattle.pauli_group.specs.Inner.Remainder.{Other, remainder_by}
+use Rattle.pauli_group.specs.Inner.Remainder.{multiplied_stored, Other, remainder_by}
 use Rattle.pauli_group.proofs.moved.MoveLaws.{loaded_movable, moved_value}
 
 -- ---- one Pauli at one place
@@ -39,15 +39,24 @@ one_lt true place g = bit_lt g.x place
 one_lt false place g = bit_lt g.z place
 
 module _ (is_x : Bool) (place : ℕ) (other g : Pauli) where
-  pub multiplied_hit : (b : ℕ) → b ≡ one_at is_x place g → b ≡ 1 → (r : Pauli) → normal r ≡ times g other
-      → normal r ≡ normal (multiplied_at is_x place other g)
-  unfolding multiplied_at if_bit
-  multiplied_hit b e h r t = let o : one_at is_x place g ≡ 1 = sym e ∙ h in rw o (t ∙ sym (normal_times g other))
+  pub multiplied_hit : (b : ℕ) → b ≡ one_at is_x place g → b ≡ 1 → (r : Pauli) → r ≡ times_stored g other
+      → r ≡ multiplied_stored is_x place other g
+  unfolding multiplied_stored if_bit
+  multiplied_hit b e h r t = let o : one_at is_x place g ≡ 1 = sym e ∙ h in rw o t
 
-  pub multiplied_miss : (b : ℕ) → b ≡ one_at is_x place g → (b ≡ 1 → ⊥) → normal g ≡ normal (multiplied_at is_x place other g)
-  unfolding multiplied_at if_bit
+  pub multiplied_miss : (b : ℕ) → b ≡ one_at is_x place g → (b ≡ 1 → ⊥) → g ≡ multiplied_stored is_x place other g
+  unfolding multiplied_stored if_bit
   multiplied_miss b e h =
       let o : one_at is_x place g ≡ 0 = zero_bit (one_at is_x place g) (one_lt is_x place g) (λ q. h (e ∙ q)) in rw o
+
+  -- by value it is what is defined
+  pub at_value : {r : Pauli} → r ≡ multiplied_stored is_x place other g → normal r ≡ normal (multiplied_at is_x place other g)
+  unfolding multiplied_stored multiplied_at if_bit
+  at_value e = ap normal e ∙ go (one_at is_x place g)
+    where
+      go : (k : ℕ) → normal (if_bit k (times_stored g other) g) ≡ normal (if_bit k (times g other) g)
+      go zero = refl
+      go (suc k) = times_value g other refl ∙ sym (normal_times g other)
 
 -- the product's value goes by the values of its factors
 pub multiplied_value : (is_x : Bool) (place : ℕ) (other g h : Pauli) → normal g ≡ normal h

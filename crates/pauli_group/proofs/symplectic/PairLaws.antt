@@ -10,14 +10,14 @@ use Rattle.binar.specs.Row.{if_bit}
 use Rattle.binar.proofs.Lists.{map_drop, map_set}
 use Rattle.pauli.specs.declared.signed.Pauli.{Pauli as Held}
 use Rattle.pauli.specs.Pauli.{Pauli, I, normal, times, anticommute}
-use Rattle.pauli.specs.Signed.{held, pauli_in, pauli_words, list_in, paulis_in}
+use Rattle.pauli.specs.Signed.{held, pauli_in, pauli_words, list_in, paulis_in, times_stored}
 use Rattle.pauli.specs.Condense.{list_of}
 use Rattle.pauli.specs.Known.{Gathered}
 use Rattle.pauli.specs.Roll.{support, count_of}
 use Rattle.pauli.specs.Told.{answer}
 use Rattle.pauli.specs.Writing.{OnPlaces, roll_over}
 use Rattle.pauli.proofs.signed.Algebra.{anticommute_lt, pauli_path, normal_times, times_normal_l, times_normal_r}
-use Rattle.pauli.proofs.signed.SignedLaws.{zero_bit}
+use Rattle.pauli.proofs.signed.SignedLaws.{zero_bit, times_value}
 use Rattle.pauli.proofs.write.Writers.{length_list}
 use Rattle.pauli_theory.specs.Symplectic.{position, swap_remove, times_if, cleared, on_position, paired_from, symplectic_form}
 use Rattle.pauli_theory.proofs.Form.{map_take}
@@ -29,7 +29,7 @@ use Rattle.pauli_theory.proofs.Written.{support_of_lem}
 use Rattle.pauli_group.specs.Inner.Groups.{over_support}
 use Rattle.pauli_group.specs.Calls.{paulis, symplectic_bytes}
 use Rattle.pauli_group.specs.Inner.Lists.{found, over_places, Tested}
-use Rattle.pauli_group.specs.Inner.Pairs.{paired_in, Plain, PairedTo}
+use Rattle.pauli_group.specs.Inner.Pairs.{times_if_stored, paired_in, Plain, PairedTo}
 use Rattle.pauli_group.specs.declared.symplectic.Pairing.{Pairing}
 use Rattle.pauli_group.proofs.group.GroupLaws.{own_few, known_is, listed, size_same}
 use Rattle.pauli_group.proofs.list.ListLaws.{pauli_kept, list_kept, list_kept_after, list_store, list_snoc, list_append, list_at_lem, store_outside, store_pauli, outside_join, outside_wider}
@@ -47,17 +47,26 @@ map_twice (p ∷ ps) = ap₂ (λ (q : Pauli) (qs : List Pauli). q ∷ qs) (norma
 -- ---- a product where the two anticommute
 
 module _ (p q g : Pauli) where
-  pub times_hit : anticommute g p ≡ 1 → (r : Pauli) → normal r ≡ times g q → normal r ≡ normal (times_if p q g)
-  unfolding times_if if_bit
-  times_hit h r e = rw h (e ∙ sym (normal_times g q))
+  pub times_hit : anticommute g p ≡ 1 → (r : Pauli) → r ≡ times_stored g q → r ≡ times_if_stored p q g
+  unfolding times_if_stored if_bit
+  times_hit h r e = rw h e
 
-  pub times_miss : anticommute g p ≡ 0 → normal g ≡ normal (times_if p q g)
-  unfolding times_if if_bit
+  pub times_miss : anticommute g p ≡ 0 → g ≡ times_if_stored p q g
+  unfolding times_if_stored if_bit
   times_miss h = rw h
 
-  times_value : normal (times_if p q g) ≡ normal (times_if (normal p) (normal q) (normal g))
+  -- by value it is what is defined
+  pub if_value : {r : Pauli} → r ≡ times_if_stored p q g → normal r ≡ normal (times_if p q g)
+  unfolding times_if_stored times_if if_bit
+  if_value e = ap normal e ∙ go (anticommute g p)
+    where
+      go : (d : ℕ) → normal (if_bit d (times_stored g q) g) ≡ normal (if_bit d (times g q) g)
+      go zero = refl
+      go (suc d) = times_value g q refl ∙ sym (normal_times g q)
+
+  if_normal : normal (times_if p q g) ≡ normal (times_if (normal p) (normal q) (normal g))
   unfolding times_if if_bit anticommute normal
-  times_value = go (anticommute g p)
+  if_normal = go (anticommute g p)
     where
       go : (d : ℕ) → normal (if_bit d (times g q) g) ≡ normal (if_bit d (times (normal g) (normal q)) (normal g))
       go zero = sym (normal_twice g)
@@ -127,7 +136,7 @@ module _ (x z : Pauli) where
 
 times_by_value : (p q g h : Pauli) → normal g ≡ normal h → normal (times_if p q g) ≡ normal (times_if p q h)
 times_by_value p q g h e =
-    times_value p q g ∙ ap (λ (r : Pauli). normal (times_if (normal p) (normal q) r)) e ∙ sym (times_value p q h)
+    if_normal p q g ∙ ap (λ (r : Pauli). normal (times_if (normal p) (normal q) r)) e ∙ sym (if_normal p q h)
 
 module _ (k n i : ℕ) (x z : Pauli) (gs : List Pauli) (count : length gs ≡ n) (h : i < n) (a g r : Pauli)
     (l : normal a ≡ normal (get_or gs i I)) (e : normal r ≡ normal (times_if z x g)) where
@@ -180,9 +189,9 @@ cleared_value k x z gs =
     let g' : Pauli → Pauli = λ p. times_if (normal z) (normal x) (times_if (normal x) (normal z) p) in
     map-append normal (map f (take k gs)) (map g (drop k gs))
     ∙ ap₂ (λ (ps qs : List Pauli). ps ++ qs)
-    (map_value f f' (λ p. times_value z x p) (take k gs) ∙ ap (λ (ps : List Pauli). map normal (map f' ps)) (map_take normal k gs))
+    (map_value f f' (λ p. if_normal z x p) (take k gs) ∙ ap (λ (ps : List Pauli). map normal (map f' ps)) (map_take normal k gs))
     (map_value g g'
-    (λ p. times_value z x (times_if x z p) ∙ ap (λ (q : Pauli). normal (times_if (normal z) (normal x) q)) (times_value x z p)
+    (λ p. if_normal z x (times_if x z p) ∙ ap (λ (q : Pauli). normal (times_if (normal z) (normal x) q)) (if_normal x z p)
     ∙ times_by_value (normal z) (normal x) _ _ (normal_twice _))
     (drop k gs) ∙ ap (λ (ps : List Pauli). map normal (map g' ps)) (sym (map_drop normal k gs)))
     ∙ sym (map-append normal (map f' (take k (map normal gs))) (map g' (drop k (map normal gs))))

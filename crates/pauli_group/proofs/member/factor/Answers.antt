@@ -1,5 +1,6 @@
 -- The element over the places of the support is solved for by the form; the exponent left is held to the phases.
 use Rattle.pauli.specs.Pauli.{indexed_product}
+use Rattle.pauli.proofs.signed.SignedLaws.{indexed_value}
 use Rattle.pauli_group.proofs.area.AreaLaws.{form_room, span_list}
 use Rattle.pauli_group.proofs.member.FactorLaws.{covered_readable, places_known, known_rises, asked_solvable, asked_on}
 use Rattle.pauli_group.proofs.member.FactorLaws.{factored_off, factored_none, factored_found, factored_phase}
@@ -40,7 +41,7 @@ returns-then-left-step-ne0-clause-told c =
     let list = span_list _ c.paulis.ensures.list c.generators.ensures in
     let over = rw c.step.ensures.0 at c.if-left-step-ne0.true in
     λ g. factored_phase g _ inside _ c.condense_from-p.ensures _ solved.told
-    _ (c.indexed_product-product.ensures ∙ ap (indexed_product _) (list ∙ kept))
+    _ (indexed_value _ _ c.indexed_product-product.ensures ∙ ap (indexed_product _) (list ∙ kept))
     _ (omega arith) over
 
 pub returns-clause-told : goal.returns-clause-told
@@ -51,5 +52,5 @@ returns-clause-told c =
     let list = span_list _ c.paulis.ensures.list c.generators.ensures in
     let whole = rw c.step.ensures.0 at c.if-left-step-ne0.false in
     λ g. factored_found g _ inside _ c.condense_from-p.ensures _ solved.told
-    _ (c.indexed_product-product.ensures ∙ ap (indexed_product _) (list ∙ kept))
+    _ (indexed_value _ _ c.indexed_product-product.ensures ∙ ap (indexed_product _) (list ∙ kept))
     _ (omega arith) whole

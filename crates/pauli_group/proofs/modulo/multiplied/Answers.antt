@@ -15,7 +15,7 @@ returns-then-contains c = let g = held c.args.p in
       | then-is_x w ↦ one_x c.args.is_x _ g _ _ w.if-is_x.true (ap set_in w.set-is) refl
       | else-is_x w ↦ one_z c.args.is_x _ g _ _ w.if-is_x.false (ap set_in w.set-is) refl
     ] in
-    multiplied_hit _ _ _ g _ one (eqb-true _ 1 (sym c.contains.ensures ∙ c.if-contains.true)) _ c.times.ensures
+    multiplied_hit _ _ _ g _ one (eqb-true _ 1 (sym c.contains.ensures ∙ c.if-contains.true)) _ c.times.ensures.pauli
 
 pub returns : goal.returns
 unfolding held

@@ -6,8 +6,8 @@ use Rattle.pauli.proofs.signed.Algebra.{anticommute_lt}
 use Rattle.pauli_group.proofs.symplectic.PairLaws.{times_hit, times_miss}
 use Rattle.pauli_group.proofs.symplectic.times_if.Goals as goal
 
-pub returns-then-anticommutes : goal.returns-then-anticommutes
-returns-then-anticommutes c = times_hit _ _ _ (eqb-true _ 1 (sym c.anticommutes.ensures ∙ c.if-anticommutes.true)) _ c.times.ensures
+pub returns-then-times : goal.returns-then-times
+returns-then-times c = times_hit _ _ _ (eqb-true _ 1 (sym c.times.ensures.anticommute ∙ c.if-times.true)) _ c.times-then-times.ensures.pauli
 
 pub returns : goal.returns
-returns c = times_miss _ _ _ (zero_bit _ (anticommute_lt _ _) (eqb-false _ 1 (sym c.anticommutes.ensures ∙ c.if-anticommutes.false)))
+returns c = times_miss _ _ _ (zero_bit _ (anticommute_lt _ _) (eqb-false _ 1 (sym c.times.ensures.anticommute ∙ c.if-times.false)))
