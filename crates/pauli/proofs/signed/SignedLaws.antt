@@ -2,7 +2,7 @@
 use Rattle.std.proofs.Common.{◌≡◌, ℕ, zero, suc, ◌+◌, ◌*◌, ◌%◌, ◌<◌, ◌≤◌, false, eqb, List, [], ◌∷◌, sym, refl, ap, ◌∙◌, add-zero, arith, length, get_or, take, drop, map, ne_eqb}
 use lib.Pow.{mod-mod-pow}
 use Rattle.pauli.specs.Pauli.{Pauli, I, normal, times, product_from, product, select, indexed_product}
-use Rattle.binar.specs.Row.{dot}
+use Rattle.binar.specs.Row.{dot, if_bit}
 use Rattle.pauli.specs.Signed.{pauli_in, list_in, paulis_in, stored, times_stored, stored_from, product_stored}
 use Rattle.pauli.proofs.signed.Algebra.{pauli_path, times_normal_l, normal_times}
 use Rattle.pauli.proofs.places.Members.{at_indexes, at_hit, at_past, select_members}
@@ -47,6 +47,12 @@ stored_value p e = ap normal e ∙ pauli_path (byte_value p.e) refl refl
 pub times_value : {h : Pauli} (p q : Pauli) → h ≡ times_stored p q → normal h ≡ times p q
 unfolding normal times_stored times
 times_value p q e = ap normal e ∙ pauli_path (byte_value (p.e + q.e + 2 * dot p.z q.x)) refl refl
+
+-- of a product that is made only where a bit is 1
+pub if_times_value : (d : ℕ) (g q : Pauli) → normal (if_bit d (times_stored g q) g) ≡ normal (if_bit d (times g q) g)
+unfolding if_bit
+if_times_value zero g q = refl
+if_times_value (suc d) g q = times_value g q refl ∙ sym (normal_times g q)
 
 from_stored : (p q : Pauli) (gs : List Pauli) → normal p ≡ normal q → normal (stored_from p gs) ≡ normal (product_from q gs)
 unfolding stored_from product_from

@@ -11,7 +11,7 @@ use Rattle.pauli.specs.declared.signed.Pauli.{Pauli as Held}
 use Rattle.pauli.specs.Pauli.{Pauli, I, normal, times}
 use Rattle.pauli.specs.Signed.{held, pauli_in, list_in, times_stored}
 use Rattle.pauli.proofs.signed.Algebra.{normal_lt, normal_times, times_normal_l, times_normal_r}
-use Rattle.pauli.proofs.signed.SignedLaws.{zero_bit, times_value}
+use Rattle.pauli.proofs.signed.SignedLaws.{zero_bit, if_times_value}
 use Rattle.pauli.proofs.write.Writers.{length_list}
 use Rattle.pauli_theory.specs.Inner.ModuloPlaces.{moved_pauli, pivot_place, multiplied_at, multiplied_over, multiplied_by_all_over}
 use Rattle.pauli_theory.proofs.ModuloPlaces.{over_next, over_end, pivot_place_lem}
@@ -51,12 +51,8 @@ module _ (is_x : Bool) (place : ℕ) (other g : Pauli) where
 
   -- by value it is what is defined
   pub at_value : {r : Pauli} → r ≡ multiplied_stored is_x place other g → normal r ≡ normal (multiplied_at is_x place other g)
-  unfolding multiplied_stored multiplied_at if_bit
-  at_value e = ap normal e ∙ go (one_at is_x place g)
-    where
-      go : (k : ℕ) → normal (if_bit k (times_stored g other) g) ≡ normal (if_bit k (times g other) g)
-      go zero = refl
-      go (suc k) = times_value g other refl ∙ sym (normal_times g other)
+  unfolding multiplied_stored multiplied_at
+  at_value e = ap normal e ∙ if_times_value (one_at is_x place g) g other
 
 -- the product's value goes by the values of its factors
 pub multiplied_value : (is_x : Bool) (place : ℕ) (other g h : Pauli) → normal g ≡ normal h

@@ -16,8 +16,8 @@ use Rattle.pauli.specs.Known.{Gathered}
 use Rattle.pauli.specs.Roll.{support, count_of}
 use Rattle.pauli.specs.Told.{answer}
 use Rattle.pauli.specs.Writing.{OnPlaces, roll_over}
-use Rattle.pauli.proofs.signed.Algebra.{anticommute_lt, pauli_path, normal_times, times_normal_l, times_normal_r}
-use Rattle.pauli.proofs.signed.SignedLaws.{zero_bit, times_value}
+use Rattle.pauli.proofs.signed.Algebra.{anticommute_lt, pauli_path, times_normal_l, times_normal_r}
+use Rattle.pauli.proofs.signed.SignedLaws.{zero_bit, if_times_value}
 use Rattle.pauli.proofs.write.Writers.{length_list}
 use Rattle.pauli_theory.specs.Symplectic.{position, swap_remove, times_if, cleared, on_position, paired_from, symplectic_form}
 use Rattle.pauli_theory.proofs.Form.{map_take}
@@ -56,13 +56,9 @@ module _ (p q g : Pauli) where
   times_miss h = rw h
 
   -- by value it is what is defined
-  pub if_value : {r : Pauli} → r ≡ times_if_stored p q g → normal r ≡ normal (times_if p q g)
-  unfolding times_if_stored times_if if_bit
-  if_value e = ap normal e ∙ go (anticommute g p)
-    where
-      go : (d : ℕ) → normal (if_bit d (times_stored g q) g) ≡ normal (if_bit d (times g q) g)
-      go zero = refl
-      go (suc d) = times_value g q refl ∙ sym (normal_times g q)
+  if_value : {r : Pauli} → r ≡ times_if_stored p q g → normal r ≡ normal (times_if p q g)
+  unfolding times_if_stored times_if
+  if_value e = ap normal e ∙ if_times_value (anticommute g p) g q
 
   if_normal : normal (times_if p q g) ≡ normal (times_if (normal p) (normal q) (normal g))
   unfolding times_if if_bit anticommute normal
@@ -139,14 +135,14 @@ times_by_value p q g h e =
     if_normal p q g ∙ ap (λ (r : Pauli). normal (times_if (normal p) (normal q) r)) e ∙ sym (if_normal p q h)
 
 module _ (k n i : ℕ) (x z : Pauli) (gs : List Pauli) (count : length gs ≡ n) (h : i < n) (a g r : Pauli)
-    (l : normal a ≡ normal (get_or gs i I)) (e : normal r ≡ normal (times_if z x g)) where
-  pub clear_after : k ≤ i → normal g ≡ normal (times_if x z a) → normal r ≡ normal (get_or (cleared k x z gs) i I)
+    (l : normal a ≡ normal (get_or gs i I)) (e : r ≡ times_if_stored z x g) where
+  pub clear_after : k ≤ i → g ≡ times_if_stored x z a → normal r ≡ normal (get_or (cleared k x z gs) i I)
   clear_after b f =
-      e ∙ times_by_value z x _ _ (f ∙ times_by_value x z _ _ l) ∙ ap normal (sym (cleared_from x z k i gs (omega arith) b))
+      if_value z x g e ∙ times_by_value z x _ _ (if_value x z a f ∙ times_by_value x z _ _ l) ∙ ap normal (sym (cleared_from x z k i gs (omega arith) b))
 
   pub clear_before : i < k → g ≡ a → normal r ≡ normal (get_or (cleared k x z gs) i I)
   clear_before b f =
-      e ∙ times_by_value z x _ _ (ap normal f ∙ l) ∙ ap normal (sym (cleared_before x z k i gs (omega arith) b))
+      if_value z x g e ∙ times_by_value z x _ _ (ap normal f ∙ l) ∙ ap normal (sym (cleared_before x z k i gs (omega arith) b))
 
 -- ---- lists of the same values
 

@@ -6,7 +6,7 @@ use Rattle.pauli.proofs.signed.SignedLaws.{stored_value}
 use Rattle.pauli_theory.specs.Symplectic.{cleared}
 use Rattle.pauli_theory.proofs.Symplectic.{cleared_length}
 use Rattle.pauli_group.proofs.list.ListLaws.{stored_none, stored_step, stored_all, list_at_lem, pauli_kept_after, outside_refl, store_further}
-use Rattle.pauli_group.proofs.symplectic.PairLaws.{if_value, clear_after, clear_before}
+use Rattle.pauli_group.proofs.symplectic.PairLaws.{clear_after, clear_before}
 use Rattle.pauli_group.proofs.symplectic.clear_pair.Goals as goal
 use Rattle.pauli_group.proofs.symplectic.clear_pair.Goals.{then-i-k, else-i-k}
 
@@ -29,8 +29,8 @@ loop-i-preserved c = let loop = c.loop-i in
     let same = stored_value _ load.ensures ∙ ap normal (pauli_kept_after loop.invariant.1 _ (omega arith) ∙ sym (list_at_lem w base n i I less)) in (
       stored_step normal (cleared k x z gs) base n w i loop.w loop.invariant.0 (cleared_length k x z gs ∙ count) I c.times_if.result less (omega (arith, c.told-w, c.args.list.inside))
           (elim c.if-i-k.branch [
-            | then-i-k h ↦ clear_after k n i x z gs count less (held load.result) (held c.if-i-k.g) (held c.times_if.result) same (if_value _ _ _ c.times_if.ensures) h.if-i-k.true (ap (λ q. normal (held q)) h.g-is ∙ if_value _ _ _ h.times_if-g.ensures)
-            | else-i-k h ↦ clear_before k n i x z gs count less (held load.result) (held c.if-i-k.g) (held c.times_if.result) same (if_value _ _ _ c.times_if.ensures) (omega (arith, h.if-i-k.false)) (ap held h.g-is)
+            | then-i-k h ↦ clear_after k n i x z gs count less (held load.result) (held c.if-i-k.g) (held c.times_if.result) same c.times_if.ensures h.if-i-k.true (ap held h.g-is ∙ h.times_if-g.ensures)
+            | else-i-k h ↦ clear_before k n i x z gs count less (held load.result) (held c.if-i-k.g) (held c.times_if.result) same c.times_if.ensures (omega (arith, h.if-i-k.false)) (ap held h.g-is)
           ])
           _ c.store.ensures,
       store_further w loop.w base i c.times_if.result loop.invariant.1 _ c.store.ensures,
