@@ -130,16 +130,16 @@ readable b n a i h ps inside =
 
 -- ---- a product over places, as it is stored and written
 
-stored : (m : Held) (w : List ℕ) → w ≡ sets (0 ∷ 0 ∷ 0 ∷ 0 ∷ 0 ∷ []) 0 (pauli_words m) → paulis_in (w ∷ []) ≡ normal (held m) ∷ []
+list_stored : (m : Held) (w : List ℕ) → w ≡ sets (0 ∷ 0 ∷ 0 ∷ 0 ∷ 0 ∷ []) 0 (pauli_words m) → paulis_in (w ∷ []) ≡ normal (held m) ∷ []
 unfolding paulis_in pauli_in pauli_words held set_in normal
-stored m w e = rw e refl
+list_stored m w e = rw e refl
 
 module _ (qs : List ℕ) (ps : List Sparse) (i : ℕ) (rs : List Sparse) (j : ℕ) (p q m : Held) (w : List ℕ)
     (hp : held p ≡ condensed qs (pauli_of (get_or ps i nothing))) (hq : held q ≡ condensed qs (pauli_of (get_or rs j nothing)))
     (hm : held m ≡ times_stored (held p) (held q)) (hw : w ≡ sets (0 ∷ 0 ∷ 0 ∷ 0 ∷ 0 ∷ []) 0 (pauli_words m)) where
   written_list : paulis_in (w ∷ []) ≡ product_over qs ps i rs j ∷ []
   unfolding product_over
-  written_list = stored m w hw ∙ ap (λ (u : Pauli). u ∷ []) (times_value _ _ hm ∙ ap₂ times hp hq)
+  written_list = list_stored m w hw ∙ ap (λ (u : Pauli). u ∷ []) (times_value _ _ hm ∙ ap₂ times hp hq)
 
   written_roll : roll_over qs (paulis_in (w ∷ [])) ≡ product_bytes qs ps i rs j
   unfolding product_bytes
@@ -151,7 +151,8 @@ module _ (qs : List ℕ) (ps : List Sparse) (i : ℕ) (rs : List Sparse) (j : �
   unfolding made_over anticommute_over
   written_told out t e = ap₂ made_with (ap₂ anticommute hp hq) (e ∙ ap (λ (bs : List ℕ). told_bytes (answer bs) out) written_roll)
 
-  pub written_left : (out out' : List ℕ) → out' ≡ left_in (answer (roll_over qs (paulis_in (w ∷ [])))) out → out' ≡ left_in (answer (product_bytes qs ps i rs j)) out
+  pub written_left : (out out' : List ℕ) → out' ≡ left_in (answer (roll_over qs (paulis_in (w ∷ [])))) out
+      → out' ≡ left_in (answer (product_bytes qs ps i rs j)) out
   written_left out out' e = e ∙ ap (λ (bs : List ℕ). left_in (answer bs) out) written_roll
 
   pub written_places : (n : ℕ) → length qs ≡ n → OnPlaces n (paulis_in (w ∷ []))
@@ -246,7 +247,8 @@ module _ (l : List ℕ) (i : ℕ) (r : List ℕ) (j : ℕ) (out : List ℕ) wher
                 ∙ product_roll (list_of l) i (list_of r) j (rw al.count hi) (rw ar.count hj))
                 ∙ sym (product_answer l i r j _ both_given)
 
-            bit_told : anticommute_over qs (list_of l) i (list_of r) j ≡ anticommute (pauli_of (get_or (list_of l) i nothing)) (pauli_of (get_or (list_of r) j nothing))
+            bit_told : anticommute_over qs (list_of l) i (list_of r) j
+                ≡ anticommute (pauli_of (get_or (list_of l) i nothing)) (pauli_of (get_or (list_of r) j nothing))
             bit_told =
                 ap (λ (ks : List ℕ). anticommute_over ks (list_of l) i (list_of r) j) (J.known few_joined)
                 ∙ product_bit (list_of l) i (list_of r) j (rw al.count hi) (rw ar.count hj)

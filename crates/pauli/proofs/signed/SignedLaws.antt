@@ -1,8 +1,8 @@
 -- Laws of signed Paulis as the code holds them: exponents that wrap, and lists of Paulis in words.
 use Rattle.std.proofs.Common.{◌≡◌, ℕ, zero, suc, ◌+◌, ◌*◌, ◌%◌, ◌<◌, ◌≤◌, false, eqb, List, [], ◌∷◌, sym, refl, ap, ◌∙◌, add-zero, arith, length, get_or, take, drop, map, ne_eqb}
 use lib.Pow.{mod-mod-pow}
-use Rattle.pauli.specs.Pauli.{Pauli, I, normal, times, product_from, product, select, indexed_product}
 use Rattle.binar.specs.Row.{dot, if_bit}
+use Rattle.pauli.specs.Pauli.{Pauli, I, normal, times, product_from, product, select, indexed_product}
 use Rattle.pauli.specs.Signed.{pauli_in, list_in, paulis_in, stored, times_stored, stored_from, product_stored}
 use Rattle.pauli.proofs.signed.Algebra.{pauli_path, times_normal_l, normal_times}
 use Rattle.pauli.proofs.places.Members.{at_indexes, at_hit, at_past, select_members}
@@ -132,4 +132,5 @@ module _ (ls : List (List ℕ)) where
     product_hit h l g r at e f =
         ap (stored_from p) (at_hit (paulis_in ls) i is I (rw length_paulis h))
         ∙ ap (λ (q : Pauli). stored_from q (at_indexes is (paulis_in ls)))
-        (ap (times_stored p) (pauli_at ls i l h ∙ ap (λ (ws : List ℕ). pauli_in ws 0) (sym at)) ∙ sym (times_byte p _) ∙ ap (times_stored p) (sym e) ∙ sym f)
+        (ap (times_stored p) (pauli_at ls i l h ∙ ap (λ (ws : List ℕ). pauli_in ws 0) (sym at)) ∙ sym (times_byte p _)
+        ∙ ap (times_stored p) (sym e) ∙ sym f)
