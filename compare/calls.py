@@ -48,6 +48,9 @@ CALLS = {
     18: Call("report", "report", 2, (), False),
     19: Call("members", "members", 2, (), True),
     20: Call("multiply", "product", 2, (7,), False),
+    21: Call("sizes", "join", 2, (2, 7), False),
+    22: Call("bound", "standard", 1, (), False),
+    23: Call("page", "elements", 1, (), True),
 }
 
 
@@ -141,11 +144,11 @@ def questions(r):
     kind = CALLS[r.op].kind
     p, q = PROMISES[r.p], PROMISES[r.q]
     first, second = [hexed(b) for b in (rolls_of(r) + (b"",))[:2]]
-    if r.op <= 6:
+    if r.op <= 6 or r.op == 22:
         return [f"{kind} {p} {first}"]
     if r.op == 7:
         return [f"{kind} {p} {first} {second} {r.a}"]
-    if r.op == 8:
+    if r.op in (8, 23):
         return [f"{kind} {p} {first} {r.a} {r.b}", f"rank n {first}"]
     if r.op == 9:
         return [f"{kind} {first}"]
@@ -153,7 +156,7 @@ def questions(r):
         return [f"{kind} {first} {r.a} {second} {r.b}"]
     if r.op == 20:
         return [f"{word} {first} {r.a} {second} {r.b}" for word in (kind, "commute")]
-    if r.op in (11, 12, 13, 18):
+    if r.op in (11, 12, 13, 18, 21):
         return [f"{kind} {first} {second}"]
     if r.op == 19:
         return [f"{kind} {p} {first} {second}"]
@@ -221,6 +224,19 @@ def members_result(answer):
     return Result(f"results {len(records)} wrote {sum(map(len, records))}", b"".join(records))
 
 
+def size_result(r, written):
+    """What the calls on sizes tell, by the roll that the call they speak of writes."""
+    paulis = roll.read(written)
+    if r.op == 21:
+        return Result(f"joined {len(written)} {len(paulis)} {roll.distinct(paulis)}", b"")
+    if r.op == 23:
+        return Result(f"page {len(paulis)}", b"")
+    own = roll.read(r.first)
+    bound = 2 + (10 + 8 * roll.distinct(own)) * max(len(own), 1)
+    assert len(written) <= bound, "the standard roll is longer than its bound"
+    return Result(f"bound {bound}", b"")
+
+
 def listing_result(r, answer, early):
     """The closing listing, or its only line where a roll is refused."""
     if early:
@@ -244,6 +260,8 @@ def answered(r, answer):
         return joined_result(r, answer)
     if r.op == 19:
         return members_result(answer)
+    if r.op in (21, 22, 23):
+        return size_result(r, unhex(answer))
     if r.op == 14:
         return Result(ORDERS[answer], b"")
     return wrote(unhex(answer))
@@ -256,7 +274,7 @@ def result(r, answers):
         return listing_result(r, answers[0], early)
     if early:
         return early
-    if r.op == 8 and int(answers[1]) > MOST_RANK:
+    if r.op in (8, 23) and int(answers[1]) > MOST_RANK:
         return Refusal(10, 0)
     if answers[0] == "refused 11":
         return Refusal(11, 0)
@@ -272,7 +290,7 @@ def is_bad(r, found, answers):
         return found.written.startswith(b"refused")
     if isinstance(found, Refusal) and found.number <= 8:
         return found.number < 8 or r.op < 12 or r.op == 20
-    return r.op == 8 and int(answers[1]) > MOST_RANK
+    return r.op in (8, 23) and int(answers[1]) > MOST_RANK
 
 
 def line(r, found):

@@ -32,7 +32,7 @@ import roll
 from calls import CALLS, PROMISES, Request, unhex
 from roll import Pauli, Refusal
 
-LAST = 20  # the last operation that replay has
+LAST = 23  # the last operation that replay has
 NAMES = {call.name: op for op, call in CALLS.items()}
 LISTING_OUTPUT = 131_072
 BLOCK = 10_000
@@ -51,17 +51,17 @@ def whole(op, p=0, q=0, a=0, b=0, first=b"", second=b""):
 def request_of(op, text):
     """The request of a line of the oracle's generator. Output and fill are chosen later."""
     w = text.split()[1:]
-    if op <= 6:
+    if op <= 6 or op == 22:
         return whole(op, PROMISES.index(w[0]), first=unhex(w[1]))
     if op == 7:
         return whole(op, PROMISES.index(w[0]), a=int(w[3]), first=unhex(w[1]), second=unhex(w[2]))
-    if op == 8:
+    if op in (8, 23):
         return whole(op, PROMISES.index(w[0]), a=int(w[2]), b=int(w[3]), first=unhex(w[1]))
     if op == 9:
         return whole(op, first=unhex(w[0]))
     if op in (10, 20):
         return whole(op, a=int(w[1]), b=int(w[3]), first=unhex(w[0]), second=unhex(w[2]))
-    if op <= 13:
+    if op <= 13 or op == 21:
         return whole(op, first=unhex(w[0]), second=unhex(w[1]))
     if op <= 17:
         return whole(op, PROMISES.index(w[0]), PROMISES.index(w[2]), first=unhex(w[1]), second=unhex(w[3]))
@@ -164,7 +164,7 @@ def compare_damaged(requests, rng, args, oracle, output=damage.output_for):
 
 def generators(r):
     """How many generators the request's lists have: elements are not counted, joined lists are."""
-    rolls = [r.first[4:] if r.op == 18 else r.first] + ([r.second] if 11 <= r.op <= 17 else [])
+    rolls = [r.first[4:] if r.op == 18 else r.first] + ([r.second] if 11 <= r.op <= 17 or r.op == 21 else [])
     return sum(int.from_bytes(b[:2], "little") for b in rolls)
 
 

@@ -208,7 +208,7 @@ def ways_of(op):
     ways += [damaged_numbers] * 2 if op in (7, 10, 12, 13, 20) else []
     ways += [damaged_work] * 2 if CALLS[op].area else []
     ways += [damaged_sizes] if CALLS[op].rolls == 2 else []
-    ways += [damaged_rank] if op == 8 else []
+    ways += [damaged_rank] if op in (8, 23) else []
     return ways
 
 
@@ -232,13 +232,13 @@ def damaged_input(rng, r):
 
 def idle_fields(rng, r):
     """Other values in the fields that the call does not take."""
-    if r.op in (0, 1, 2, 9, 10, 11, 12, 13, 18, 20):
+    if r.op in (0, 1, 2, 9, 10, 11, 12, 13, 18, 20, 21, 22):
         r = r._replace(p=rng.randrange(3))
-    if r.op < 14 or r.op in (19, 20):
+    if r.op < 14 or r.op >= 19:
         r = r._replace(q=rng.randrange(3))
-    if r.op not in (7, 8, 10, 12, 13, 20):
+    if r.op not in (7, 8, 10, 12, 13, 20, 23):
         r = r._replace(a=rng.randrange(NUMBERS))
-    if r.op not in (8, 10, 20):
+    if r.op not in (8, 10, 20, 23):
         r = r._replace(b=rng.randrange(NUMBERS))
     if CALLS[r.op].rolls == 1 or r.op == 18:
         r = r._replace(second=rng.randbytes(rng.randrange(20)))

@@ -18,14 +18,14 @@ def singles(count, start=0):
     return [Pauli(0, (q,), ()) for q in range(start, start + count)]
 
 
-def listings():
+def listings(op):
     """Starts around the end of the listing and around the widest count, for ranks up to 17."""
     for rank in (0, 1, 15, 16, 17):
         for power, more in I.items():
             size = PHASES[power] * 2**rank
             for a in (0, size - 2, size - 1, size, size + 1, 2**32 - 1):
                 for b in (0, 1, 16, 17, 127, 128, 129, 2**32 - 1):
-                    yield request(8, max(a, 0), b, singles(rank) + more)
+                    yield request(op, max(a, 0), b, singles(rank) + more)
 
 
 def at_limits(op):
@@ -39,7 +39,8 @@ def at_limits(op):
 
 
 def every():
-    yield from listings()
+    yield from listings(8)
+    yield from listings(23)
     for op in CALLS:
         if op != 18:
             yield from at_limits(op)

@@ -9,6 +9,8 @@ pub(crate) enum OnRolls {
     Product,
     // the same call, whose whole answer is printed
     Multiply,
+    Sizes,
+    Bound,
     Join,
     Body,
     Entry,
@@ -23,6 +25,7 @@ pub(crate) enum Asked {
     Stabilizer,
     Log2Size,
     Order,
+    Page,
 }
 
 // A call that takes a work area and writes a roll.
@@ -76,6 +79,9 @@ impl TryFrom<u8> for Operation {
             18 => Ok(Operation::Report),
             19 => Ok(Operation::Members),
             20 => Ok(Operation::OnRolls(OnRolls::Multiply)),
+            21 => Ok(Operation::OnRolls(OnRolls::Sizes)),
+            22 => Ok(Operation::OnRolls(OnRolls::Bound)),
+            23 => Ok(Operation::Asked(Asked::Page)),
             _ => Err(Unknown),
         }
     }

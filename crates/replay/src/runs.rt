@@ -3,7 +3,7 @@ use crate::lines::{end_line, end_work_line, print_wrote};
 use crate::request::{Asked, OnRolls, Operation, Request, Written};
 use crate::tells::{
     print_body, print_compared, print_decided, print_entry, print_member, print_multiplied,
-    print_number, print_phases, print_results,
+    print_number, print_phases, print_results, print_sizes,
 };
 use closing_report::report::closing_report;
 use factorizations::calls::indexed_factorizations_of;
@@ -21,6 +21,9 @@ use pauli_group::modulo::modulo;
 use pauli_group::order::partial_cmp;
 use pauli_group::quotient::try_quotient;
 use pauli_group::symplectic::symplectic_form_of;
+use sizes::bound::standard_bound;
+use sizes::joined::joined_sizes;
+use sizes::page::page_size;
 use std::io;
 use std::io::Write;
 
@@ -43,6 +46,8 @@ fn run_rolls<W: Write>(
         OnRolls::Check => print_number(to, "count", check_roll(first))?,
         OnRolls::Body => print_body(to, joined_body(first, second, a))?,
         OnRolls::Entry => print_entry(to, joined_entry(first, second, a))?,
+        OnRolls::Sizes => print_sizes(to, joined_sizes(first, second))?,
+        OnRolls::Bound => print_number(to, "bound", standard_bound(first))?,
     }
     Ok(0)
 }
@@ -66,6 +71,10 @@ fn run_asked<W: Write>(
         }
         Asked::Log2Size => print_number(to, "log2", log2_size(first, promise, work)),
         Asked::Order => print_compared(to, partial_cmp(first, second, promises, work)),
+        Asked::Page => {
+            let page = page_size(first, promise, request.a, request.b, work);
+            print_number(to, "page", page)
+        }
     }
 }
 

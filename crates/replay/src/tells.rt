@@ -6,6 +6,7 @@ use pauli::lookup::JoinedEntry;
 use pauli::product::Multiplied;
 use pauli::refusal::Refusal;
 use pauli_group::answers::{Factors, Phases};
+use sizes::answers::JoinedSizes;
 use std::cmp::Ordering;
 use std::io;
 use std::io::Write;
@@ -78,6 +79,16 @@ pub(crate) fn print_multiplied<W: Write>(
             write!(to, "{refusal}")?;
             Ok(0)
         }
+    }
+}
+
+pub(crate) fn print_sizes<W: Write>(
+    to: &mut W,
+    found: Result<JoinedSizes, Refusal>,
+) -> io::Result<()> {
+    match found {
+        Ok(s) => write!(to, "joined {} {} {}", s.bytes, s.count, s.qubits),
+        Err(refusal) => write!(to, "{refusal}"),
     }
 }
 
