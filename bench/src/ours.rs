@@ -1,6 +1,6 @@
 //! Requests answered by the static library.
 use crate::requests::{Call, Request};
-use howhiruke::{Membership, Order, Phases, Product, Promise, Refusal, Results};
+use howhiruke::{JoinedSizes, Membership, Order, Phases, Product, Promise, Refusal, Results};
 
 /// What a call tells: up to three numbers, and how many bytes it wrote.
 pub type Told = ([u64; 3], usize);
@@ -56,6 +56,10 @@ fn product(answer: Result<Product, Refusal>) -> Told {
     answer.map_or_else(refused, |product| ([u64::from(product.anticommute), 0, 0], product.bytes))
 }
 
+fn sizes(answer: Result<JoinedSizes, Refusal>) -> Told {
+    answer.map_or_else(refused, |sizes| ([sizes.bytes as u64, sizes.paulis as u64, sizes.qubits as u64], 0))
+}
+
 fn memberships(answer: Result<Results, Refusal>) -> Told {
     answer.map_or_else(refused, |results| ([results.count as u64, results.bytes as u64, 0], results.bytes))
 }
@@ -85,6 +89,9 @@ impl Areas {
                 memberships(howhiruke::indexed_factorizations_of(left, right, NONE, work, out))
             }
             Call::Elements(start) => roll(howhiruke::elements(left, NONE, start, 128, work, out)),
+            Call::JoinedSizes => sizes(howhiruke::joined_sizes(left, right)),
+            Call::StandardBound => number(howhiruke::standard_bound(left)),
+            Call::PageSize(start) => number(howhiruke::page_size(left, NONE, start, 128, work)),
             Call::SymplecticForm => roll(howhiruke::symplectic_form_of(left, work, out)),
             Call::PartialCmp => order(howhiruke::partial_cmp(left, right, NONE, NONE, work)),
             Call::Modulo => roll(howhiruke::modulo(left, right, NONE, NONE, work, out)),

@@ -21,6 +21,9 @@ pub enum Call {
     /// So many elements, members and others in turn.
     Factorizations(usize),
     Elements(u32),
+    JoinedSizes,
+    StandardBound,
+    PageSize(u32),
     SymplecticForm,
     PartialCmp,
     Modulo,
@@ -85,7 +88,7 @@ impl Case {
 pub const PAGE_START: u32 = 1000;
 pub const MANY: &str = "indexed_factorizations_of";
 
-pub const CASES: [Case; 27] = [
+pub const CASES: [Case; 30] = [
     case(Call::CheckRoll, "check_roll", "", Relation::None),
     case(Call::Product, "product", "", Relation::Apart),
     case(Call::Join, "join", "", Relation::Apart),
@@ -103,6 +106,9 @@ pub const CASES: [Case; 27] = [
     case(Call::Factorizations(128), MANY, "128 elements", Relation::None),
     case(Call::Elements(0), "elements", "first page", Relation::None),
     case(Call::Elements(PAGE_START), "elements", "later page", Relation::None),
+    case(Call::JoinedSizes, "joined_sizes", "", Relation::Apart),
+    case(Call::StandardBound, "standard_bound", "", Relation::None),
+    case(Call::PageSize(PAGE_START), "page_size", "later page", Relation::None),
     case(Call::SymplecticForm, "symplectic_form_of", "", Relation::None),
     case(Call::PartialCmp, "partial_cmp", "equal", Relation::Same),
     case(Call::PartialCmp, "partial_cmp", "inside", Relation::Around),
@@ -139,7 +145,7 @@ const MOST_INPUT: usize = 65_536;
 pub fn generators_of(call: Call) -> &'static [usize] {
     match call {
         Call::Elements(0) => &[2, 10, 16],
-        Call::Elements(_) => &[10, 16],
+        Call::Elements(_) | Call::PageSize(_) => &[10, 16],
         _ => &[2, 10, 40, 128],
     }
 }

@@ -1,5 +1,6 @@
 //! The same requests answered by the Rust original, from the same bytes to the same bytes. Every call reads its rolls and makes its
 //! groups anew.
+use crate::lists;
 use crate::ours::REFUSED;
 use crate::requests::{Call, Request};
 use binar::Bitwise;
@@ -40,6 +41,8 @@ pub fn call(request: &Request) -> Told {
         Call::IsStabilizerGroup => number(usize::from(group(left).is_stabilizer_group())),
         Call::Log2Size => number(group(left).log2_size()),
         Call::Elements(start) => page(left, start),
+        Call::StandardBound => number(bound(&list(left))),
+        Call::PageSize(start) => number(group(left).elements().skip(start as usize).take(128).count()),
         Call::SymplecticForm => symplectic(left),
         Call::ClosingReport => report(left),
         _ => on_two(request),
@@ -53,6 +56,7 @@ fn on_two(request: &Request) -> Told {
         Call::Product => product(request),
         Call::Factorization => member(request),
         Call::Factorizations(_) => members(left, right),
+        Call::JoinedSizes => joined_sizes(left, right),
         Call::Join => written((&group(left) | &group(right)).generators()),
         Call::PartialCmp => number(order(group(left).partial_cmp(&group(right)))),
         Call::Modulo => written(group(left).modulo(&group(right)).generators()),
@@ -70,6 +74,16 @@ fn product(request: &Request) -> Told {
     let anticommute = u64::from(!commutes_with(&product, &other));
     product.mul_assign_right(&other);
     ([anticommute, 0, 0], written(&[product]).1)
+}
+
+/// The sizes of the joined roll, which is made and written for it.
+fn joined_sizes(left: &[u8], right: &[u8]) -> Told {
+    let joined: Vec<Plain> = (&group(left) | &group(right)).generators().iter().map(to_plain).collect();
+    ([roll::write(&joined).len() as u64, joined.len() as u64, lists::support(&joined).len() as u64], Vec::new())
+}
+
+fn bound(list: &[Plain]) -> usize {
+    2 + (10 + 8 * lists::support(list).len()) * list.len().max(1)
 }
 
 fn member(request: &Request) -> Told {
