@@ -1,3 +1,4 @@
 pub mod Algebra
 pub mod Products
 pub mod SignedLaws
+pub mod CrossLaws

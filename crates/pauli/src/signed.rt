@@ -32,17 +32,26 @@ struct Crossed {
     anticommute: bool,
 }
 
-// The one test of anticommutation.
+// The one test of anticommutation: one walk over the words of the factors' sets. It collects what z of the left one shares with u, x of
+// the right one; and, merged with that, what x of the left one shares with v, z of the right one.
 fn cross(p: Pauli, q: Pauli) -> Crossed
     ensures sign { (result.sign ≡ dot (set_in p.z) (set_in q.x)) × (result.sign < 2) }
     ensures anticommute { result.anticommute ≡ (anticommute (held p) (held q) == 1) }
 {
-    let x = p.x;
-    let z = p.z;
-    let sign = z.dot(q.x);
+    let x = [p.x.low, p.x.high];
+    let z = [p.z.low, p.z.high];
+    let u = [q.x.low, q.x.high];
+    let v = [q.z.low, q.z.high];
+    let mut crossed = 0u64;
+    let mut clashing = 0u64;
+    for i in 0..2 {
+        let zu = z[i] & u[i];
+        crossed = crossed ^ zu;
+        clashing = clashing ^ (x[i] & v[i]) ^ zu;
+    }
     Crossed {
-        sign,
-        anticommute: (x.dot(q.z) + sign) % 2 == 1,
+        sign: (u64::count_ones(crossed) % 2) as u64,
+        anticommute: u64::count_ones(clashing) % 2 == 1,
     }
 }
 
