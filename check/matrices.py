@@ -80,6 +80,17 @@ def solve(r, t, pivots, target):
     return combine(coefficients, t, len(t))
 
 
+def kernel(r, pivots, cols):
+    """A basis of the rows that share an even number of ones with each row of R: one for each column that is no pivot."""
+    basis = []
+    for free in (c for c in range(cols) if c not in pivots):
+        row = [1 if c == free else 0 for c in range(cols)]
+        for pivot, reduced in zip(pivots, r):
+            row[pivot] = reduced[free]
+        basis.append(row)
+    return basis
+
+
 def text(bits):
     return "".join(str(b) for b in bits) if bits else "-"
 
@@ -99,6 +110,9 @@ def report(matrix, cols):
         unit = [1 if c == free else 0 for c in range(cols)]
         assert solve(r, t, pivots, unit) is None, "no set sums to a free column's unit"
         lines.append("solve none")
+    basis = kernel(r, pivots, cols)
+    assert all(sum(x * y for x, y in zip(a, b)) % 2 == 0 for a in basis for b in matrix), "the overlaps are even"
+    lines += [f"kernel {len(basis)}"] + [text(row) for row in basis]
     return lines, len(pivots)
 
 

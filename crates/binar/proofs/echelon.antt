@@ -7,6 +7,8 @@ pub mod Transform
 pub mod Dimension
 pub mod Space
 pub mod Solve
+pub mod FreeColumns
+pub mod Kernel
 pub mod Bounds
 pub mod Matrix
 pub mod Search

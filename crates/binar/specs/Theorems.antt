@@ -1,13 +1,14 @@
 -- What is proved of the echelon form, for every matrix A and every number c of columns. Each statement is a type; its
 -- proof, a term of it, is in proofs/.
-use Rattle.std.specs.Prelude.{◌≡◌, Bool, true, false, List, map, ℕ, ◌+◌, ◌*◌, ◌/◌, ◌%◌, ◌^◌, ◌≤◌, ◌<◌, length, get_or, take, Option, Some, None}
+use Rattle.std.specs.Prelude.{◌≡◌, Bool, true, false, List, map, ℕ, ◌+◌, ◌*◌, ◌/◌, ◌%◌, ◌^◌, ◌≤◌, ◌<◌, length, get_or, take, drop, Option, Some, None}
 use Rattle.std.proofs.Math.Option.{some, none}
-use Rattle.binar.specs.Row.{columns, row_sum, units}
+use Rattle.binar.specs.Row.{bit, dot, columns, row_sum, units}
 use Rattle.binar.specs.Echelon.{echelon, R, T, rank}
 use Rattle.binar.specs.Solve.{solved, transpose_solve}
 use Rattle.binar.specs.Words.{row_at, matrix}
-use Rattle.binar.specs.Layout.{form_stride, fits, FormIs, form_in, FormLeft, swept, SolutionIs}
+use Rattle.binar.specs.Layout.{form_stride, fits, FormIs, form_in, FormLeft, swept, SolutionIs, kernel_place, KernelIs}
 use Rattle.binar.specs.Space.{RowSpace, SameSpace, ReducedForm, Independent, Dimension}
+use Rattle.binar.specs.Kernel.{kernel_basis}
 
 -- 1. T·A = R over GF(2), where T is a square matrix
 pub record TransformLaw (c : ℕ) (A : List ℕ) : Type 0 where
@@ -81,3 +82,46 @@ abbrev pub CallsLaw : Type 0
 CallsLaw =
     (l x w : List ℕ) (width n cols r place v : ℕ) → FormIs l width n cols (Some r) x → Targeted x w width n r place v
     → SetLaw l w width n cols r place v
+
+-- 9. The rows of `kernel_basis_matrix`: one for each free column, rising, with a one there and in no other free column; at each pivot it has
+-- the entry of the pivot's row of R in that column
+pub record KernelRowsLaw (c : ℕ) (A : List ℕ) : Type 0 where
+  -- the free columns: with the pivots they are all columns
+  pub free : List ℕ
+  pub rise : (i j : ℕ) → i < j → j < length free → get_or free i 0 < get_or free j 0
+  pub inside : (i : ℕ) → i < length free → get_or free i 0 < c
+  pub no_pivot : (i j : ℕ) → i < length free → j < rank (echelon c A) → get_or free i 0 ≡ get_or (echelon c A).pivots j 0 → ⊥
+  pub all_columns : length free + rank (echelon c A) ≡ c
+  pub count : length (kernel_basis c A) ≡ length free
+  pub own : (i : ℕ) → i < length free → bit (get_or (kernel_basis c A) i 0) (get_or free i 0) ≡ 1
+  pub others : (i j : ℕ) → i < length free → j < length free → (i ≡ j → ⊥) → bit (get_or (kernel_basis c A) i 0) (get_or free j 0) ≡ 0
+  pub at_pivots : (i j : ℕ) → i < length free → j < rank (echelon c A)
+      → bit (get_or (kernel_basis c A) i 0) (get_or (echelon c A).pivots j 0) ≡ bit (get_or (R (echelon c A)) j 0) (get_or free i 0)
+
+-- 10. They are a basis of the rows of c columns that have an even overlap with every row of A: "a vector is a sum of the rows exactly when
+-- its overlap with every row of A is even; the rows are independent; with the rank they number the columns"
+pub record KernelLaw (c : ℕ) (A : List ℕ) : Type 0 where
+  pub narrow : (i : ℕ) → get_or (kernel_basis c A) i 0 < 2 ^ c
+  pub sound : (v : ℕ) → RowSpace (kernel_basis c A) v → (j : ℕ) → dot v (get_or (columns c A) j 0) ≡ 0
+  pub complete : (v : ℕ) → v < 2 ^ c → ((j : ℕ) → dot v (get_or (columns c A) j 0) ≡ 0) → RowSpace (kernel_basis c A) v
+  pub independent : Independent (kernel_basis c A)
+  pub count : (d : ℕ) → Dimension (columns c A) d → length (kernel_basis c A) + d ≡ c
+  -- a row that has an even overlap with each of them is in the row space; so one outside it has an odd overlap with some
+  pub dual : (v : ℕ) → v < 2 ^ c → ((i : ℕ) → dot (get_or (kernel_basis c A) i 0) v ≡ 0) → RowSpace (columns c A) v
+  pub odd : (v : ℕ) → v < 2 ^ c → (RowSpace (columns c A) v → ⊥)
+      → (i : ℕ) × (i < length (kernel_basis c A)) × (dot (get_or (kernel_basis c A) i 0) v ≡ 1)
+  -- a matrix with the same row space has the same kernel rows
+  pub same : (B : List ℕ) → SameSpace (columns c A) (columns c B) → kernel_basis c A ≡ kernel_basis c B
+
+-- `kernel_basis_matrix` told r rows and left x: of the matrix A that was in l and the rows K that are in x, what the tenth law says
+pub record KernelFound (l x : List ℕ) (width n cols r : ℕ) : Type 0 where
+  pub sound : let A = columns cols (matrix (form_stride width n) n l) in let K = matrix width r (drop (kernel_place width n) x) in
+      (v : ℕ) → RowSpace K v → (v < 2 ^ cols) × ((j : ℕ) → dot v (get_or A j 0) ≡ 0)
+  pub complete : let A = columns cols (matrix (form_stride width n) n l) in let K = matrix width r (drop (kernel_place width n) x) in
+      (v : ℕ) → v < 2 ^ cols → ((j : ℕ) → dot v (get_or A j 0) ≡ 0) → RowSpace K v
+  pub independent : Independent (matrix width r (drop (kernel_place width n) x))
+  pub count : (d : ℕ) → Dimension (columns cols (matrix (form_stride width n) n l)) d → r + d ≡ cols
+
+-- 11. That, of the call as its contract has it
+abbrev pub KernelCallLaw : Type 0
+KernelCallLaw = (l x : List ℕ) (width n cols r : ℕ) → KernelIs l width n cols (Some r) x → KernelFound l x width n cols r

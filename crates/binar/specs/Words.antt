@@ -19,6 +19,11 @@ row_at l i n = value (take n (drop i l))
 unfoldable pub put_row : List ℕ → ℕ → ℕ → ℕ → List ℕ
 put_row l i n v = take i l ++ (words n v ++ drop (i + n) l)
 
+-- a slice with the rows of a matrix, n words each, one after the other from word i on
+unfoldable pub put_rows : List ℕ → ℕ → ℕ → List ℕ → List ℕ
+put_rows l i n [] = l
+put_rows l i n (v ∷ M) = put_rows (put_row l i n v) (i + n) n M
+
 -- the rows of n words at words i and j: both lie in the slice, and they are the same or have no word in common
 pub record TwoRows (l : List ℕ) (i j n : ℕ) : Type 0 where
   pub first : i + n ≤ length l

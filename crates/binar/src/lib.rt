@@ -12,3 +12,5 @@ pub mod sum;
 pub mod echelon;
 // The echelon form of a matrix of any shape, and solving with it.
 pub mod matrix_form;
+// A basis of the kernel of a matrix of any shape.
+pub mod kernel;

@@ -9,7 +9,7 @@ use crate::row::{clear_bits, index, is_zero};
 use crate::sum::bitxor_assign;
 
 // Writes row i of the identity behind the first width words of the row of stride words at word at.
-fn unit_row(w: &mut [u64], at: usize, width: usize, stride: usize, i: usize)
+pub(crate) fn unit_row(w: &mut [u64], at: usize, width: usize, stride: usize, i: usize)
     requires { (at + stride ≤ length w.old) × (width + i / 64 < stride) }
     ensures { w.new ≡ put_row w.old at stride (row_at w.old at stride % 2 ^ (64 * width) + 2 ^ (64 * width) * 2 ^ i) }
 {
@@ -28,7 +28,7 @@ fn write_identity(w: &mut [u64], width: usize, shape: Layout)
 }
 
 // Whether a matrix of rows rows, cols columns in width words each, fits a slice of n words with T and the pivots.
-fn fits_in(width: usize, rows: usize, cols: usize, n: usize) -> bool
+pub(crate) fn fits_in(width: usize, rows: usize, cols: usize, n: usize) -> bool
     requires { n < 2 ^ 60 }
     ensures { result ≡ fits width rows cols n }
 {

@@ -1,7 +1,7 @@
-// The echelon forms of fixed matrices, and sets of rows that sum to a target.
+// The echelon forms of fixed matrices, sets of rows that sum to a target, and bases of their kernels.
 //
-// For each matrix: a line with its rank and pivots; its rows of R and T; the set of rows that sums to rows 0, 2, 4, ..; and,
-// where the rank is below the number of columns, the answer for a target outside the row space.
+// For each matrix: a line with its rank and pivots; its rows of R and T; the set of rows that sums to rows 0, 2, 4, ..; where the
+// rank is below the number of columns, the answer for a target outside the row space; and the basis of the kernel.
 
 #![tactic(auto)]
 
@@ -10,6 +10,7 @@ ghost use Rattle.binar.specs.Layout.{FormLeft};
 ghost use Rattle.matrices.specs.Room.{Room, SameBefore};
 
 use binar::echelon::Layout;
+use binar::kernel::kernel_basis_matrix;
 use binar::matrix_form::{echelon_form, transpose_solve};
 use binar::row::{clear_bits, index};
 use binar::sum::bitxor_assign;
@@ -128,7 +129,24 @@ fn print_solution<W: Write>(
     }
 }
 
-// Prints all that is said of the matrix at the front of w. Its T words and the target's row are zero at entry.
+// Prints the basis of the kernel of the matrix at the front of w.
+fn print_kernel<W: Write>(out: &mut W, w: &mut [u64], width: usize, shape: Layout) -> io::Result<()>
+    requires { shape.stride ≡ width + (shape.rows + 63) / 64 }
+{
+    let Some(count) = kernel_basis_matrix(w, width, shape.rows, shape.cols) else {
+        return out.write_all(b"misfit\n");
+    };
+    writeln!(out, "kernel {count}")?;
+    let at = shape.rows * shape.stride + shape.rows;
+    for i in 0..count {
+        print_bits(out, w, at + i * width, shape.cols)?;
+        writeln!(out)?;
+    }
+    Ok(())
+}
+
+// Prints all that is said of the matrix at the front of w. Its T words and the target's row are zero at entry. Its kernel is that
+// of R, which then stands there.
 fn print_form<W: Write>(out: &mut W, w: &mut [u64], width: usize, shape: Layout) -> io::Result<()>
     requires { Room width shape.rows shape.cols (length w.old) × (shape.stride ≡ width + (shape.rows + 63) / 64) }
 {
@@ -146,7 +164,7 @@ fn print_form<W: Write>(out: &mut W, w: &mut [u64], width: usize, shape: Layout)
         set_unit(w, at, shape.stride, free);
         print_solution(out, w, width, shape, rank, at)?;
     }
-    Ok(())
+    print_kernel(out, w, width, shape)
 }
 
 // ---- matrices: `given`, `random` and `repeated` share three lines and differ in what fills the rows; a function over a closure

@@ -1,11 +1,11 @@
 -- What a refusal tells.
 use Rattle.std.specs.Prelude.{ℕ, Result, Ok, Err}
 use Rattle.pauli.specs.declared.refusal.Reason.{Reason}
-use Rattle.pauli.specs.declared.refusal.Reason.TheVariants.{Length, Paulis, Entry, Exponent, Qubit, Rising, Qubits, Number, Work, Listing, Subgroup, Output}
+use Rattle.pauli.specs.declared.refusal.Reason.TheVariants.{Length, Paulis, Entry, Exponent, Qubit, Rising, Qubits, Number, Work, Listing, Subgroup, Output, Support}
 use Rattle.pauli.specs.declared.refusal.Refusal.{Refusal}
 use Rattle.pauli.specs.Told.{Told, answer, refused}
 
--- the table of "Turned back"
+-- the table of "Turned back", and the numbers of document 02
 abbrev pub number_of : Reason → ℕ
 number_of Length = 1
 number_of Paulis = 2
@@ -19,6 +19,7 @@ number_of Work = 9
 number_of Listing = 10
 number_of Subgroup = 11
 number_of Output = 12
+number_of Support = 13
 
 -- "A refusal carries its number and its place"
 abbrev pub told_refusal : {A : Type 0} → Refusal → Told A

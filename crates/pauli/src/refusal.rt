@@ -31,6 +31,8 @@ pub enum Reason {
     Subgroup = 11,
     // The output is shorter than the result.
     Output = 12,
+    // The named support does not rise strictly, passes the qubit limit, or is too large together with the list's own.
+    Support = 13,
 }
 
 // A refusal's reason and its place: the Pauli's index in its own roll, or 0.

@@ -61,7 +61,7 @@ module _ (l x : List ℕ) (width n cols r : ℕ) (F : FormIs l width n cols (Som
   abbrev E : EchelonForm
   E = echelon cols A
 
-  told_fits : fits width n cols (length l) ≡ true
+  pub told_fits : fits width n cols (length l) ≡ true
   told_fits = go (fits width n cols (length l)) refl
     where
       go : (b : Bool) → fits width n cols (length l) ≡ b → fits width n cols (length l) ≡ true
@@ -74,24 +74,27 @@ module _ (l x : List ℕ) (width n cols r : ℕ) (F : FormIs l width n cols (Som
   pub told_rows : r ≤ n
   told_rows = omega (arith, told_rank_lem, rank_rows cols A, length_matrix s n l)
 
-  form_here : form_in s n width cols r x ≡ E
+  pub form_here : form_in s n width cols r x ≡ E
   form_here = ap (λ (k : ℕ). form_in s n width cols k x) told_rank_lem ∙ ((form_law l width n cols (Some r) x F).fitting told_fits).1
 
-  -- it requires no more than a target behind the pivots
+  -- the pivots are columns
+  pub told_inside : (k : ℕ) → k < r → get_or x (n * s + k) 0 < cols
+  unfolding form_in rank
+  told_inside k b =
+      subst (λ (p : ℕ). p < cols)
+      (ap (λ (f : EchelonForm). get_or f.pivots k 0) (sym form_here) ∙ get_or-take r (drop (n * s) x) k 0 b ∙ get_or-drop (n * s) x k 0)
+      ((to_form (R-reduced cols A) (R-narrow cols A)).inside k (subst (λ (m : ℕ). k < m) told_rank_lem b))
+
+  -- it requires no more than a target behind them
   pub form_left : (place : ℕ) → n * s + r ≤ place → place + s ≤ length x → FormLeft x s n cols r place
-  unfolding form_in form_stride rank
+  unfolding form_stride
   form_left place behind room = record {
     rows = told_rows;
     pivots = behind;
     target = room;
     wide = omega (arith, (fits_true width n cols (length l) told_fits).0);
-    inside = λ k b. subst (λ (p : ℕ). p < cols)
-        (ap (λ (f : EchelonForm). get_or f.pivots k 0) (sym form_here) ∙ get_or-take r (drop (n * s) x) k 0 b ∙ get_or-drop (n * s) x k 0)
-        (pivot_in k (subst (λ (m : ℕ). k < m) told_rank_lem b));
+    inside = told_inside;
   }
-    where
-      pivot_in : (k : ℕ) → k < rank E → get_or E.pivots k 0 < cols
-      pivot_in = (to_form (R-reduced cols A) (R-narrow cols A)).inside
 
   rows_below : Below (64 * s) (matrix s n x)
   rows_below =

@@ -1,4 +1,4 @@
--- The theorems of specs/Theorems.antt, put together from their parts; the last three are proved in Reading and Solving.
+-- The theorems of specs/Theorems.antt, put together from their parts; the last six are proved in Reading, Solving, Kernel and Found.
 use mathlib.Core.List.{List}
 use Prim.Native.Nat.{ℕ}
 use Rattle.binar.specs.Echelon.{rank}
@@ -11,6 +11,8 @@ use Rattle.binar.proofs.echelon.Space.{R-reduced, R-narrow, R-space, T-inverse, 
 use Rattle.binar.proofs.echelon.Solve.{solve_sound, solve_none, none_solves}
 pub use Rattle.binar.proofs.matrix_form.Reading.{form_law, solution_law}
 pub use Rattle.binar.proofs.matrix_form.Solving.{calls_law}
+pub use Rattle.binar.proofs.echelon.Kernel.{kernel_rows_law, kernel_law}
+pub use Rattle.binar.proofs.kernel.Found.{kernel_call_law}
 
 pub transform_law : (c : ℕ) (A : List ℕ) → TransformLaw c A
 transform_law c A = record { count = rows_count c A; square = T-square c A; product = T-product c A }

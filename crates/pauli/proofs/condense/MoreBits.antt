@@ -1,10 +1,10 @@
--- More laws of bits: unions, sums and common parts, a single one, and equality by ones.
-use Rattle.std.proofs.Common.{◌≡◌, ℕ, zero, suc, ◌+◌, ◌*◌, ◌/◌, ◌%◌, ◌^◌, ◌<◌, max, ◌⊎◌, sym, refl, ap, ◌∙◌, ap₂, inl, inr, arith}
+-- More laws of bits: unions, sums and common parts, and equality by ones.
+use Rattle.std.proofs.Common.{◌≡◌, ℕ, zero, suc, ◌+◌, ◌*◌, ◌/◌, ◌%◌, ◌^◌, ◌<◌, max, ◌⊎◌, sym, refl, ◌∙◌, inl, inr, arith}
 use native.Mathlib.Decide.{dec_lt}
-use lib.Bits.{bit_and, bit_or, or_step, or_shr, and_shr}
-use lib.Count.{ones, ones_step}
-use Rattle.binar.specs.Row.{◌⊕◌, bit, dot}
-use Rattle.binar.proofs.row.Bits.{bit_zero, bit_suc, bit_lt, bit_of_zero, ext, bit_xor, bit_past, bit_and_lem, dot_zero_r}
+use lib.Bits.{bit_and, bit_or, or_step, or_shr}
+use Rattle.binar.specs.Row.{◌⊕◌, bit}
+use Rattle.binar.proofs.row.Bits.{bit_lt, ext, bit_xor, bit_past, bit_and_lem}
+pub use Rattle.binar.proofs.row.Units.{bit_unit, bit_unit_other, dot_step, dot_unit}
 
 -- ---- unions, sums and common parts
 pub bit_or_lem : (a b k : ℕ) → bit (bit_or a b) k ≡ max (bit a k) (bit b k)
@@ -31,33 +31,6 @@ digit_and (suc c) d h e = omega arith
 
 pub in_and : (a b k : ℕ) → bit (bit_and a b) k ≡ 1 → bit a k ≡ 1
 in_and a b k h = digit_and (bit a k) (bit b k) (bit_lt a k) (sym (bit_and_lem a b k) ∙ h)
-
--- ---- the set with the one member q
-pow_half : (q : ℕ) → 2 ^ suc q / 2 ≡ 2 ^ q
-pow_half q = omega arith
-
-pub bit_unit : (q : ℕ) → bit (2 ^ q) q ≡ 1
-bit_unit zero = bit_zero 1
-bit_unit (suc q) = rw (bit_suc, pow_half) (bit_unit q)
-
-pub bit_unit_other : (q k : ℕ) → (k ≡ q → ⊥) → bit (2 ^ q) k ≡ 0
-bit_unit_other zero zero h = absurd (h refl)
-bit_unit_other zero (suc k) h = bit_suc 1 k ∙ bit_of_zero k
-bit_unit_other (suc q) zero h = bit_zero (2 ^ suc q) ∙ omega arith
-bit_unit_other (suc q) (suc k) h = rw (bit_suc, pow_half) (bit_unit_other q k (λ e. h (ap suc e)))
-
--- ---- overlaps
-pub dot_step : (a b : ℕ) → dot a b ≡ (bit a 0 * bit b 0 + dot (a / 2) (b / 2)) % 2
-unfolding dot
-dot_step a b =
-    ap (λ (n : ℕ). n % 2) (ones_step (bit_and a b) ∙ ap₂ (λ (c d : ℕ). c + ones d) (sym (bit_zero (bit_and a b)) ∙ bit_and_lem a b 0) (and_shr a b 1))
-    ∙ omega arith
-
-pub dot_unit : (v q : ℕ) → dot v (2 ^ q) ≡ bit v q
-dot_unit v zero = dot_step v 1 ∙ rw (bit_unit 0, dot_zero_r) (omega (arith, bit_lt v 0))
-dot_unit v (suc q) =
-    dot_step v (2 ^ suc q)
-    ∙ rw (bit_unit_other (suc q) 0 (λ e. omega arith), pow_half, dot_unit (v / 2) q, bit_suc) (omega (arith, bit_lt (v / 2) q))
 
 -- ---- equality by ones
 same_digit : (c d : ℕ) → c < 2 → d < 2 → (c ≡ 1 → d ≡ 1) → (d ≡ 1 → c ≡ 1) → c ≡ d

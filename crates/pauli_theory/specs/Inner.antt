@@ -1,2 +1,0 @@
-pub mod ModuloPlaces
-pub mod CommonPlaces
