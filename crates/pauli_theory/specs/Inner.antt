@@ -1,0 +1,2 @@
+pub mod ModuloPlaces
+pub mod CommonPlaces

@@ -1,0 +1,14 @@
+pub mod Group
+pub mod Standard
+pub mod Listing
+pub mod Membership
+pub mod Order
+pub mod Modulo
+pub mod Common
+pub mod Inner
+pub mod Symplectic
+pub mod Centralizer
+pub mod Theorems
+pub mod ListingTheorems
+pub mod CentralizerTheorems
+pub mod Marked
