@@ -19,7 +19,7 @@ pub(crate) const STANDARD: usize = 1712;
 // Where a further list stands, five words each.
 pub const FURTHER: usize = 2368;
 // R's words of a row of the form.
-pub(crate) const ROW_WORDS: usize = 4;
+pub const ROW_WORDS: usize = 4;
 
 // A list of Paulis in the work area, five words each: count of them from word base on.
 #[derive(Clone, Copy)]

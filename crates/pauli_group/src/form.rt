@@ -16,8 +16,8 @@ use pauli::places::Places;
 use pauli::signed::{indexed_product, store};
 
 // The words of a row of a form of n rows.
-pub(crate) fn stride_of(n: usize) -> usize
-    requires { n ≤ 129 }
+pub fn stride_of(n: usize) -> usize
+    requires { n ≤ 256 }
     ensures { result ≡ stride_of n }
 {
     ROW_WORDS + (n + 63) / 64
@@ -45,8 +45,8 @@ pub(crate) fn named_by(w: &[u64], at: usize, n: usize) -> Places
 
 // Makes the echelon form of the Paulis of a list, over s places; tells its rank.
 // `OnPlaces` is a fact of the words in the area, which the next store may change: no value carries it.
-pub(crate) fn form_of(w: &mut [u64; WORK_WORDS], list: Span, s: usize) -> usize
-    requires { (list.count ≤ 129) × (target_at ≤ list.base) × (s ≤ 128) × OnPlaces s (list_in w.old list.base list.count) }
+pub fn form_of(w: &mut [u64; WORK_WORDS], list: Span, s: usize) -> usize
+    requires { (list.count ≤ 256) × (list.count * stride_of list.count + list.count ≤ list.base) × (s ≤ 128) × OnPlaces s (list_in w.old list.base list.count) }
     ensures rank { result ≡ echelon_rank (form_over s (list_in w.old list.base list.count)) }
     ensures form { form_in (stride_of list.count) list.count row_words (2 * s) result w.new ≡ form_over s (list_in w.old list.base list.count) }
     ensures rest { Outside 0 (list.count * stride_of list.count + list.count) w.old w.new }

@@ -7,13 +7,13 @@ pub mod promise;
 // Where the work area holds what, the words of it that a call uses, the lists in it, and how it is cleared.
 pub mod area;
 // Lists of Paulis read into the area.
-pub(crate) mod list;
+pub mod list;
 // Paulis as rows of a matrix.
 pub(crate) mod rows;
 // The echelon form of a list.
-pub(crate) mod form;
+pub mod form;
 // Tests and changes of the phases of a list.
-pub(crate) mod scan;
+pub mod scan;
 // Standard generators.
 pub mod standard;
 // The group of a list: its form and its standard generators in the work area.
@@ -35,7 +35,7 @@ pub mod symplectic;
 // The call for comparison.
 pub mod order;
 // Paulis moved from the places of one support to those of another.
-pub(crate) mod moved;
+pub mod moved;
 // The call for the remainder of a list by another.
 pub mod modulo;
 // The call for the quotient of a list by another.

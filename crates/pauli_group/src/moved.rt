@@ -32,7 +32,7 @@ fn move_set(set: Places, own: &[u32], joint: &[u32]) -> Places
 }
 
 // A Pauli over the places of the first support as one over those of the second.
-pub(crate) fn move_pauli(p: Pauli, own: &[u32], joint: &[u32]) -> Pauli
+pub fn move_pauli(p: Pauli, own: &[u32], joint: &[u32]) -> Pauli
     requires { (length joint.now ≤ 128) × ((held p).x < 2 ^ length own.now) × ((held p).z < 2 ^ length own.now) × MovablePauli own.now joint.now (held p) }
     ensures { held result ≡ moved_pauli own.now joint.now (held p) }
 {

@@ -90,7 +90,7 @@ pub(crate) fn some_minus(list: &[[u64; 5]]) -> bool
 }
 
 // Writes i^k to the five words from word at on.
-pub(crate) fn put_phase(w: &mut [u64; WORK_WORDS], at: usize, k: u8)
+pub fn put_phase(w: &mut [u64; WORK_WORDS], at: usize, k: u8)
     requires { (at + 5 ≤ 4096) × (k < 4) }
     ensures list { list_in w.new at 1 ≡ phase k ∷ [] }
     ensures rest { Outside at 5 w.old w.new }

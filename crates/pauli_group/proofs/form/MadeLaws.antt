@@ -17,7 +17,6 @@ use Rattle.pauli.specs.Writing.{OnPlaces}
 use Rattle.pauli.proofs.write.Writers.{length_list}
 use Rattle.pauli_group.specs.Inner.Area.{row_words, stride_of, Outside}
 use Rattle.pauli_group.specs.Inner.Lists.{row_over, form_over}
-use Rattle.pauli_group.proofs.area.AreaLaws.{form_room_more}
 use Rattle.pauli_group.proofs.list.ListLaws.{list_map_at, on_places_at, outside_join}
 use Rattle.pauli_group.proofs.rows.RowLaws.{row_lt}
 
@@ -38,7 +37,7 @@ image_outside s n M l rest k count inside size room same low = record {
 
 -- ---- the form of a list
 
-module _ (l : List ℕ) (base n s : ℕ) (few : n ≤ 129) (places : s ≤ 128) (size : length l ≡ 4096) (on : OnPlaces s (list_in l base n)) where
+module _ (l : List ℕ) (base n s : ℕ) (room : n * stride_of n + n ≤ 4096) (places : s ≤ 128) (size : length l ≡ 4096) (on : OnPlaces s (list_in l base n)) where
   abbrev S : ℕ
   S = stride_of n
 
@@ -51,9 +50,6 @@ module _ (l : List ℕ) (base n s : ℕ) (few : n ≤ 129) (places : s ≤ 128) 
   -- the slice with the rows at its front
   abbrev rows : List ℕ
   rows = image S M (drop (n * S) l)
-
-  room : n * S + n ≤ 1032
-  room = (form_room_more n few).0
 
   count : length M ≡ n
   count = length-map L _ ∙ length_list l base n

@@ -1,5 +1,5 @@
 -- Laws of numbers that are all in a support, and of index sets written.
-use Rattle.std.proofs.Common.{◌≡◌, ℕ, zero, suc, ◌+◌, ◌-◌, ◌*◌, ◌<◌, ◌≤◌, true, false, cond, ltb, List, [], ◌∷◌, ◌++◌, length, get_or, sym, refl, ap, ◌∙◌, ap₂, arith, length-append, le-ltb, lt-ltb}
+use Rattle.std.proofs.Common.{◌≡◌, ℕ, zero, suc, ◌+◌, ◌*◌, ◌<◌, ◌≤◌, true, false, cond, ltb, List, [], ◌∷◌, ◌++◌, length, get_or, sym, refl, ap, ◌∙◌, ap₂, arith, length-append, le-ltb, lt-ltb}
 use mathlib.Core.List.{Memᴰ as Mem}
 use Rattle.binar.specs.Row.{weight}
 use Rattle.pauli.specs.declared.roll.Entry.{Entry}

@@ -1,4 +1,5 @@
-use Rattle.std.proofs.Common.{inl, inr, arith}
+use Rattle.std.proofs.Common.{inl, inr, le_trans, arith}
+use Rattle.pauli_group.proofs.area.AreaLaws.{form_room_more}
 use Rattle.pauli_group.proofs.basis.BasisLaws.{stack_count, stack_first, stack_on, stack_rank, stack_zeros, dependencies_on, basis_count, basis_is}
 use Rattle.pauli_group.proofs.common.PartLaws.{lists_few}
 use Rattle.pauli_group.proofs.basis.common_basis.Goals as goal
@@ -18,7 +19,8 @@ form_of-rank-requires c =
     let few = lists_few _ _ _ _ c.args.pair.left.accepted c.args.pair.right.accepted c.args.pair.few in
     let S = c.stack_standard-stacked.ensures in
     let both = c.at-both.ensures in
-    rw (both.0, both.1) (stack_count _ _ few _ _ _ S, omega arith, c.requires.few, stack_on _ _ few _ _ _ S _ c.requires.count)
+    let n = stack_count _ _ few _ _ _ S in
+    rw (both.0, both.1) (omega (arith, n), omega (arith, (form_room_more _ n).0), c.requires.few, stack_on _ _ few _ _ _ S _ c.requires.count)
 
 pub overflow_sub-n : goal.overflow_sub-n
 overflow_sub-n c =
@@ -50,7 +52,7 @@ form_of-count-requires c =
     let to = c.at-zeros.ensures in
     let put = rw (from.0, from.1, to.0, to.1) at c.put_products.ensures.list in
     let zeros = stack_zeros _ _ few _ _ _ S _ c.requires.count _ F.rank _ F.form F.rest in
-    rw (to.0, to.1) (omega (arith, zeros), omega arith, c.requires.few, dependencies_on _ _ few _ _ _ S _ c.requires.count _ F.rank _ F.form F.rest _ put)
+    rw (to.0, to.1) (omega (arith, zeros), omega (arith, (form_room_more _ (le_trans zeros (omega arith))).0), c.requires.few, dependencies_on _ _ few _ _ _ S _ c.requires.count _ F.rank _ F.form F.rest _ put)
 
 pub at-basis-requires : goal.at-basis-requires
 at-basis-requires c =

@@ -2,9 +2,16 @@ use Rattle.std.proofs.Common.{◌≤◌, arith}
 use Rattle.pauli.specs.Signed.{list_in}
 use Rattle.pauli.proofs.write.Writers.{length_list}
 use Rattle.pauli_group.specs.Inner.Area.{standard_at}
+use Rattle.pauli_group.proofs.area.AreaLaws.{form_room_more}
 use Rattle.pauli_group.proofs.standard.StandardLaws.{from_products_few}
 use Rattle.pauli_group.proofs.group.BuildLaws.{built, rank_few}
 use Rattle.pauli_group.proofs.group.build.Goals as goal
+
+pub form_of-rank-requires : goal.form_of-rank-requires
+form_of-rank-requires c =
+    let at = c.at-list.ensures in
+    let n : c.args.n ≤ 129 = omega (arith, c.requires.0) in
+    rw (at.0, at.1) (omega (arith, n), omega (arith, (form_room_more c.args.n n).0), c.requires.1, c.requires.2)
 
 pub standardize-total-requires : goal.standardize-total-requires
 standardize-total-requires c =

@@ -1,0 +1,4 @@
+pub mod Calls
+pub mod CallContracts
+pub mod Commuting
+pub mod Stacked
