@@ -71,11 +71,17 @@ def legend(generators):
     return parts
 
 
+def column(row):
+    """The panel of a row: the most qubits of a centralizer stand beside the most of the other calls."""
+    return 128 if row["qubits"] == "63" else int(row["qubits"])
+
+
 def panel(rows, names, qubits, start, span):
     """The marks of one number of qubits, a line of marks for each call and kind."""
     at = scale(*span, start, start + PANEL)
     bottom = TOP + ROW * len(names)
-    parts = [text(start + PANEL / 2, TOP - 26, f"{qubits} qubits", 13, "middle", 'font-weight="bold"')]
+    more = "".join(f", centralizers {count}" for count in sorted({int(row["qubits"]) for row in rows} - {qubits}))
+    parts = [text(start + PANEL / 2, TOP - 26, f"{qubits} qubits{more}", 13, "middle", 'font-weight="bold"')]
     for value in ticks(*span):
         parts += [line(at(value), TOP, at(value), bottom, "#e4e4e4"), text(at(value), TOP - 8, f"{value:g}", 11, "middle")]
     parts.append(line(at(1), TOP, at(1), bottom, "#000", 1.4))
@@ -91,7 +97,7 @@ def ratios(rows):
     names = once(title(row) for row in rows)
     values = [float(row[key]) for row in rows for key in ("ratio", "low", "high")]
     span = (min(0.5, min(values) * 0.9), max(values) * 1.15)
-    qubits = sorted({int(row["qubits"]) for row in rows})
+    qubits = sorted({column(row) for row in rows})
     width = LEFT + len(qubits) * (PANEL + GAP)
     parts = [text(LEFT, 20, "Time of the Rust original / time of this library (right of the black line: this library is faster)", 14)]
     parts += legend(sorted({int(row["generators"]) for row in rows}))
@@ -101,7 +107,7 @@ def ratios(rows):
             parts.append(f'<rect x="0" y="{y}" width="{width - GAP + 8}" height="{ROW}" fill="#f6f6f6"/>')
         parts.append(text(LEFT - 12, y + ROW / 2 + 4, name, 12, "end"))
     for i, count in enumerate(qubits):
-        part = [row for row in rows if int(row["qubits"]) == count]
+        part = [row for row in rows if column(row) == count]
         parts += panel(part, names, count, LEFT + i * (PANEL + GAP), span)
     return svg(width, TOP + ROW * len(names) + 16, parts)
 

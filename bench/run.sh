@@ -18,9 +18,11 @@
 # have at most 64 generators in either. A non-member's bits do not solve where such an element is found; else it is a member times i; else
 # it has a further qubit (dense lists on few qubits, where every element on them is a member). A closing listing has fewer than 128
 # dense generators on 128 qubits, as its input has at most 65,536 bytes. Many elements are members and non-members in turn, and what 40
-# cost in times of one is printed, for 40 dense generators on 128 qubits. check_roll and standard_bound are beside the oracle's reader
-# alone; joined_sizes and page_size beside the Rust's own joining and listing, since it has no call for sizes; joined_entry and
-# joined_body have no call in the Rust. M4RI reduces [A | I]; copying the input into place is timed on both sides.
+# cost in times of one is printed, for 40 dense generators on 128 qubits. The lists of the centralizers are on 63 qubits where others are on
+# 128; their named support is every second qubit of the list and as many further ones, or what 63 together leave room for. check_roll and
+# standard_bound are beside the oracle's reader alone; joined_sizes and page_size beside the Rust's own joining and listing, since it has
+# no call for sizes; joined_entry and joined_body have no call in the Rust. M4RI reduces [A | I]; copying the input into place is timed on
+# both sides.
 #
 # The library is $HOWHIRUKE_LIB/libcapi.a if that is set, else target/staticlib/libcapi.a, which is proved and built.
 # Everything is written to target/bench: ratios.csv, tables.md, ratios.svg and growth.svg besides the build.

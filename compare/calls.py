@@ -12,6 +12,7 @@ from roll import Refusal
 
 WORK_WORDS = 4096
 MOST_RANK = 16
+MOST_TOGETHER = 63
 MOST_INPUT = 65_536
 PROMISES = "ntf"
 ORDERS = {"equal": "equal", "less": "less", "greater": "greater", "none": "no order"}
@@ -51,6 +52,8 @@ CALLS = {
     21: Call("sizes", "join", 2, (2, 7), False),
     22: Call("bound", "standard", 1, (), False),
     23: Call("page", "elements", 1, (), True),
+    24: Call("centralizer", "centralizer", 1, (), True),
+    25: Call("within", "centralizerwithin", 1, (), True),
 }
 
 
@@ -121,6 +124,19 @@ def is_past(r, lists):
     return False
 
 
+def named(r):
+    """The numbers of the named support."""
+    return struct.unpack(f"<{len(r.second) // 4}I", r.second)
+
+
+def refused_support(r, paulis):
+    """13: the named support does not rise, passes the limit, or has too many qubits together with the list's own."""
+    own = roll.support(paulis)
+    numbers = own if r.op == 24 else named(r)
+    rises = all(a < b for a, b in zip(numbers, numbers[1:]))
+    return not rises or any(q > roll.LAST_QUBIT for q in numbers) or len({*numbers, *own}) > MOST_TOGETHER
+
+
 def refused_early(r):
     """The refusal of the first eight numbers or for the work area; none if there is none of these."""
     lists = roll.read_all(rolls_of(r))
@@ -132,6 +148,8 @@ def refused_early(r):
         return joined
     if is_past(r, lists):
         return Refusal(8, 0)
+    if r.op in (24, 25) and refused_support(r, lists[0]):
+        return Refusal(13, 0)
     if call.area and r.work < WORK_WORDS:
         return Refusal(9, 0)
     return None
@@ -150,8 +168,10 @@ def questions(r):
         return [f"{kind} {p} {first} {second} {r.a}"]
     if r.op in (8, 23):
         return [f"{kind} {p} {first} {r.a} {r.b}", f"rank n {first}"]
-    if r.op == 9:
+    if r.op in (9, 24):
         return [f"{kind} {first}"]
+    if r.op == 25:
+        return [f"{kind} {first} {','.join(map(str, named(r))) or '-'}"]
     if r.op == 10:
         return [f"{kind} {first} {r.a} {second} {r.b}"]
     if r.op == 20:
@@ -283,11 +303,19 @@ def result(r, answers):
     return answered(r, answers[0])
 
 
+def is_asked(r):
+    """Whether the oracle takes the named support of an accepted list: no number above the last qubit, and no more qubits than a list has."""
+    numbers, own = named(r), roll.support(roll.read(r.first))
+    return all(q <= roll.LAST_QUBIT for q in numbers) and len({*numbers, *own}) <= roll.MOST_QUBITS
+
+
 def is_bad(r, found, answers):
     """Whether the oracle must say `bad` to the first question: refusals 1 to 8, and a rank too great to list.
     It is not asked for the numbers of the joined list."""
     if r.op == 18:
         return found.written.startswith(b"refused")
+    if isinstance(found, Refusal) and found.number == 13:
+        return r.op == 25 and not is_asked(r)
     if isinstance(found, Refusal) and found.number <= 8:
         return found.number < 8 or r.op < 12 or r.op == 20
     return r.op in (8, 23) and int(answers[1]) > MOST_RANK
@@ -299,7 +327,7 @@ def line(r, found):
         found = Refusal(12, 0)
     area = "none"
     if CALLS[r.op].area:
-        area = "untouched" if isinstance(found, Refusal) and found.number <= 9 else "zeroed"
+        area = "untouched" if isinstance(found, Refusal) and found.number in (*range(10), 13) else "zeroed"
     if isinstance(found, Refusal):
         words = "body -" if r.op == 12 else f"refused {found.number} at {found.place}"
         return f"{words}; out - kept; work {area}"

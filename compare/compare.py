@@ -10,7 +10,8 @@ Each call is lent an output of the size of its answer or a few bytes more, and 4
 --damaged N: N further requests of each kind with damaged rolls, numbers past a list, short areas and outputs, and lists at the limits.
 The refusal, its number and its place come from the table of refusals in docs/REFERENCE.md (roll.py, calls.py), every other line from the
 oracle; the oracle must answer `bad` exactly where the table refuses with 1 to 8 or 10.
---every: further one small request of each kind, its rolls cut at every place and every byte of them changed to every other value.
+--every: further one small request of each kind, its rolls cut at every place and every byte of them changed to every other value, and
+so its named support.
 --lines REQUESTS LINES: the lines of a file, one for each request of another, are compared with those made here and with the program's.
 --bad: requests outside the program's bounds, each after a good one.
 --edges: requests at the edges (edges.py), each with an output of the size of its answer, a byte less and a byte more.
@@ -32,7 +33,7 @@ import roll
 from calls import CALLS, PROMISES, Request, unhex
 from roll import Pauli, Refusal
 
-LAST = 23  # the last operation that replay has
+LAST = 25  # the last operation that replay has
 NAMES = {call.name: op for op, call in CALLS.items()}
 LISTING_OUTPUT = 131_072
 BLOCK = 10_000
@@ -57,8 +58,11 @@ def request_of(op, text):
         return whole(op, PROMISES.index(w[0]), a=int(w[3]), first=unhex(w[1]), second=unhex(w[2]))
     if op in (8, 23):
         return whole(op, PROMISES.index(w[0]), a=int(w[2]), b=int(w[3]), first=unhex(w[1]))
-    if op == 9:
+    if op in (9, 24):
         return whole(op, first=unhex(w[0]))
+    if op == 25:
+        named = [] if w[1] == "-" else [int(q) for q in w[1].split(",")]
+        return whole(op, first=unhex(w[0]), second=struct.pack(f"<{len(named)}I", *named))
     if op in (10, 20):
         return whole(op, a=int(w[1]), b=int(w[3]), first=unhex(w[0]), second=unhex(w[2]))
     if op <= 13 or op == 21:
@@ -147,6 +151,8 @@ def small(op):
     second = roll.write([Pauli(3, (2,), (0, 2))])
     if op == 18:
         return whole(op, first=struct.pack("<I", len(first)) + first + second)
+    if op == 25:
+        return whole(op, first=first, second=struct.pack("<2I", 1, 4))
     return whole(op, first=first, second=second if CALLS[op].rolls == 2 else b"")
 
 
@@ -215,6 +221,8 @@ def compare_bad(args):
     outside = [good._replace(op=200), good._replace(op=255), good._replace(fill=0), good._replace(p=3), good._replace(q=3),
                good._replace(p=255), good._replace(out=262_145), good._replace(work=40_961), good._replace(out=2**32 - 1),
                good._replace(work=2**32 - 1), good._replace(first=bytes(262_145)), good._replace(second=bytes(262_145))]
+    named = good._replace(op=25, work=calls.WORK_WORDS)
+    outside += [named._replace(second=bytes(n)) for n in (1, 2, 3, 5, 4097, 4 * 1025)]
     strings = good._replace(second=b"abc").raw()
     cases = [r.raw() + good.raw() for r in outside] + [strings[:k] for k in range(1, len(strings))]
     cases.append(strings[:20] + b"\xff" * 8 + good.raw())
@@ -223,7 +231,8 @@ def compare_bad(args):
         if got != f"{answer}\nbad request\n":
             stop(good, f"a request outside the bounds: {case[:40].hex()}", f"{answer}, bad request", got)
     inside = [(good._replace(out=262_144, work=40_960), answer), (good._replace(second=bytes(262_144)), answer),
-              (good._replace(first=bytes(262_144)), "refused 1 at 0; out - kept; work none"), (good, answer)]
+              (good._replace(first=bytes(262_144)), "refused 1 at 0; out - kept; work none"),
+              (named._replace(second=bytes(4 * 1024)), "refused 13 at 0; out - kept; work untouched"), (good, answer)]
     compare(inside, args.replay)
     print(f"outside the bounds: {len(cases)} requests end with `bad request`, {len(inside)} at the bounds are answered")
 

@@ -198,6 +198,24 @@ def damaged_sizes(rng, r):
     return r._replace(first=roll.write(left), second=roll.write(right))
 
 
+def damaged_support(rng, r):
+    """A named support that is mixed, has a number twice or one that is too high, or is as large as may be, give or take one."""
+    named = list(struct.unpack(f"<{len(r.second) // 4}I", r.second))
+    own = set(roll.support(roll.read(r.first)))
+    kind = rng.randrange(4)
+    if kind == 0:
+        named += rng.choice([named[:1], [0], [65_535], [65_536], [NUMBERS - 1]])
+    elif kind == 1:
+        rng.shuffle(named)
+    elif kind == 2:
+        named = sorted({*named, rng.choice([65_535, 65_536, NUMBERS - 1])})
+    else:
+        others = [q for q in range(200) if q not in own]
+        rng.shuffle(others)
+        named = sorted({*[q for q in named if q in own], *others[:max(rng.choice([62, 63, 64]) - len(own), 0)]})
+    return r._replace(second=struct.pack(f"<{len(named)}I", *named))
+
+
 def damaged_rank(rng, r):
     return r._replace(first=roll.write(of_rank(rng, rng.choice([15, 16, 17, 17, 18]))), a=rng.choice([0, 5, 60_000, 140_000]), b=1 + rng.randrange(9))
 
@@ -209,6 +227,7 @@ def ways_of(op):
     ways += [damaged_work] * 2 if CALLS[op].area else []
     ways += [damaged_sizes] if CALLS[op].rolls == 2 else []
     ways += [damaged_rank] if op in (8, 23) else []
+    ways += [damaged_support] * 4 if op == 25 else []
     return ways
 
 
@@ -232,7 +251,7 @@ def damaged_input(rng, r):
 
 def idle_fields(rng, r):
     """Other values in the fields that the call does not take."""
-    if r.op in (0, 1, 2, 9, 10, 11, 12, 13, 18, 20, 21, 22):
+    if r.op in (0, 1, 2, 9, 10, 11, 12, 13, 18, 20, 21, 22, 24, 25):
         r = r._replace(p=rng.randrange(3))
     if r.op < 14 or r.op >= 19:
         r = r._replace(q=rng.randrange(3))
@@ -240,7 +259,7 @@ def idle_fields(rng, r):
         r = r._replace(a=rng.randrange(NUMBERS))
     if r.op not in (8, 10, 20, 23):
         r = r._replace(b=rng.randrange(NUMBERS))
-    if CALLS[r.op].rolls == 1 or r.op == 18:
+    if (CALLS[r.op].rolls == 1 and r.op != 25) or r.op == 18:
         r = r._replace(second=rng.randbytes(rng.randrange(20)))
     if not CALLS[r.op].area and r.op != 18:
         r = r._replace(work=rng.choice([0, 1, 4095, 4096]))
@@ -251,7 +270,7 @@ def damaged(rng, r):
     """A request with something wrong in it: nothing (the output is chosen later), one way, or two."""
     if r.op == 18:
         return idle_fields(rng, damaged_input(rng, r))
-    order = [damaged_sizes, damaged_rank, damaged_numbers, damaged_rolls, damaged_work]
+    order = [damaged_sizes, damaged_rank, damaged_support, damaged_numbers, damaged_rolls, damaged_work]
     chosen = {rng.choice(ways_of(r.op)) for _ in range(rng.choice([0, 1, 1, 1, 1, 2, 3]))}
     for way in order:
         if way in chosen:
@@ -260,11 +279,15 @@ def damaged(rng, r):
 
 
 def every(r):
-    """A request with each of its strings cut at every place, and with every byte of it changed to every other value."""
-    for name in ("first", "second")[:1 if r.op == 18 else CALLS[r.op].rolls]:
+    """A request with each of its strings cut at every place, and with every byte of it changed to every other value. A named support is
+    cut between its numbers."""
+    strings = 1 if r.op == 18 else 2 if r.op == 25 else CALLS[r.op].rolls
+    for name in ("first", "second")[:strings]:
         b = getattr(r, name)
+        whole = 4 if r.op == 25 and name == "second" else 1
         for k in range(len(b)):
-            yield r._replace(**{name: b[:k]})
+            if k % whole == 0:
+                yield r._replace(**{name: b[:k]})
             yield from (r._replace(**{name: b[:k] + bytes([value]) + b[k + 1:]}) for value in range(256) if value != b[k])
 
 

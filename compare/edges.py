@@ -1,5 +1,7 @@
 """Requests at the edges: rank 16 and 17, the last element and those past it, 128 and 129 Paulis and
-qubits, in one list and in two joined."""
+qubits, in one list and in two joined; 62 to 64 qubits for a centralizer."""
+import struct
+
 import roll
 from calls import CALLS, WORK_WORDS, Request
 from roll import Pauli
@@ -11,6 +13,11 @@ PHASES = {0: 1, 2: 2, 1: 4}
 def request(op, a=0, b=0, first=(), second=(), p=0, q=0):
     raw = [roll.write(list(paulis)) for paulis in (first, second)]
     return Request(op, p, q, 1, a, b, 0, WORK_WORDS, raw[0], raw[1] if CALLS[op].rolls == 2 else b"")
+
+
+def named(first, numbers):
+    """The centralizer of a list on the support of these numbers."""
+    return request(25, first=first)._replace(second=struct.pack(f"<{len(numbers)}I", *numbers))
 
 
 def singles(count, start=0):
@@ -38,9 +45,22 @@ def at_limits(op):
                 yield request(op, a, 0, paulis[:cut], paulis[cut:])
 
 
+def supports():
+    """62 to 64 qubits, all of the list's own, none of them, or half; and supports that do not rise or end at the last qubit."""
+    for count in (62, 63, 64):
+        yield request(24, first=singles(count))
+        for own in (0, 1, count // 2, count - 1, count):
+            for start in (0, own // 2, own):
+                yield named(singles(own), range(start, count))
+    for numbers in ((), (0,), (0, 0), (1, 0), (65_535,), (65_536,), (2**32 - 1,), (0, 65_535), (0, 2, 1)):
+        yield named(singles(2), numbers)
+        yield named([], numbers)
+
+
 def every():
     yield from listings(8)
     yield from listings(23)
+    yield from supports()
     for op in CALLS:
         if op != 18:
             yield from at_limits(op)

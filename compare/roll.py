@@ -67,8 +67,12 @@ def paulis_of(entries, numbers):
     return paulis
 
 
+def support(paulis):
+    return sorted({qubit for pauli in paulis for qubit in pauli.x + pauli.z})
+
+
 def distinct(paulis):
-    return len({qubit for pauli in paulis for qubit in pauli.x + pauli.z})
+    return len(support(paulis))
 
 
 def refused_bodies(paulis):

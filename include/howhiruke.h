@@ -43,6 +43,7 @@ extern "C" {
 #define HOWHIRUKE_MOST_LISTED_RANK 16   /* of a group whose elements are listed */
 #define HOWHIRUKE_DEFAULT_PAGE 16       /* elements of a page with count 0 */
 #define HOWHIRUKE_LARGEST_PAGE 128      /* elements of a page with a count of 128 or more */
+#define HOWHIRUKE_MOST_TOGETHER 63      /* distinct qubits of a list and of the named support of its centralizer */
 
 /* Sizes. How long an output has to be can be asked before the call: for howhiruke_join howhiruke_joined_sizes tells it exactly; for
  * howhiruke_standard_generators what howhiruke_standard_bound tells is enough; a page of howhiruke_elements has as many Paulis as
@@ -71,7 +72,8 @@ enum {
     HOWHIRUKE_REFUSED_WORK = 9,      /* work area under 4,096 words */
     HOWHIRUKE_REFUSED_LISTING = 10,  /* listing with rank above 16 */
     HOWHIRUKE_REFUSED_SUBGROUP = 11, /* divisor not a subgroup */
-    HOWHIRUKE_REFUSED_OUTPUT = 12    /* output shorter than the result */
+    HOWHIRUKE_REFUSED_OUTPUT = 12,   /* output shorter than the result */
+    HOWHIRUKE_REFUSED_SUPPORT = 13   /* named support not strictly rising, above 65,535, or over 63 qubits with the list's own */
 };
 
 /* refusal is 0 for an answer, which is in first, second and third; what a call does not name is 0. At a refusal, place is the
@@ -162,6 +164,18 @@ howhiruke_answer howhiruke_elements(const uint8_t *roll, size_t roll_len, uint64
  * first: the roll's length. Also 12. */
 howhiruke_answer howhiruke_symplectic_form_of(const uint8_t *roll, size_t roll_len, uint64_t *work, size_t work_len,
                                               uint8_t *out, size_t out_len);
+
+/* ---- what commutes with every Pauli of the list: refusals 1 to 7, 13, 9, 12, in this order */
+
+/* Writes generators of the group of all Paulis on the list's own qubits that commute with each of its Paulis: those of the kernel of
+ * their rows, then i. first: the roll's length. */
+howhiruke_answer howhiruke_centralizer_of(const uint8_t *roll, size_t roll_len, uint64_t *work, size_t work_len,
+                                          uint8_t *out, size_t out_len);
+
+/* The same on the named qubits, which are numbers, strictly rising: those of the kernel, then X and Z of each named qubit that the list
+ * does not use, then i. No number at all gives i alone. */
+howhiruke_answer howhiruke_centralizer_within(const uint8_t *roll, size_t roll_len, const uint32_t *named, size_t named_len,
+                                              uint64_t *work, size_t work_len, uint8_t *out, size_t out_len);
 
 /* ---- sizes before the work */
 

@@ -165,7 +165,7 @@ static void refused_with(const char *row, howhiruke_answer a, uint64_t number, u
 
 static void refused(const char *row, howhiruke_answer a, uint64_t number, uint64_t place)
 {
-    refused_with(row, a, number, place, number <= 9 ? untouched : used);
+    refused_with(row, a, number, place, number <= 9 || number == HOWHIRUKE_REFUSED_SUPPORT ? untouched : used);
 }
 
 #define ROLL(r) (r).b, (r).n
@@ -244,6 +244,30 @@ static void many_elements(void)
     refused("many 1", CALL(indexed_factorizations_of, ROLL(bell), elements.b, 1, 0, WORK, OUT), 1, 0);
     told("none of many", CALL(indexed_factorizations_of, ROLL(bell), ROLL(none), 0, WORK, out, 0), 0, 0, 0);
     holds("none of many", used());
+}
+
+/* What commutes with every Pauli of a list. */
+static void centralizers(void)
+{
+    roll bell = LIST(XX, ZZ), none = of(0, NULL), imaginary = LIST(I_I);
+    pauli x2 = {0, {2, E}, {E}}, z2 = {0, {E}, {2, E}};
+    uint32_t named[64], further[] = {0, 2}, falling[] = {1, 0}, twice[] = {2, 2}, high[] = {HOWHIRUKE_HIGHEST_QUBIT + 1};
+    for (uint32_t k = 0; k < 64; k++)
+        named[k] = k;
+    listed("centralizer of", CALL(centralizer_of, ROLL(bell), WORK, OUT), LIST(XX, ZZ, I_I));
+    listed("centralizer of none", CALL(centralizer_of, ROLL(none), WORK, OUT), imaginary);
+    listed("within the list's own", CALL(centralizer_within, ROLL(bell), named, 2, WORK, OUT), LIST(XX, ZZ, I_I));
+    listed("within none", CALL(centralizer_within, ROLL(bell), named, 0, WORK, OUT), imaginary);
+    listed("within a further one", CALL(centralizer_within, ROLL(bell), further, 2, WORK, OUT), LIST(x2, z2, I_I));
+    told("within 63", CALL(centralizer_within, ROLL(bell), named, HOWHIRUKE_MOST_TOGETHER, WORK, OUT), 2 + 10 * 125 + 4 * 126, 0, 0);
+    refused("within 64", CALL(centralizer_within, ROLL(bell), named, 64, WORK, OUT), 13, 0);
+    refused("within falling", CALL(centralizer_within, ROLL(bell), falling, 2, WORK, OUT), 13, 0);
+    refused("within twice", CALL(centralizer_within, ROLL(bell), twice, 2, WORK, OUT), 13, 0);
+    refused("within high", CALL(centralizer_within, ROLL(bell), high, 1, WORK, OUT), 13, 0);
+    refused("within, 13 before 9", CALL(centralizer_within, ROLL(bell), falling, 2, work, WORDS - 1, OUT), 13, 0);
+    refused("centralizer 9", CALL(centralizer_of, ROLL(bell), work, WORDS - 1, OUT), 9, 0);
+    refused("centralizer 12", CALL(centralizer_of, ROLL(none), WORK, out, imaginary.n - 1), 12, 0);
+    refused("centralizer 1", CALL(centralizer_of, bell.b, 1, WORK, OUT), 1, 0);
 }
 
 /* What is told before the work. */
@@ -373,6 +397,7 @@ int main(void)
     marked();
     others();
     many_elements();
+    centralizers();
     sizes();
     common_and_report();
     refusals();

@@ -101,6 +101,7 @@ fn each_size(plan: Plan, call: Call) -> Vec<Size> {
     let mut sizes = Vec::new();
     for &generators in requests::generators_of(call) {
         for &qubits in plan.qubits {
+            let qubits = qubits.min(requests::most_qubits(call));
             sizes.extend(plan.kinds.iter().map(|&kind| Size { generators, qubits, kind }));
         }
     }

@@ -93,6 +93,8 @@ impl Areas {
             Call::StandardBound => number(howhiruke::standard_bound(left)),
             Call::PageSize(start) => number(howhiruke::page_size(left, NONE, start, 128, work)),
             Call::SymplecticForm => roll(howhiruke::symplectic_form_of(left, work, out)),
+            Call::CentralizerOf => roll(howhiruke::centralizer_of(left, work, out)),
+            Call::CentralizerWithin => roll(howhiruke::centralizer_within(left, &request.named, work, out)),
             Call::PartialCmp => order(howhiruke::partial_cmp(left, right, NONE, NONE, work)),
             Call::Modulo => roll(howhiruke::modulo(left, right, NONE, NONE, work, out)),
             Call::TryQuotient => roll(howhiruke::try_quotient(left, right, NONE, NONE, work, out)),

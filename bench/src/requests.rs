@@ -25,6 +25,8 @@ pub enum Call {
     StandardBound,
     PageSize(u32),
     SymplecticForm,
+    CentralizerOf,
+    CentralizerWithin,
     PartialCmp,
     Modulo,
     TryQuotient,
@@ -88,7 +90,7 @@ impl Case {
 pub const PAGE_START: u32 = 1000;
 pub const MANY: &str = "indexed_factorizations_of";
 
-pub const CASES: [Case; 30] = [
+pub const CASES: [Case; 32] = [
     case(Call::CheckRoll, "check_roll", "", Relation::None),
     case(Call::Product, "product", "", Relation::Apart),
     case(Call::Join, "join", "", Relation::Apart),
@@ -110,6 +112,8 @@ pub const CASES: [Case; 30] = [
     case(Call::StandardBound, "standard_bound", "", Relation::None),
     case(Call::PageSize(PAGE_START), "page_size", "later page", Relation::None),
     case(Call::SymplecticForm, "symplectic_form_of", "", Relation::None),
+    case(Call::CentralizerOf, "centralizer_of", "", Relation::None),
+    case(Call::CentralizerWithin, "centralizer_within", "", Relation::None),
     case(Call::PartialCmp, "partial_cmp", "equal", Relation::Same),
     case(Call::PartialCmp, "partial_cmp", "inside", Relation::Around),
     case(Call::PartialCmp, "partial_cmp", "no order", Relation::Apart),
@@ -133,12 +137,15 @@ pub struct Request {
     pub call: Call,
     pub left: Vec<u8>,
     pub right: Vec<u8>,
+    /// The named support of a centralizer.
+    pub named: Vec<u32>,
     pub number: usize,
     pub other: usize,
 }
 
 const MOST_PAULIS: usize = 128;
 const MOST_QUBITS: usize = 128;
+const MOST_TOGETHER: usize = 63;
 const MOST_INPUT: usize = 65_536;
 
 /// The sizes in generators that a call is measured at; a listing has rank 16 at most.
@@ -146,8 +153,14 @@ pub fn generators_of(call: Call) -> &'static [usize] {
     match call {
         Call::Elements(0) => &[2, 10, 16],
         Call::Elements(_) | Call::PageSize(_) => &[10, 16],
+        Call::CentralizerOf | Call::CentralizerWithin => &[2, 10, 40],
         _ => &[2, 10, 40, 128],
     }
+}
+
+/// The most qubits that a call takes.
+pub fn most_qubits(call: Call) -> usize {
+    if matches!(call, Call::CentralizerOf | Call::CentralizerWithin) { MOST_TOGETHER } else { MOST_QUBITS }
 }
 
 /// Request `number` of a case; the lists depend on the size, the number and the relation alone.
@@ -175,11 +188,21 @@ pub fn make(case: &Case, size: Size, number: usize) -> Request {
     };
     // A product takes a Pauli from the middle of either list; an element is the only one of its roll.
     let (number, other) = if case.call == Call::Product { (left.len() / 2, right.len() / 2) } else { (0, 0) };
-    Request { call: case.call, left: roll::write(&left), right: roll::write(&right), number, other }
+    let named = if case.call == Call::CentralizerWithin { half_and_further(size, &left) } else { vec![] };
+    Request { call: case.call, left: roll::write(&left), right: roll::write(&right), named, number, other }
 }
 
 fn one_list(random: &mut Random, size: Size) -> Vec<Plain> {
     size.kind.list(random, size.generators, size.qubits)
+}
+
+/// Every second qubit of the list, and as many further ones where there is room for them.
+fn half_and_further(size: Size, list: &[Plain]) -> Vec<u32> {
+    let own = lists::support(list);
+    let mut named: Vec<u32> = own.iter().copied().step_by(2).collect();
+    let further = named.len().min(MOST_TOGETHER.saturating_sub(own.len()));
+    named.extend((size.qubits as u32..).take(further));
+    named
 }
 
 fn is_member(group: &PauliGroup, element: &Plain) -> bool {
@@ -256,7 +279,7 @@ fn closing(random: &mut Random, size: Size) -> Request {
         input.extend(generators);
         input.extend(roll::write(&elements));
         if input.len() <= MOST_INPUT {
-            return Request { call: Call::ClosingReport, left: input, right: vec![], number: 0, other: 0 };
+            return Request { call: Call::ClosingReport, left: input, right: vec![], named: vec![], number: 0, other: 0 };
         }
         list.truncate(list.len() - 8);
     }

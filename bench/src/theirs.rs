@@ -7,7 +7,7 @@ use binar::Bitwise;
 use driver::answer::{group_of, to_plain, to_sparse};
 use driver::roll::{self, Plain};
 use paulimer::pauli::{commutes_with, Pauli, PauliBinaryOps, SparsePauli};
-use paulimer::pauli_group::{symplectic_form_of, PauliGroup};
+use paulimer::pauli_group::{centralizer_of, centralizer_within, symplectic_form_of, PauliGroup};
 use std::cmp::Ordering;
 use std::fmt::Write;
 
@@ -44,6 +44,8 @@ pub fn call(request: &Request) -> Told {
         Call::StandardBound => number(bound(&list(left))),
         Call::PageSize(start) => number(group(left).elements().skip(start as usize).take(128).count()),
         Call::SymplecticForm => symplectic(left),
+        Call::CentralizerOf => written(centralizer_of(&group(left)).generators()),
+        Call::CentralizerWithin => within(left, &request.named),
         Call::ClosingReport => report(left),
         _ => on_two(request),
     }
@@ -119,6 +121,11 @@ fn page(bytes: &[u8], start: u32) -> Told {
 fn symplectic(bytes: &[u8]) -> Told {
     let paulis: Vec<SparsePauli> = list(bytes).iter().map(to_sparse).collect();
     written(&symplectic_form_of(&paulis))
+}
+
+fn within(bytes: &[u8], named: &[u32]) -> Told {
+    let support: Vec<usize> = named.iter().map(|&qubit| qubit as usize).collect();
+    written(centralizer_within(&support, &group(bytes)).generators())
 }
 
 fn order(order: Option<Ordering>) -> usize {

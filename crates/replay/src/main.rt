@@ -1,4 +1,4 @@
-// Calls in, one line out for each: operations 0 to 23.
+// Calls in, one line out for each: operations 0 to 25.
 //
 // A request is 28 bytes, little-endian, and two byte strings. Byte 0 is the operation, bytes 1 and 2 the promises, byte 3 the
 // byte that fills the output and the work area before the call; from byte 4 on six numbers of four bytes: a, b, the bytes of
@@ -9,7 +9,7 @@
 ghost use Rattle.std.specs.Prelude.{◌≤◌, IfOk, length};
 
 use crate::request::{Operation, Request};
-use crate::runs::run;
+use crate::runs::{MOST_NAMED, run};
 use pauli::bytes::u32_at;
 use std::io;
 use std::io::{Read, Write};
@@ -32,6 +32,11 @@ const MOST_REQUESTS: u64 = 4294967295;
 // Whether the promises and the fill are in range.
 fn is_allowed(head: &[u8; 28]) -> bool {
     head[1] <= 2 && head[2] <= 2 && head[3] > 0
+}
+
+// Whether so many bytes are numbers of a named support, and not too many.
+fn is_named(n: usize) -> bool {
+    n % 4 == 0 && n <= 4 * MOST_NAMED
 }
 
 // Reads until the slice is full or the input ends, and tells how many bytes were read. Also in report: a library of twelve
@@ -86,6 +91,9 @@ fn answer<R: Read, W: Write>(
     let Ok(operation) = Operation::try_from(head[0]) else {
         return Ok(false);
     };
+    if matches!(operation, Operation::Within) && !is_named(m) {
+        return Ok(false);
+    }
     let request = Request::new(head, &buffers.first[..n], &buffers.second[..m]);
     let work = &mut buffers.work[..];
     let out = &mut buffers.out[..];

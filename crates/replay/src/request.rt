@@ -37,6 +37,7 @@ pub(crate) enum Written {
     Modulo,
     Quotient,
     Common,
+    Centralizer,
 }
 
 #[derive(Clone, Copy)]
@@ -47,6 +48,8 @@ pub(crate) enum Operation {
     Member,
     Report,
     Members,
+    // the centralizer on a named support
+    Within,
 }
 
 // No operation has the number.
@@ -82,6 +85,8 @@ impl TryFrom<u8> for Operation {
             21 => Ok(Operation::OnRolls(OnRolls::Sizes)),
             22 => Ok(Operation::OnRolls(OnRolls::Bound)),
             23 => Ok(Operation::Asked(Asked::Page)),
+            24 => Ok(Operation::Written(Written::Centralizer)),
+            25 => Ok(Operation::Within),
             _ => Err(Unknown),
         }
     }

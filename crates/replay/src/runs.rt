@@ -5,6 +5,7 @@ use crate::tells::{
     print_body, print_compared, print_decided, print_entry, print_member, print_multiplied,
     print_number, print_phases, print_results, print_sizes,
 };
+use centralizer::calls::{centralizer_of, centralizer_within};
 use closing_report::report::closing_report;
 use factorizations::calls::indexed_factorizations_of;
 use pauli::join::join;
@@ -95,6 +96,7 @@ fn run_written<W: Write>(
         Written::Modulo => modulo(first, second, promises, work, out),
         Written::Quotient => try_quotient(first, second, promises, work, out),
         Written::Common => bitand(first, second, promises, work, out),
+        Written::Centralizer => centralizer_of(first, work, out),
     };
     print_wrote(to, wrote)
 }
@@ -130,6 +132,28 @@ fn run_members<W: Write>(
     )
 }
 
+// The most numbers of a named support that are read.
+pub(crate) const MOST_NAMED: usize = 1024;
+
+// The centralizer on the support that the second string names, four bytes a number, and how many bytes it wrote.
+fn run_within<W: Write>(
+    to: &mut W,
+    request: Request,
+    work: &mut [u64],
+    out: &mut [u8],
+) -> io::Result<usize> {
+    let mut named = [0; MOST_NAMED];
+    let (numbers, _) = request.second.as_chunks::<4>();
+    let count = numbers.len().min(MOST_NAMED);
+    for (i, bytes) in numbers[..count].iter().enumerate() {
+        named[i] = u32::from_le_bytes(*bytes);
+    }
+    print_wrote(
+        to,
+        centralizer_within(request.first, &named[..count], work, out),
+    )
+}
+
 // Fills what the call is lent, makes the call, and prints its line.
 pub(crate) fn run<W: Write>(
     to: &mut W,
@@ -161,6 +185,10 @@ pub(crate) fn run<W: Write>(
         Operation::Report => {
             let n = print_wrote(to, closing_report(request.first, work, out))?;
             end_line(to, out, n, fill)
+        }
+        Operation::Within => {
+            let n = run_within(to, request, work, out)?;
+            end_work_line(to, out, n, work, fill)
         }
         Operation::Members => {
             let n = run_members(to, request, work, out)?;

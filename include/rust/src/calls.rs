@@ -25,6 +25,10 @@ extern "C" {
     pub fn howhiruke_standard_generators(
         roll: *const u8, n: usize, work: *mut u64, words: usize, out: *mut u8, room: usize,
     ) -> Answer;
+    pub fn howhiruke_centralizer_of(roll: *const u8, n: usize, work: *mut u64, words: usize, out: *mut u8, room: usize) -> Answer;
+    pub fn howhiruke_centralizer_within(
+        roll: *const u8, n: usize, named: *const u32, k: usize, work: *mut u64, words: usize, out: *mut u8, room: usize,
+    ) -> Answer;
     pub fn howhiruke_rank(roll: *const u8, n: usize, work: *mut u64, words: usize) -> Answer;
     pub fn howhiruke_phases(roll: *const u8, n: usize, promise: u64, work: *mut u64, words: usize) -> Answer;
     pub fn howhiruke_is_abelian(roll: *const u8, n: usize, promise: u64, work: *mut u64, words: usize) -> Answer;

@@ -35,6 +35,8 @@ pub const MOST_LISTED_RANK: usize = 16;
 pub const DEFAULT_PAGE: u32 = 16;
 /// Elements of a page with a count of 128 or more.
 pub const LARGEST_PAGE: u32 = 128;
+/// Distinct qubits of a list and of the named support of its centralizer.
+pub const MOST_TOGETHER: usize = 63;
 
 /// Why a call is refused.
 #[derive(Clone, Copy, Debug, PartialEq, Eq)]
@@ -64,6 +66,8 @@ pub enum Reason {
     Subgroup,
     /// 12: the output is shorter than the result.
     Output,
+    /// 13: the named support does not rise strictly, has a number above 65,535, or more than 63 qubits with the list's own.
+    Support,
     /// A number that this crate does not know: the library is of another version.
     Unknown(u64),
 }
@@ -84,6 +88,7 @@ impl Reason {
             Reason::Listing => 10,
             Reason::Subgroup => 11,
             Reason::Output => 12,
+            Reason::Support => 13,
             Reason::Unknown(number) => number,
         }
     }
@@ -102,6 +107,7 @@ impl Reason {
             10 => Reason::Listing,
             11 => Reason::Subgroup,
             12 => Reason::Output,
+            13 => Reason::Support,
             _ => Reason::Unknown(number),
         }
     }
@@ -122,6 +128,7 @@ impl fmt::Display for Reason {
             Reason::Listing => "a listing with rank above 16",
             Reason::Subgroup => "the divisor is no subgroup",
             Reason::Output => "the output is shorter than the result",
+            Reason::Support => "the named support does not rise, has a number above 65535, or is too large together with the list's own",
             Reason::Unknown(_) => "a reason that this version does not know",
         })
     }
@@ -408,6 +415,23 @@ pub fn elements(roll: &[u8], promise: Promise, start: u32, count: u32, work: &mu
 pub fn symplectic_form_of(roll: &[u8], work: &mut [u64], out: &mut [u8]) -> Result<usize, Refusal> {
     number(unsafe {
         calls::howhiruke_symplectic_form_of(roll.as_ptr(), roll.len(), work.as_mut_ptr(), work.len(), out.as_mut_ptr(), out.len())
+    })
+}
+
+/// Writes generators of the group of all Paulis on the list's own qubits that commute with each of its Paulis, the last of them i; the
+/// roll's length. Reasons 1 to 7, 9, 12, 13; 13 comes before 9.
+pub fn centralizer_of(roll: &[u8], work: &mut [u64], out: &mut [u8]) -> Result<usize, Refusal> {
+    number(unsafe {
+        calls::howhiruke_centralizer_of(roll.as_ptr(), roll.len(), work.as_mut_ptr(), work.len(), out.as_mut_ptr(), out.len())
+    })
+}
+
+/// The same on the named qubits, which rise strictly; no number at all gives i alone. Reasons 1 to 7, 9, 12, 13; 13 comes before 9.
+pub fn centralizer_within(roll: &[u8], named: &[u32], work: &mut [u64], out: &mut [u8]) -> Result<usize, Refusal> {
+    number(unsafe {
+        calls::howhiruke_centralizer_within(
+            roll.as_ptr(), roll.len(), named.as_ptr(), named.len(), work.as_mut_ptr(), work.len(), out.as_mut_ptr(), out.len(),
+        )
     })
 }
 

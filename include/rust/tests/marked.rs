@@ -101,6 +101,21 @@ fn many_elements() {
 }
 
 #[test]
+fn centralizers() {
+    let bell = roll(&[XX, ZZ]);
+    let within = |named: &[u32]| written(|w, o| centralizer_within(&bell, named, w, o));
+    assert_eq!(written(|w, o| centralizer_of(&bell, w, o)), Ok(roll(&[XX, ZZ, (1, &[], &[])])));
+    assert_eq!(within(&[0, 1]), Ok(roll(&[XX, ZZ, (1, &[], &[])])));
+    assert_eq!(within(&[0, 2]), Ok(roll(&[(0, &[2], &[]), (0, &[], &[2]), (1, &[], &[])])));
+    assert_eq!(within(&[]), Ok(roll(&[(1, &[], &[])])));
+    assert_eq!(within(&[1, 0]), refused(Reason::Support, 0));
+    assert_eq!(within(&[HIGHEST_QUBIT + 1]), refused(Reason::Support, 0));
+    let short = centralizer_within(&bell, &[1, 0], &mut work()[1..], &mut [0; 64]);
+    assert_eq!(short, refused(Reason::Support, 0));
+    assert_eq!(centralizer_of(&bell, &mut work()[1..], &mut [0; 64]), refused(Reason::Work, 0));
+}
+
+#[test]
 fn sizes() {
     let (none, bell, x1) = (Promise::None, roll(&[XX, ZZ]), roll(&[X1]));
     assert_eq!(joined_sizes(&bell, &x1), Ok(JoinedSizes { bytes: 52, paulis: 3, qubits: 2 }));
