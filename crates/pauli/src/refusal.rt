@@ -33,6 +33,10 @@ pub enum Reason {
     Output = 12,
     // The named support does not rise strictly, passes the qubit limit, or is too large together with the list's own.
     Support = 13,
+    // A line is empty, too long, ill-formed, or names a roll that was not sent.
+    Line = 14,
+    // A line's parentheses are too deep.
+    Depth = 15,
 }
 
 // A refusal's reason and its place: the Pauli's index in its own roll, or 0.
