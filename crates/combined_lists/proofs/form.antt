@@ -1,2 +1,4 @@
 pub mod Steps
 pub mod LevelLaws
+pub mod ReadBack
+pub mod ReadOnly

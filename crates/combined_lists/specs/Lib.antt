@@ -1,3 +1,4 @@
 pub mod Line
 pub mod Rolls
+pub mod LineTheorems
 pub mod Inner

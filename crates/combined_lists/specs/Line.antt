@@ -149,5 +149,5 @@ deepest d (b ∷ l) = max d (deepest (depth_after d b) l)
 unfoldable pub byte_sent : (ℕ → Bool) → ℕ → Bool
 byte_sent sent b = if is_letter b then sent (b - 65) else true
 
-unfoldable pub bytes_sent : (ℕ → Bool) → List ℕ → Bool
+abbrev pub bytes_sent : (ℕ → Bool) → List ℕ → Bool
 bytes_sent sent l = list_all (byte_sent sent) l

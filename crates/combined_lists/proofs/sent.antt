@@ -1,0 +1,2 @@
+pub mod DepthLaws
+pub mod SentLaws
