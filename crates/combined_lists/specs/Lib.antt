@@ -1,4 +1,8 @@
 pub mod Line
-pub mod Rolls
+pub mod Reader
+pub mod LineCall
 pub mod LineTheorems
+pub mod Work
+pub mod WorkTheorems
+pub mod Marked
 pub mod Inner

@@ -1,6 +1,7 @@
 // The form of a line: four levels that call each other. Each gives the bytes that follow it, or nothing where the line does not begin so.
 ghost use Rattle.std.specs.Prelude.{◌≡◌, option_copied};
-ghost use Rattle.combined_lists.specs.Line.{Sign, atom, level, quotient, common, joined, after};
+ghost use Rattle.combined_lists.specs.Line.{Sign, quotient, common, joined};
+ghost use Rattle.combined_lists.specs.Reader.{atom, level, after};
 ghost use Rattle.combined_lists.specs.Inner.Ends.{rest_after};
 
 // What follows byte b, where it stands first.

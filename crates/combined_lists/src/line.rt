@@ -1,8 +1,8 @@
 // The check of a line, before any roll is read.
 ghost use Rattle.std.specs.Prelude.{◌≡◌, is_some};
 ghost use Rattle.pauli.specs.Refusals.{told_of};
-ghost use Rattle.combined_lists.specs.Line.{tree_of, line_told};
-ghost use Rattle.combined_lists.specs.Rolls.{rolls_in, sent_of, passed};
+ghost use Rattle.combined_lists.specs.Reader.{tree_of};
+ghost use Rattle.combined_lists.specs.LineCall.{line_told, passed, rolls_in, sent_of};
 
 use crate::form::or_level;
 use crate::sent::{all_sent, deepest};

@@ -1,7 +1,7 @@
 // The letters and the depth of a line, by its bytes.
 ghost use Rattle.std.specs.Prelude.{◌≡◌, ◌+◌, ◌^◌, ◌<◌};
 ghost use Rattle.combined_lists.specs.Line.{depth_after, byte_sent, bytes_sent, deepest};
-ghost use Rattle.combined_lists.specs.Rolls.{rolls_in, sent_of};
+ghost use Rattle.combined_lists.specs.LineCall.{rolls_in, sent_of};
 
 // Whether byte b is no letter, or one whose roll was sent.
 fn is_sent(b: u8, rolls: &[&[u8]; 4]) -> bool

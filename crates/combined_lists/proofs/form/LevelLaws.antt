@@ -1,9 +1,9 @@
 -- What follows a level, an atom or a byte, step by step.
-use Rattle.std.proofs.Common.{◌≡◌, ℕ, zero, suc, ◌-◌, ◌≤◌, ◌<◌, Option, Some, None, List, [], ◌∷◌, length, get_or, take, drop, sym, refl, ap, ◌∙◌, arith}
-use Rattle.std.specs.Prelude.{option_map, option_and_then, ◌⊎◌}
-use Rattle.std.specs.Option.{option_map_or}
+use Rattle.std.proofs.Common.{◌≡◌, ℕ, suc, ◌-◌, ◌≤◌, ◌<◌, Option, Some, None, List, [], ◌∷◌, length, get_or, take, drop, sym, refl, ap, ◌∙◌, arith}
+use Rattle.std.specs.Prelude.{option_map, ◌⊎◌}
 use Rattle.std.proofs.lemmas.List.{take_all}
-use Rattle.combined_lists.specs.Line.{Sign, joined, Tree, parens, operation, byte_of, after, letter_at, closed, Reading, Job, atom, level, more, below, reading}
+use Rattle.combined_lists.specs.Line.{Sign, joined, Tree, parens, operation, byte_of}
+use Rattle.combined_lists.specs.Reader.{after, letter_at, Reading, Job, atom, level, more, below, reading}
 use Rattle.combined_lists.specs.Inner.Ends.{rest_after}
 use Rattle.combined_lists.proofs.form.Steps.{after_hit, after_miss, after_some, letter_hit, letter_miss, below_falls, falls, atom_reading, level_reading, more_reading}
 

@@ -1,7 +1,7 @@
 -- Every tree's bytes are read back as that tree.
-use Rattle.std.proofs.Common.{◌≡◌, ℕ, zero, suc, ◌+◌, ◌-◌, ◌≤◌, ◌<◌, Option, Some, None, List, [], ◌∷◌, ◌++◌, sym, refl, ap, ◌∙◌, append_assoc, append-nil, arith}
-use Rattle.std.specs.Prelude.{option_and_then}
-use Rattle.combined_lists.specs.Line.{Sign, quotient, common, joined, Tree, letter, parens, operation, byte_of, bytes_of, rank, rank_of, Binds, after, Job, atom, level, more, below, reading, whole, tree_of}
+use Rattle.std.proofs.Common.{◌≡◌, ℕ, ◌+◌, ◌-◌, ◌≤◌, ◌<◌, Some, None, List, [], ◌∷◌, ◌++◌, refl, ◌∙◌, append_assoc, append-nil, arith}
+use Rattle.combined_lists.specs.Line.{Sign, quotient, common, joined, Tree, letter, parens, operation, byte_of, bytes_of, rank, rank_of, Binds}
+use Rattle.combined_lists.specs.Reader.{after, Job, atom, level, more, below, reading, tree_of}
 use Rattle.combined_lists.proofs.form.Steps.{after_hit, after_miss, letter_hit, atom_reading, level_reading, more_reading, rank_low}
 
 -- no sign of rank k or less stands next

@@ -1,11 +1,11 @@
 -- Only trees' bytes are read.
-use Rattle.std.proofs.Common.{◌≡◌, ℕ, zero, suc, ◌+◌, ◌-◌, ◌*◌, ◌≤◌, ◌<◌, Option, Some, None, List, [], ◌∷◌, ◌++◌, length, sym, refl, ap, ◌∙◌, append_assoc, append-nil, arith}
+use Rattle.std.proofs.Common.{◌≡◌, ℕ, zero, suc, ◌+◌, ◌-◌, ◌*◌, ◌≤◌, ◌<◌, Option, Some, None, List, [], ◌∷◌, ◌++◌, length, sym, refl, ◌∙◌, append_assoc, append-nil, arith}
 use Rattle.std.specs.Prelude.{option_and_then}
 use Rattle.std.specs.Option.{option_map_or}
 use Rattle.std.proofs.lemmas.Option.{option_and_then_some, some_pair_parts}
-use Rattle.combined_lists.specs.Line.{Sign, quotient, common, joined, Tree, letter, parens, operation, byte_of, bytes_of, rank, rank_of, Binds, after, letter_at, closed, Job, atom, level, more, below, read, reading, whole, tree_of}
+use Rattle.combined_lists.specs.Line.{Sign, quotient, common, joined, Tree, letter, operation, byte_of, bytes_of, rank, rank_of, Binds}
+use Rattle.combined_lists.specs.Reader.{after, letter_at, closed, Job, atom, level, more, below, read, reading, whole, tree_of}
 use Rattle.combined_lists.proofs.form.Steps.{after_some, letter_some, closed_some}
-use Rattle.combined_lists.proofs.form.ReadBack.{top_rank}
 
 -- what a job that ends with t and l has read of m
 abbrev Was : Job → List ℕ → Tree → List ℕ → Type 0
@@ -13,7 +13,7 @@ Was atom m t l = Binds t × (rank_of t ≡ 0) × (m ≡ bytes_of t ++ l)
 Was (level s) m t l = Binds t × (rank_of t ≤ rank s) × (m ≡ bytes_of t ++ l)
 Was (more s u) m t l = Binds u → rank_of u ≤ rank s → Binds t × (rank_of t ≤ rank s) × (bytes_of u ++ m ≡ bytes_of t ++ l)
 
-operand_was : (s : Sign) (m : List ℕ) (t : Tree) (l : List ℕ) → Was (below s) m t l → Binds t × (rank_of t < rank s) × (m ≡ bytes_of t ++ l)
+pub operand_was : (s : Sign) (m : List ℕ) (t : Tree) (l : List ℕ) → Was (below s) m t l → Binds t × (rank_of t < rank s) × (m ≡ bytes_of t ++ l)
 operand_was quotient m t l w = (w.0, omega arith, w.2)
 operand_was common m t l w = (w.0, omega arith, w.2)
 operand_was joined m t l w = (w.0, omega arith, w.2)
@@ -53,7 +53,7 @@ module _ (f : ℕ) (was : (j : Job) (m : List ℕ) (t : Tree) (l : List ℕ) →
         let first = after_some (byte_of s) m right a in
         (v.0, v.1, rw (first, w.2) (sym (append_assoc (bytes_of u) (byte_of s ∷ bytes_of p.0) p.1) ∙ v.2)))
 
-was : (f : ℕ) (j : Job) (m : List ℕ) (t : Tree) (l : List ℕ) → read f j m ≡ Some (t, l) → Was j m t l
+pub was : (f : ℕ) (j : Job) (m : List ℕ) (t : Tree) (l : List ℕ) → read f j m ≡ Some (t, l) → Was j m t l
 unfolding read
 was zero j m t l e = absurd (cc)
 was (suc f) atom m t l e = atom_was f (was f) m t l (after 40 m) refl e

@@ -1,9 +1,10 @@
 -- The check of a line, test by test, by its bytes.
-use Rattle.std.proofs.Common.{◌≡◌, ℕ, ◌≤◌, ◌<◌, Bool, true, false, not, Option, Some, None, List, [], ◌∷◌, length, sym, refl, ap, ◌∙◌, arith, le-ltb, lt-ltb, ne_eqb}
+use Rattle.std.proofs.Common.{◌≡◌, ℕ, ◌≤◌, ◌<◌, Bool, true, false, not, Option, Some, None, List, [], ◌∷◌, length, sym, refl, arith, le-ltb, lt-ltb, ne_eqb}
 use Rattle.std.specs.Prelude.{nat_lt, is_some, ◌==◌}
 use Rattle.pauli.specs.Told.{Told, answer, refused, refuse_if, map_told}
-use Rattle.combined_lists.specs.Line.{Tree, joined, level, whole, depth_of, all_sent, tree_of, tree_told, line_told, deepest, bytes_sent, longest_line, deepest_line}
-use Rattle.combined_lists.specs.Rolls.{passed}
+use Rattle.combined_lists.specs.Line.{Tree, joined, depth_of, all_sent, deepest, bytes_sent}
+use Rattle.combined_lists.specs.Reader.{level, whole, tree_of}
+use Rattle.combined_lists.specs.LineCall.{longest_line, deepest_line, tree_told, line_told, passed}
 use Rattle.combined_lists.specs.Inner.Ends.{rest_after}
 use Rattle.combined_lists.proofs.form.LevelLaws.{read_some, read_none}
 use Rattle.combined_lists.proofs.line.LineLaws.{reads_of, depth_law, letters_law}

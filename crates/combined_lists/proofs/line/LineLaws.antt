@@ -1,9 +1,11 @@
 -- What is proved of lines.
-use Rattle.std.proofs.Common.{◌≡◌, ℕ, ◌≤◌, ◌<◌, Bool, true, false, not, Option, Some, None, List, length, sym, refl, ap, ◌∙◌, arith, ltb-true, ltb-false}
+use Rattle.std.proofs.Common.{◌≡◌, ℕ, ◌≤◌, ◌<◌, Bool, true, false, Option, Some, None, List, length, refl, ap, ◌∙◌, arith, ltb-true, ltb-false}
 use Rattle.std.specs.Prelude.{nat_lt}
-use Rattle.pauli.specs.Told.{Told, answer, refused, refuse_if}
-use Rattle.combined_lists.specs.Line.{Tree, Binds, bytes_of, depth_of, all_sent, tree_of, tree_told, line_told, deepest, bytes_sent, longest_line, deepest_line}
-use Rattle.combined_lists.specs.LineTheorems.{Reads, Accepted, LineLaw}
+use Rattle.pauli.specs.Told.{answer, refused, refuse_if}
+use Rattle.combined_lists.specs.Line.{Tree, depth_of, all_sent, deepest, bytes_sent}
+use Rattle.combined_lists.specs.Reader.{tree_of}
+use Rattle.combined_lists.specs.LineCall.{line_told, longest_line, deepest_line}
+use Rattle.combined_lists.specs.LineTheorems.{Reads, Legal, LineLaw}
 use Rattle.combined_lists.proofs.form.ReadBack as back
 use Rattle.combined_lists.proofs.form.ReadOnly as only
 use Rattle.combined_lists.proofs.sent.DepthLaws.{depth_is}
@@ -36,12 +38,12 @@ letters_law sent l t r = rw (r.bytes) at (letters_are sent t r.binds)
 
 -- what a line is told
 data Case (sent : ℕ → Bool) (l : List ℕ) : Type 0 where
-  ill : line_told sent l ≡ refused 14 0 → ((t : Tree) → Accepted sent l t → ⊥) → Case sent l
-  deep : (t : Tree) → line_told sent l ≡ refused 15 0 → Accepted sent l t → deepest_line < depth_of t → Case sent l
-  fine : (t : Tree) → line_told sent l ≡ answer t → Accepted sent l t → depth_of t ≤ deepest_line → Case sent l
+  ill : line_told sent l ≡ refused 14 0 → ((t : Tree) → Legal sent l t → ⊥) → Case sent l
+  deep : (t : Tree) → line_told sent l ≡ refused 15 0 → Legal sent l t → deepest_line < depth_of t → Case sent l
+  fine : (t : Tree) → line_told sent l ≡ answer t → Legal sent l t → depth_of t ≤ deepest_line → Case sent l
 
 module _ (sent : ℕ → Bool) (l : List ℕ) where
-  same_sent : (t u : Tree) → Reads l t → Accepted sent l u → all_sent sent t ≡ true
+  same_sent : (t u : Tree) → Reads l t → Legal sent l u → all_sent sent t ≡ true
   same_sent t u r s = let e = one_reading l t u r s.reads in rw e s.named
 
   case_of : Case sent l
@@ -64,35 +66,35 @@ module _ (sent : ℕ → Bool) (l : List ℕ) where
       long true h = ill (rw h) (λ t s. omega (arith, ltb-true longest_line (length l) h, s.fits))
       long false h = form h (tree_of l) refl
 
-  same : (t u : Tree) → Accepted sent l t → Accepted sent l u → t ≡ u
+  same : (t u : Tree) → Legal sent l t → Legal sent l u → t ≡ u
   same t u s r = one_reading l t u s.reads r.reads
 
-  fourteen_only : Case sent l → line_told sent l ≡ refused 14 0 → (t : Tree) → Accepted sent l t → ⊥
+  fourteen_only : Case sent l → line_told sent l ≡ refused 14 0 → (t : Tree) → Legal sent l t → ⊥
   fourteen_only (ill e h) q = h
   fourteen_only (deep t e s d) q = absurd (let z : ◌≡◌ {A = ℕ} 14 15 = cc in omega arith)
   fourteen_only (fine t e s d) q = absurd (cc)
 
-  fourteen_when : Case sent l → ((t : Tree) → Accepted sent l t → ⊥) → line_told sent l ≡ refused 14 0
+  fourteen_when : Case sent l → ((t : Tree) → Legal sent l t → ⊥) → line_told sent l ≡ refused 14 0
   fourteen_when (ill e h) q = e
   fourteen_when (deep t e s d) q = absurd (q t s)
   fourteen_when (fine t e s d) q = absurd (q t s)
 
-  fifteen_only : Case sent l → line_told sent l ≡ refused 15 0 → (t : Tree) × Accepted sent l t × (deepest_line < depth_of t)
+  fifteen_only : Case sent l → line_told sent l ≡ refused 15 0 → (t : Tree) × Legal sent l t × (deepest_line < depth_of t)
   fifteen_only (ill e h) q = absurd (let z : ◌≡◌ {A = ℕ} 14 15 = cc in omega arith)
   fifteen_only (deep t e s d) q = (t, s, d)
   fifteen_only (fine t e s d) q = absurd (cc)
 
-  fifteen_when : Case sent l → (t : Tree) → Accepted sent l t → deepest_line < depth_of t → line_told sent l ≡ refused 15 0
+  fifteen_when : Case sent l → (t : Tree) → Legal sent l t → deepest_line < depth_of t → line_told sent l ≡ refused 15 0
   fifteen_when (ill e h) u r k = absurd (h u r)
   fifteen_when (deep t e s d) u r k = e
   fifteen_when (fine t e s d) u r k = absurd (let q = ap depth_of (same t u s r) in omega arith)
 
-  accepted_only : Case sent l → (u : Tree) → line_told sent l ≡ answer u → Accepted sent l u × (depth_of u ≤ deepest_line)
+  accepted_only : Case sent l → (u : Tree) → line_told sent l ≡ answer u → Legal sent l u × (depth_of u ≤ deepest_line)
   accepted_only (ill e h) u q = absurd (cc)
   accepted_only (deep t e s d) u q = absurd (cc)
   accepted_only (fine t e s d) u q = let i : t ≡ u = cc in rw (← i) (s, d)
 
-  accepted_when : Case sent l → (u : Tree) → Accepted sent l u → depth_of u ≤ deepest_line → line_told sent l ≡ answer u
+  accepted_when : Case sent l → (u : Tree) → Legal sent l u → depth_of u ≤ deepest_line → line_told sent l ≡ answer u
   accepted_when (ill e h) u r k = absurd (h u r)
   accepted_when (deep t e s d) u r k = absurd (let q = ap depth_of (same t u s r) in omega arith)
   accepted_when (fine t e s d) u r k = e ∙ ap answer (same t u s r)

@@ -1,5 +1,5 @@
 -- Depth by the bytes, and that of a tree.
-use Rattle.std.proofs.Common.{◌≡◌, ℕ, zero, suc, ◌+◌, ◌-◌, ◌≤◌, ◌<◌, max, List, [], ◌∷◌, ◌++◌, length, get_or, drop, sym, refl, ap, ◌∙◌, append_assoc, append-nil, add-one, drop-cons, arith, eq-eqb, ne_eqb}
+use Rattle.std.proofs.Common.{◌≡◌, ℕ, ◌+◌, ◌-◌, ◌≤◌, ◌<◌, max, List, [], ◌∷◌, ◌++◌, length, get_or, drop, sym, refl, ◌∙◌, append_assoc, append-nil, add-one, drop-cons, arith, ne_eqb}
 use Rattle.std.proofs.Math.ListN.{drop_of_length-le}
 use Rattle.combined_lists.specs.Line.{Sign, quotient, common, joined, Tree, letter, parens, operation, byte_of, bytes_of, Binds, depth_of, depth_after, deepest}
 
@@ -21,7 +21,7 @@ pub grows : (d b : ℕ) → depth_after d b ≤ d + 1
 unfolding depth_after
 grows d b = grind arith
 
-sign_deep : (d : ℕ) (s : Sign) → depth_after d (byte_of s) ≡ d
+pub sign_deep : (d : ℕ) (s : Sign) → depth_after d (byte_of s) ≡ d
 unfolding depth_after
 sign_deep d quotient = refl
 sign_deep d common = refl
@@ -41,7 +41,7 @@ same_deep d b l h = next_deep d b d l h ∙ omega (arith, at_least d l)
 
 -- ---- a tree's bytes
 
-deepest_of : (t : Tree) (d : ℕ) (l : List ℕ) → Binds t → deepest d (bytes_of t ++ l) ≡ max (d + depth_of t) (deepest d l)
+pub deepest_of : (t : Tree) (d : ℕ) (l : List ℕ) → Binds t → deepest d (bytes_of t ++ l) ≡ max (d + depth_of t) (deepest d l)
 unfolding bytes_of depth_of
 deepest_of (letter a) d l b = same_deep d (65 + a) l (as_deep d (65 + a) (λ e. omega arith) (λ e. omega arith)) ∙ omega (arith, at_least d l)
 deepest_of (parens t) d l b =

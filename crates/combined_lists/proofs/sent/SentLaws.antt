@@ -1,14 +1,14 @@
 -- Letters by the bytes, and those of a tree.
-use Rattle.std.proofs.Common.{◌≡◌, ℕ, ◌+◌, ◌-◌, ◌≤◌, ◌<◌, Bool, true, not, List, [], ◌∷◌, ◌++◌, length, get_or, sym, refl, ap, ◌∙◌, arith}
-use Rattle.std.specs.Prelude.{◌==◌, ◌⊎◌, ◌&&◌}
+use Rattle.std.proofs.Common.{◌≡◌, ℕ, ◌+◌, ◌-◌, ◌≤◌, ◌<◌, Bool, true, not, List, [], ◌∷◌, length, get_or, sym, refl, ap, ◌∙◌, arith}
+use Rattle.std.specs.Prelude.{◌==◌, ◌⊎◌}
 use Rattle.std.specs.List.{list_all}
 use Rattle.std.specs.Borrow.{Bor}
 use Rattle.std.proofs.Math.Bool.{and-true}
 use Rattle.std.proofs.lemmas.Bool.{le-leb}
 use Rattle.std.proofs.lemmas.List.{get_or-map}
 use Rattle.std.proofs.lemmas.List.Folds.{list_all-append}
-use Rattle.combined_lists.specs.Line.{Sign, quotient, common, joined, Tree, letter, parens, operation, byte_of, bytes_of, Binds, all_sent, is_letter, byte_sent, bytes_sent}
-use Rattle.combined_lists.specs.Rolls.{rolls_in, sent_of}
+use Rattle.combined_lists.specs.Line.{Sign, quotient, common, joined, Tree, letter, parens, operation, byte_of, bytes_of, Binds, all_sent, byte_sent, bytes_sent}
+use Rattle.combined_lists.specs.LineCall.{rolls_in, sent_of}
 use Rattle.combined_lists.proofs.form.Steps.{not_letter}
 
 pub letter_sent : (sent : ℕ → Bool) (b : ℕ) → 65 ≤ b → b ≤ 68 → byte_sent sent b ≡ sent (b - 65)

@@ -1,0 +1,2 @@
+pub mod WorkedLaws
+pub mod WalkLaws
