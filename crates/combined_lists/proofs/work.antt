@@ -1,2 +1,2 @@
-pub mod WorkedLaws
+pub mod WorkLaws
 pub mod WalkLaws

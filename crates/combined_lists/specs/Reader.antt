@@ -16,12 +16,12 @@ unfoldable pub letter_at : List ℕ → Reading
 letter_at [] = None
 letter_at (b ∷ l) = if is_letter b then Some (letter (b - 65), l) else None
 
--- a tree in parentheses, of which the second has not been read
-abbrev pub closed : Tree → List ℕ → Reading
-closed t l = option_map (λ rest. (parens t, rest)) (after 41 l)
+-- a tree in parentheses, of which the first has been read
+abbrev pub closed : Tree × List ℕ → Reading
+closed (t, l) = option_map (λ rest. (parens t, rest)) (after 41 l)
 
--- what is to be read: an atom, which is a letter or a tree in parentheses; a level, which is a tree of at most this sign's rank; or, of a
--- level with this sign, what follows a tree that it begins with
+-- what is to be read: an atom, which is a letter or a tree in parentheses; a level, which is a tree of at most this sign's rank; or more
+-- of such a level, which begins with this tree
 pub data Job : Type 0 where
   atom : Job
   level : Sign → Job
@@ -36,20 +36,21 @@ below joined = level common
 -- the first number bounds the steps
 unfoldable pub read : ℕ → Job → List ℕ → Reading
 read zero j l = None
-read (suc f) atom l = option_map_or (λ inner. option_and_then (λ r. closed r.0 r.1) (read f (level joined) inner)) (after 40 l) (letter_at l)
-read (suc f) (level s) l = option_and_then (λ r. read f (more s r.0) r.1) (read f (below s) l)
+read (suc f) atom l = option_map_or (λ inner. option_and_then closed (read f (level joined) inner)) (after 40 l) (letter_at l)
+read (suc f) (level s) l = option_and_then (λ (t, rest). read f (more s t) rest) (read f (below s) l)
 read (suc f) (more s t) l =
-    option_map_or (λ right. option_and_then (λ r. read f (more s (operation s t r.0)) r.1) (read f (below s) right)) (after (byte_of s) l) (Some (t, l))
+    option_map_or (λ right. option_and_then (λ (u, rest). read f (more s (operation s t u)) rest) (read f (below s) right))
+    (after (byte_of s) l) (Some (t, l))
 
 -- with as many steps as these bytes can take
 unfoldable pub reading : Job → List ℕ → Reading
 reading j l = read (4 * length l + 4) j l
 
 -- a tree that nothing follows
-abbrev pub whole : Tree → List ℕ → Option Tree
-whole t [] = Some t
-whole t (b ∷ l) = None
+abbrev pub whole : Tree × List ℕ → Option Tree
+whole (t, []) = Some t
+whole (t, b ∷ l) = None
 
 -- the tree that is written so, if there is one
 unfoldable pub tree_of : List ℕ → Option Tree
-tree_of l = option_and_then (λ r. whole r.0 r.1) (reading (level joined) l)
+tree_of l = option_and_then whole (reading (level joined) l)

@@ -10,13 +10,16 @@ value_of op rolls (letter a) = answer (rolls a)
 value_of op rolls (parens t) = value_of op rolls t
 value_of op rolls (operation s l r) = and_then (value_of op rolls l) λ x. and_then (value_of op rolls r) λ y. op s x y
 
--- "the calls made singly in that order": a run of calls that a tree asks for, and what it comes to. Call says what a call may tell
+-- "the calls made singly in that order": a run of the calls that a tree asks for, and what it comes to; Call says what a call may tell
 pub data Runs {A : Type 0} (Call : Sign → A → A → Told A → Type 0) (rolls : ℕ → A) : Tree → Told A → Type 0 where
   roll : (a : ℕ) → Runs Call rolls (letter a) (answer (rolls a))
   inside : (t : Tree) (o : Told A) → Runs Call rolls t o → Runs Call rolls (parens t) o
-  left : (s : Sign) (l r : Tree) (n p : ℕ) → Runs Call rolls l (refused n p) → Runs Call rolls (operation s l r) (refused n p)
-  right : (s : Sign) (l r : Tree) (x : A) (n p : ℕ) → Runs Call rolls l (answer x) → Runs Call rolls r (refused n p) → Runs Call rolls (operation s l r) (refused n p)
-  call : (s : Sign) (l r : Tree) (x y : A) (o : Told A) → Runs Call rolls l (answer x) → Runs Call rolls r (answer y) → Call s x y o → Runs Call rolls (operation s l r) o
+  left : (s : Sign) (l r : Tree) (n p : ℕ)
+      → Runs Call rolls l (refused n p) → Runs Call rolls (operation s l r) (refused n p)
+  right : (s : Sign) (l r : Tree) (x : A) (n p : ℕ)
+      → Runs Call rolls l (answer x) → Runs Call rolls r (refused n p) → Runs Call rolls (operation s l r) (refused n p)
+  call : (s : Sign) (l r : Tree) (x y : A) (o : Told A)
+      → Runs Call rolls l (answer x) → Runs Call rolls r (answer y) → Call s x y o → Runs Call rolls (operation s l r) o
 
 -- operands that wait at the same time: a left one, while the right one is worked out
 unfoldable pub waiting : Tree → ℕ

@@ -1,4 +1,4 @@
--- What is proved of working a line out. The statements are types; their proofs, terms of them, are in proofs/work/WorkedLaws.
+-- What is proved of working a line out. The statements are types; their proofs, terms of them, are in proofs/work/WorkLaws.
 use Rattle.std.specs.Prelude.{◌≡◌, ℕ, ◌+◌, ◌*◌, ◌≤◌, ◌<◌}
 use Rattle.pauli.specs.Told.{Told}
 use Rattle.combined_lists.specs.Line.{Sign, Tree, rank_of, Binds, depth_of}

@@ -1,4 +1,5 @@
-// The form of a line: four levels that call each other. Each gives the bytes that follow it, or nothing where the line does not begin so.
+// The form of a line: four levels that call each other. Each gives the bytes that follow it, or `None` where the line does not begin
+// with it.
 ghost use Rattle.std.specs.Prelude.{◌≡◌, option_copied};
 ghost use Rattle.combined_lists.specs.Line.{Sign, quotient, common, joined};
 ghost use Rattle.combined_lists.specs.Reader.{atom, level, after};
@@ -28,7 +29,7 @@ pub(crate) fn or_level(line: &[u8]) -> Option<&[u8]>
 
 // and-level: quotient-level { '&' quotient-level }
 #[cycle(levels)]
-pub(crate) fn and_level(line: &[u8]) -> Option<&[u8]>
+fn and_level(line: &[u8]) -> Option<&[u8]>
     ensures { option_copied result ≡ rest_after (level common) line.now }
 {
     let mut rest = quotient_level(line)?;
@@ -40,7 +41,7 @@ pub(crate) fn and_level(line: &[u8]) -> Option<&[u8]>
 
 // quotient-level: atom { '/' atom }
 #[cycle(levels)]
-pub(crate) fn quotient_level(line: &[u8]) -> Option<&[u8]>
+fn quotient_level(line: &[u8]) -> Option<&[u8]>
     ensures { option_copied result ≡ rest_after (level quotient) line.now }
 {
     let mut rest = atom(line)?;
@@ -52,7 +53,7 @@ pub(crate) fn quotient_level(line: &[u8]) -> Option<&[u8]>
 
 // atom: 'A' .. 'D', or '(' or-level ')'
 #[cycle(levels)]
-pub(crate) fn atom(line: &[u8]) -> Option<&[u8]>
+fn atom(line: &[u8]) -> Option<&[u8]>
     ensures { option_copied result ≡ rest_after atom line.now }
 {
     if let Some(inner) = after(line, b'(') {

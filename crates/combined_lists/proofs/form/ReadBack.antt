@@ -93,8 +93,13 @@ letter_read a h l stops =
 parens_read : (t : Tree) → Goes joined t → Read 0 atom (parens t)
 unfolding bytes_of
 parens_read t g l stops =
-    rw (append_assoc (bytes_of t) (41 ∷ []) l, atom_reading (40 ∷ (bytes_of t ++ (41 ∷ l))), after_hit 40 (bytes_of t ++ (41 ∷ l)),
-      ends joined t g (41 ∷ l) (λ k h. after_miss (byte_of k) 41 l (no_sign k)), after_hit 41 l)
+    rw (
+      append_assoc (bytes_of t) (41 ∷ []) l,
+      atom_reading (40 ∷ (bytes_of t ++ (41 ∷ l))),
+      after_hit 40 (bytes_of t ++ (41 ∷ l)),
+      ends joined t g (41 ∷ l) (λ k h. after_miss (byte_of k) 41 l (no_sign k)),
+      after_hit 41 l,
+    )
   where
     no_sign : (s : Sign) → 41 ≡ byte_of s → ⊥
     no_sign quotient e = omega arith
@@ -114,5 +119,6 @@ known (operation s l r) b = from_sign (operation s l r) s refl (turns s l r ((kn
 pub read_back : (t : Tree) → Binds t → tree_of (bytes_of t) ≡ Some t
 unfolding tree_of after
 read_back t b =
-    let e : reading (level joined) (bytes_of t) ≡ Some (t, []) = rw (append-nil (bytes_of t)) at (ends joined t ((known t b).goes joined (top_rank t)) [] (λ k h. refl)) in
+    let e : reading (level joined) (bytes_of t) ≡ Some (t, []) =
+    rw (append-nil (bytes_of t)) at (ends joined t ((known t b).goes joined (top_rank t)) [] (λ k h. refl)) in
     rw e

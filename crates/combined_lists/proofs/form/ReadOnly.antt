@@ -24,22 +24,23 @@ letter_was b m t l first names low high = let e : 65 + (b - 65) ≡ b = omega ar
 
 module _ (f : ℕ) (was : (j : Job) (m : List ℕ) (t : Tree) (l : List ℕ) → read f j m ≡ Some (t, l) → Was j m t l) where
   atom_was : (m : List ℕ) (t : Tree) (l : List ℕ) (o : Option (List ℕ)) → after 40 m ≡ o
-      → option_map_or (λ inner. option_and_then (λ p. closed p.0 p.1) (read f (level joined) inner)) o (letter_at m) ≡ Some (t, l) → Was atom m t l
+      → option_map_or (λ inner. option_and_then closed (read f (level joined) inner)) o (letter_at m) ≡ Some (t, l) → Was atom m t l
   unfolding bytes_of
   atom_was m t l None a e = let w = letter_some m t l e in letter_was w.byte m t l w.first w.names w.low w.high
   atom_was m t l (Some inner) a e =
       option_and_then_some _ _ _ e (λ p x y.
-        let w = was (level joined) inner p.0 p.1 x in
-        let c = closed_some p.0 p.1 t l y in
-        let first = after_some 40 m inner a in
-        rw (c.1, first, w.2, c.0) (w.0, refl, rw (append_assoc (bytes_of p.0) (41 ∷ []) l)))
+      let w = was (level joined) inner p.0 p.1 x in
+      let c = closed_some p.0 p.1 t l y in
+      let first = after_some 40 m inner a in
+      rw (c.1, first, w.2, c.0) (w.0, refl, rw (append_assoc (bytes_of p.0) (41 ∷ []) l)))
 
-  level_was : (s : Sign) (m : List ℕ) (t : Tree) (l : List ℕ) → option_and_then (λ p. read f (more s p.0) p.1) (read f (below s) m) ≡ Some (t, l) → Was (level s) m t l
+  level_was : (s : Sign) (m : List ℕ) (t : Tree) (l : List ℕ)
+      → option_and_then (λ p. read f (more s p.0) p.1) (read f (below s) m) ≡ Some (t, l) → Was (level s) m t l
   level_was s m t l e =
       option_and_then_some _ _ _ e (λ p x y.
-        let w = operand_was s m p.0 p.1 (was (below s) m p.0 p.1 x) in
-        let v = was (more s p.0) p.1 t l y w.0 (omega (arith, w.1)) in
-        (v.0, v.1, w.2 ∙ v.2))
+      let w = operand_was s m p.0 p.1 (was (below s) m p.0 p.1 x) in
+      let v = was (more s p.0) p.1 t l y w.0 (omega (arith, w.1)) in
+      (v.0, v.1, w.2 ∙ v.2))
 
   more_was : (s : Sign) (u : Tree) (m : List ℕ) (t : Tree) (l : List ℕ) (o : Option (List ℕ)) → after (byte_of s) m ≡ o
       → option_map_or (λ right. option_and_then (λ p. read f (more s (operation s u p.0)) p.1) (read f (below s) right)) o (Some (u, m)) ≡ Some (t, l)
@@ -48,10 +49,10 @@ module _ (f : ℕ) (was : (j : Job) (m : List ℕ) (t : Tree) (l : List ℕ) →
   more_was s u m t l None a e b k = let d = some_pair_parts u t m l e in rw (← d.0, d.1) (b, k, refl)
   more_was s u m t l (Some right) a e b k =
       option_and_then_some _ _ _ e (λ p x y.
-        let w = operand_was s right p.0 p.1 (was (below s) right p.0 p.1 x) in
-        let v = was (more s (operation s u p.0)) p.1 t l y (k, w.1, b, w.0) (omega arith) in
-        let first = after_some (byte_of s) m right a in
-        (v.0, v.1, rw (first, w.2) (sym (append_assoc (bytes_of u) (byte_of s ∷ bytes_of p.0) p.1) ∙ v.2)))
+      let w = operand_was s right p.0 p.1 (was (below s) right p.0 p.1 x) in
+      let v = was (more s (operation s u p.0)) p.1 t l y (k, w.1, b, w.0) (omega arith) in
+      let first = after_some (byte_of s) m right a in
+      (v.0, v.1, rw (first, w.2) (sym (append_assoc (bytes_of u) (byte_of s ∷ bytes_of p.0) p.1) ∙ v.2)))
 
 pub was : (f : ℕ) (j : Job) (m : List ℕ) (t : Tree) (l : List ℕ) → read f j m ≡ Some (t, l) → Was j m t l
 unfolding read
@@ -64,9 +65,9 @@ pub read_only : (m : List ℕ) (t : Tree) → tree_of m ≡ Some t → Binds t �
 unfolding tree_of reading
 read_only m t e =
     option_and_then_some _ _ _ e (λ p x y.
-      let w = was (4 * length m + 4) (level joined) m p.0 p.1 x in
-      go p.0 p.1 y w)
+    let w = was (4 * length m + 4) (level joined) m p.0 p.1 x in
+    go p.0 p.1 y w)
   where
-    go : (u : Tree) (l : List ℕ) → whole u l ≡ Some t → Binds u × (rank_of u ≤ 3) × (m ≡ bytes_of u ++ l) → Binds t × (bytes_of t ≡ m)
+    go : (u : Tree) (l : List ℕ) → whole (u, l) ≡ Some t → Binds u × (rank_of u ≤ 3) × (m ≡ bytes_of u ++ l) → Binds t × (bytes_of t ≡ m)
     go u [] y w = let i : u ≡ t = cc in rw (← i) (w.0, sym (w.2 ∙ append-nil (bytes_of u)))
     go u (b ∷ l) y w = absurd (cc)

@@ -60,7 +60,7 @@ letter_some (b ∷ m) t l e = go (nat_le 65 b) (nat_le b 68) refl refl
     go false y h k = absurd (let d : ◌≡◌ {A = Reading} None (Some (t, l)) = rw h at e in cc)
 
 -- a parenthesis was there
-pub closed_some : (u : Tree) (m : List ℕ) (t : Tree) (l : List ℕ) → closed u m ≡ Some (t, l) → (m ≡ 41 ∷ l) × (t ≡ parens u)
+pub closed_some : (u : Tree) (m : List ℕ) (t : Tree) (l : List ℕ) → closed (u, m) ≡ Some (t, l) → (m ≡ 41 ∷ l) × (t ≡ parens u)
 closed_some u m t l e = go (after 41 m) refl e
   where
     go : (o : Option (List ℕ)) → after 41 m ≡ o → option_map {U = Tree × List ℕ} (λ r. (parens u, r)) o ≡ Some (t, l) → (m ≡ 41 ∷ l) × (t ≡ parens u)
@@ -81,21 +81,22 @@ below_falls joined n m h = h
 
 module _ (f : ℕ) (rest : (j : Job) (l : List ℕ) (t : Tree) (r : List ℕ) → read f j l ≡ Some (t, r) → Falls j (length l) (length r)) where
   atom_falls : (l : List ℕ) (t : Tree) (r : List ℕ) (o : Option (List ℕ)) → after 40 l ≡ o
-      → option_map_or (λ inner. option_and_then (λ p. closed p.0 p.1) (read f (level joined) inner)) o (letter_at l) ≡ Some (t, r) → length r < length l
+      → option_map_or (λ inner. option_and_then closed (read f (level joined) inner)) o (letter_at l) ≡ Some (t, r) → length r < length l
   atom_falls l t r None a e = let w = letter_some l t r e in let n = ap length w.first in omega arith
   atom_falls l t r (Some inner) a e =
       option_and_then_some _ _ _ e (λ p x y.
-        let n = ap length (after_some 40 l inner a) in
-        let k = rest (level joined) inner p.0 p.1 x in
-        let c = ap length (closed_some p.0 p.1 t r y).0 in
-        omega arith)
+      let n = ap length (after_some 40 l inner a) in
+      let k = rest (level joined) inner p.0 p.1 x in
+      let c = ap length (closed_some p.0 p.1 t r y).0 in
+      omega arith)
 
-  level_falls : (s : Sign) (l : List ℕ) (t : Tree) (r : List ℕ) → option_and_then (λ p. read f (more s p.0) p.1) (read f (below s) l) ≡ Some (t, r) → length r < length l
+  level_falls : (s : Sign) (l : List ℕ) (t : Tree) (r : List ℕ)
+      → option_and_then (λ p. read f (more s p.0) p.1) (read f (below s) l) ≡ Some (t, r) → length r < length l
   level_falls s l t r e =
       option_and_then_some _ _ _ e (λ p x y.
-        let k = below_falls s _ _ (rest (below s) l p.0 p.1 x) in
-        let m = rest (more s p.0) p.1 t r y in
-        omega arith)
+      let k = below_falls s _ _ (rest (below s) l p.0 p.1 x) in
+      let m = rest (more s p.0) p.1 t r y in
+      omega arith)
 
   more_falls : (s : Sign) (u : Tree) (l : List ℕ) (t : Tree) (r : List ℕ) (o : Option (List ℕ)) → after (byte_of s) l ≡ o
       → option_map_or (λ right. option_and_then (λ p. read f (more s (operation s u p.0)) p.1) (read f (below s) right)) o (Some (u, l)) ≡ Some (t, r)
@@ -103,10 +104,10 @@ module _ (f : ℕ) (rest : (j : Job) (l : List ℕ) (t : Tree) (r : List ℕ) �
   more_falls s u l t r None a e = let d = some_pair_parts u t l r e in let n = ap length d.1 in omega arith
   more_falls s u l t r (Some right) a e =
       option_and_then_some _ _ _ e (λ p x y.
-        let n = ap length (after_some (byte_of s) l right a) in
-        let k = below_falls s _ _ (rest (below s) right p.0 p.1 x) in
-        let m = rest (more s (operation s u p.0)) p.1 t r y in
-        omega arith)
+      let n = ap length (after_some (byte_of s) l right a) in
+      let k = below_falls s _ _ (rest (below s) right p.0 p.1 x) in
+      let m = rest (more s (operation s u p.0)) p.1 t r y in
+      omega arith)
 
 falls_in : (f : ℕ) (j : Job) (l : List ℕ) (t : Tree) (r : List ℕ) → read f j l ≡ Some (t, r) → Falls j (length l) (length r)
 unfolding read
@@ -142,8 +143,8 @@ Enough f g = (j : Job) (l : List ℕ) → 4 * length l + job_rank j < f → 4 * 
 
 module _ (f g : ℕ) (same : Enough f g) where
   atom_enough : (l : List ℕ) → 4 * length l < suc f → 4 * length l < suc g → (o : Option (List ℕ)) → after 40 l ≡ o
-      → option_map_or (λ inner. option_and_then (λ p. closed p.0 p.1) (read f (level joined) inner)) o (letter_at l)
-      ≡ option_map_or (λ inner. option_and_then (λ p. closed p.0 p.1) (read g (level joined) inner)) o (letter_at l)
+      → option_map_or (λ inner. option_and_then closed (read f (level joined) inner)) o (letter_at l)
+      ≡ option_map_or (λ inner. option_and_then closed (read g (level joined) inner)) o (letter_at l)
   atom_enough l h k None a = refl
   atom_enough l h k (Some inner) a =
       let n = ap length (after_some 40 l inner a) in
@@ -171,7 +172,8 @@ module _ (f g : ℕ) (same : Enough f g) where
       let b = below_rank s in
       let low = rank_low s in
       rw (← same (below s) right (omega arith) (omega arith))
-      (then_more s (operation s t) right (omega arith) (omega arith) (read f (below s) right) (λ p e. below_falls s _ _ (falls_in f (below s) right p.0 p.1 e)))
+      (then_more s (operation s t) right (omega arith) (omega arith) (read f (below s) right)
+      (λ p e. below_falls s _ _ (falls_in f (below s) right p.0 p.1 e)))
 
 enough : (f g : ℕ) → Enough f g
 unfolding read
@@ -192,13 +194,13 @@ in_one f j l h = enough f (4 * length l + 4) j l h (omega (arith, job_low j))
 
 -- ---- each job by its parts
 
-pub atom_reading : (l : List ℕ) → reading atom l ≡ option_map_or (λ inner. option_and_then (λ p. closed p.0 p.1) (reading (level joined) inner)) (after 40 l) (letter_at l)
+pub atom_reading : (l : List ℕ) → reading atom l ≡ option_map_or (λ inner. option_and_then closed (reading (level joined) inner)) (after 40 l) (letter_at l)
 unfolding read
 atom_reading l = sym (in_one (suc (4 * length l)) atom l (omega arith)) ∙ go (after 40 l) refl
   where
     go : (o : Option (List ℕ)) → after 40 l ≡ o
-        → option_map_or (λ inner. option_and_then (λ p. closed p.0 p.1) (read (4 * length l) (level joined) inner)) o (letter_at l)
-        ≡ option_map_or (λ inner. option_and_then (λ p. closed p.0 p.1) (reading (level joined) inner)) o (letter_at l)
+        → option_map_or (λ inner. option_and_then closed (read (4 * length l) (level joined) inner)) o (letter_at l)
+        ≡ option_map_or (λ inner. option_and_then closed (reading (level joined) inner)) o (letter_at l)
     go None a = refl
     go (Some inner) a = let n = ap length (after_some 40 l inner a) in rw (in_one (4 * length l) (level joined) inner (omega arith))
 
@@ -220,12 +222,14 @@ level_reading s l =
     ∙ rw (in_one f (below s) l (omega arith)) (then_reading f s (λ t. t) l (omega arith) (reading (below s) l) (below_less s l))
 
 pub more_reading : (s : Sign) (t : Tree) (l : List ℕ)
-    → reading (more s t) l ≡ option_map_or (λ right. option_and_then (λ p. reading (more s (operation s t p.0)) p.1) (reading (below s) right)) (after (byte_of s) l) (Some (t, l))
+    → reading (more s t) l
+    ≡ option_map_or (λ right. option_and_then (λ p. reading (more s (operation s t p.0)) p.1) (reading (below s) right)) (after (byte_of s) l) (Some (t, l))
 unfolding read
 more_reading s t l = sym (in_one (suc (4 * length l)) (more s t) l (omega arith)) ∙ go (after (byte_of s) l) refl
   where
     go : (o : Option (List ℕ)) → after (byte_of s) l ≡ o
-        → option_map_or (λ right. option_and_then (λ p. read (4 * length l) (more s (operation s t p.0)) p.1) (read (4 * length l) (below s) right)) o (Some (t, l))
+        → option_map_or (λ right. option_and_then (λ p. read (4 * length l) (more s (operation s t p.0)) p.1) (read (4 * length l) (below s) right))
+        o (Some (t, l))
         ≡ option_map_or (λ right. option_and_then (λ p. reading (more s (operation s t p.0)) p.1) (reading (below s) right)) o (Some (t, l))
     go None a = refl
     go (Some right) a =

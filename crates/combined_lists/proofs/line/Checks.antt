@@ -15,7 +15,7 @@ pub formed : (l rest : List ℕ) → Some rest ≡ rest_after (level joined) l �
 unfolding tree_of
 formed l rest e = let p = read_some (level joined) l rest e in rw p.1 (go p.0 rest)
   where
-    go : (t : Tree) (r : List ℕ) → (length r == 0) ≡ is_some (whole t r)
+    go : (t : Tree) (r : List ℕ) → (length r == 0) ≡ is_some (whole (t, r))
     go t [] = refl
     go t (b ∷ r) = ne_eqb _ _ (λ q. omega arith)
 

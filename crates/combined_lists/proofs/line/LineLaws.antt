@@ -50,7 +50,8 @@ module _ (sent : ℕ → Bool) (l : List ℕ) where
   unfolding line_told refuse_if
   case_of = long (nat_lt longest_line (length l)) refl
     where
-      depth : (t : Tree) → tree_of l ≡ Some t → nat_lt longest_line (length l) ≡ false → all_sent sent t ≡ true → (b : Bool) → nat_lt deepest_line (depth_of t) ≡ b → Case sent l
+      depth : (t : Tree) → tree_of l ≡ Some t → nat_lt longest_line (length l) ≡ false → all_sent sent t ≡ true
+          → (b : Bool) → nat_lt deepest_line (depth_of t) ≡ b → Case sent l
       depth t e h s true d = deep t (rw (h, e, s, d)) (record { reads = reads_of l t e; fits = ltb-false _ _ h; named = s }) (ltb-true _ _ d)
       depth t e h s false d = fine t (rw (h, e, s, d)) (record { reads = reads_of l t e; fits = ltb-false _ _ h; named = s }) (ltb-false _ _ d)
 

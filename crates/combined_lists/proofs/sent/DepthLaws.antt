@@ -45,12 +45,20 @@ pub deepest_of : (t : Tree) (d : ℕ) (l : List ℕ) → Binds t → deepest d (
 unfolding bytes_of depth_of
 deepest_of (letter a) d l b = same_deep d (65 + a) l (as_deep d (65 + a) (λ e. omega arith) (λ e. omega arith)) ∙ omega (arith, at_least d l)
 deepest_of (parens t) d l b =
-    rw (append_assoc (bytes_of t) (41 ∷ []) l, next_deep d 40 (d + 1) (bytes_of t ++ (41 ∷ l)) (opens d 40 refl), deepest_of t (d + 1) (41 ∷ l) b,
-      next_deep (d + 1) 41 d l (closes (d + 1) 41 refl ∙ omega arith))
+    rw (
+      append_assoc (bytes_of t) (41 ∷ []) l,
+      next_deep d 40 (d + 1) (bytes_of t ++ (41 ∷ l)) (opens d 40 refl),
+      deepest_of t (d + 1) (41 ∷ l) b,
+      next_deep (d + 1) 41 d l (closes (d + 1) 41 refl ∙ omega arith),
+    )
     (omega (arith, at_least d l))
 deepest_of (operation s t u) d l b =
-    rw (append_assoc (bytes_of t) (byte_of s ∷ bytes_of u) l, deepest_of t d (byte_of s ∷ (bytes_of u ++ l)) b.2,
-      same_deep d (byte_of s) (bytes_of u ++ l) (sign_deep d s), deepest_of u d l b.3)
+    rw (
+      append_assoc (bytes_of t) (byte_of s ∷ bytes_of u) l,
+      deepest_of t d (byte_of s ∷ (bytes_of u ++ l)) b.2,
+      same_deep d (byte_of s) (bytes_of u ++ l) (sign_deep d s),
+      deepest_of u d l b.3,
+    )
     (omega arith)
 
 pub depth_is : (t : Tree) → Binds t → depth_of t ≡ deepest 0 (bytes_of t)

@@ -20,7 +20,8 @@ unfolding byte_sent
 other_sent sent b h = rw (not_letter b h)
 
 -- the roll of a letter, where it is lent
-pub roll_sent : (rolls : List (Bor (List ℕ))) (b : ℕ) (d : Bor (List ℕ)) (x : Bool) → length rolls ≡ 4 → 65 ≤ b → b ≤ 68 → x ≡ (length (get_or rolls (b - 65) d).now == 0)
+pub roll_sent : (rolls : List (Bor (List ℕ))) (b : ℕ) (d : Bor (List ℕ)) (x : Bool)
+    → length rolls ≡ 4 → 65 ≤ b → b ≤ 68 → x ≡ (length (get_or rolls (b - 65) d).now == 0)
     → not x ≡ byte_sent (sent_of (rolls_in rolls)) b
 unfolding sent_of
 roll_sent rolls b d x four low high e =
@@ -40,6 +41,7 @@ unfolding all_sent bytes_of byte_sent
 letters_are sent (letter a) b =
     let e : 65 + a - 65 ≡ a = omega arith in
     sym (and-true (byte_sent sent (65 + a)) ∙ letter_sent sent (65 + a) (omega arith) (omega arith) ∙ ap sent e)
-letters_are sent (parens t) b = letters_are sent t b ∙ sym (list_all-append (byte_sent sent) (bytes_of t) (41 ∷ []) ∙ and-true (list_all (byte_sent sent) (bytes_of t)))
+letters_are sent (parens t) b =
+    letters_are sent t b ∙ sym (list_all-append (byte_sent sent) (bytes_of t) (41 ∷ []) ∙ and-true (list_all (byte_sent sent) (bytes_of t)))
 letters_are sent (operation s l r) b =
     rw (list_all-append (byte_sent sent) (bytes_of l) (byte_of s ∷ bytes_of r), sign_sent sent s, letters_are sent l b.2, letters_are sent r b.3)

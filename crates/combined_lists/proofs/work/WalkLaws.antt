@@ -34,7 +34,9 @@ module _ (s : Sign) (l : List ℕ) (t : Tree) (rest : List ℕ) (e : reading (be
   no_deeper d = let q = ap (deepest d) split.1 in omega (arith, deepest_of t d rest split.0)
 
   still_sent : (sent : ℕ → Bool) → bytes_sent sent l ≡ true → bytes_sent sent rest ≡ true
-  still_sent sent h = second (bytes_sent sent (bytes_of t)) (bytes_sent sent rest) (sym (list_all-append (byte_sent sent) (bytes_of t) rest) ∙ sym (ap (bytes_sent sent) split.1) ∙ h)
+  still_sent sent h =
+      second (bytes_sent sent (bytes_of t)) (bytes_sent sent rest)
+      (sym (list_all-append (byte_sent sent) (bytes_of t) rest) ∙ sym (ap (bytes_sent sent) split.1) ∙ h)
 
 -- ---- a level's first operand
 
@@ -46,7 +48,15 @@ module _ {sent : ℕ → Bool} (s : Sign) (l : List ℕ) (top : ℕ) (ready : Re
   pub ready_first : Ready sent (below s) l top
   ready_first =
       let p = parts in
-      record { depth = ready.depth; tree = p.0; rest = p.1; reads = p.2; named = ready.named; low = omega (arith, ready.low, waits_below s); shallow = ready.shallow }
+      record {
+        depth = ready.depth;
+        tree = p.0;
+        rest = p.1;
+        reads = p.2;
+        named = ready.named;
+        low = omega (arith, ready.low, waits_below s);
+        shallow = ready.shallow;
+      }
 
 -- a refusal of the left operand is that of the whole
 spine : {A : Type 0} (op : Sign → A → A → Told A) (rolls : ℕ → A) (n p f : ℕ) (s : Sign) (u : Tree) (m : List ℕ) (t : Tree) (r : List ℕ)
@@ -55,14 +65,18 @@ unfolding read value_of and_then
 spine op rolls n p zero s u m t r e h = absurd (cc)
 spine op rolls n p (suc f) s u m t r e h = go (after (byte_of s) m) e (λ v k d. spine op rolls n p f s (operation s u v) k t r d (rw h))
   where
-    go : (o : Option (List ℕ)) → option_map_or (λ right. option_and_then (λ q. read f (more s (operation s u q.0)) q.1) (read f (below s) right)) o (Some (u, m)) ≡ Some (t, r)
-        → ((v : Tree) (k : List ℕ) → read f (more s (operation s u v)) k ≡ Some (t, r) → value_of op rolls t ≡ refused n p) → value_of op rolls t ≡ refused n p
+    go : (o : Option (List ℕ))
+        → option_map_or (λ right. option_and_then (λ q. read f (more s (operation s u q.0)) q.1) (read f (below s) right)) o (Some (u, m)) ≡ Some (t, r)
+        → ((v : Tree) (k : List ℕ) → read f (more s (operation s u v)) k ≡ Some (t, r) → value_of op rolls t ≡ refused n p)
+        → value_of op rolls t ≡ refused n p
     go None d rest = rw (← (some_pair_parts u t m r d).0) h
     go (Some right) d rest = option_and_then_some {A = Tree × List ℕ} _ _ _ d (λ q x y. rest q.0 q.1 y)
 
-module _ {A : Type 0} {op : Sign → A → A → Told A} {rolls : ℕ → A} (s : Sign) (l : List ℕ) (t : Tree) (r : List ℕ) (reads : reading (level s) l ≡ Some (t, r)) where
+module _ {A : Type 0} {op : Sign → A → A → Told A} {rolls : ℕ → A} (s : Sign) (l : List ℕ) (t : Tree) (r : List ℕ)
+    (reads : reading (level s) l ≡ Some (t, r)) where
   -- a level that has come to a refused tree is refused
-  refuses_on : (n p : ℕ) (u : Tree) (rest : List ℕ) → reading (level s) l ≡ reading (more s u) rest → value_of op rolls u ≡ refused n p → Refuses op rolls (level s) l n p
+  refuses_on : (n p : ℕ) (u : Tree) (rest : List ℕ)
+      → reading (level s) l ≡ reading (more s u) rest → value_of op rolls u ≡ refused n p → Refuses op rolls (level s) l n p
   unfolding reading
   refuses_on n p u rest goes told =
       record { tree = t; rest = r; reads = reads; told = spine op rolls n p (4 * length rest + 4) s u rest t r (sym goes ∙ reads) told }
@@ -71,7 +85,8 @@ module _ {A : Type 0} {op : Sign → A → A → Told A} {rolls : ℕ → A} (s 
   first_refuses n p first = refuses_on n p first.tree first.rest (rw (level_reading s l, first.reads)) first.told
 
 -- what is left of a level, when its left operand is in the slot; w₀ is what it began with
-pub record Going {A W : Type 0} (op : Sign → A → A → Told A) (rolls : ℕ → A) (Holds : W → ℕ → A → Type 0) (sent : ℕ → Bool) (s : Sign) (l : List ℕ) (top : ℕ) (rest : List ℕ) (w₀ w : W) : Type 0 where
+pub record Going {A W : Type 0} (op : Sign → A → A → Told A) (rolls : ℕ → A) (Holds : W → ℕ → A → Type 0) (sent : ℕ → Bool)
+    (s : Sign) (l : List ℕ) (top : ℕ) (rest : List ℕ) (w₀ w : W) : Type 0 where
   pub left : Tree
   pub value : A
   pub goes : reading (level s) l ≡ reading (more s left) rest
@@ -82,7 +97,8 @@ pub record Going {A W : Type 0} (op : Sign → A → A → Told A) (rolls : ℕ 
   pub shorter : length rest < length l
 
 module _ {A W : Type 0} {op : Sign → A → A → Told A} {rolls : ℕ → A} {Holds : W → ℕ → A → Type 0} {sent : ℕ → Bool} (s : Sign) (l : List ℕ) (top : ℕ) where
-  pub begins : Ready sent (level s) l top → (rest : List ℕ) (w₀ w : W) → Worked op rolls Holds (below s) l rest top w₀ w → Going op rolls Holds sent s l top rest w₀ w
+  pub begins : Ready sent (level s) l top → (rest : List ℕ) (w₀ w : W)
+      → Worked op rolls Holds (below s) l rest top w₀ w → Going op rolls Holds sent s l top rest w₀ w
   begins ready rest w₀ w first =
       let goes : reading (level s) l ≡ reading (more s first.tree) rest = rw (level_reading s l, first.reads) in
       record {
@@ -121,10 +137,12 @@ module _ {A W : Type 0} {op : Sign → A → A → Told A} {rolls : ℕ → A} {
       by_sign : rest ≡ byte_of s ∷ right
       by_sign = after_some (byte_of s) rest right (sym sign)
 
-      right_parts : (v : Tree) × (m : List ℕ) × (reading (below s) right ≡ Some (v, m)) × (reading (more s (operation s going.left v)) m ≡ Some (going.ready.tree, going.ready.rest))
+      right_parts : (v : Tree) × (m : List ℕ) × (reading (below s) right ≡ Some (v, m))
+          × (reading (more s (operation s going.left v)) m ≡ Some (going.ready.tree, going.ready.rest))
       right_parts =
-          let e : option_and_then (λ p. reading (more s (operation s going.left p.0)) p.1) (reading (below s) right) ≡ Some (going.ready.tree, going.ready.rest) =
-              rw (more_reading s going.left rest, ← sign) at going.ready.reads in
+          let e : option_and_then (λ p. reading (more s (operation s going.left p.0)) p.1) (reading (below s) right)
+          ≡ Some (going.ready.tree, going.ready.rest) =
+          rw (more_reading s going.left rest, ← sign) at going.ready.reads in
           option_and_then_some _ _ _ e (λ p x y. (p.0, p.1, x, y))
 
       no_deeper_right : (d : ℕ) → deepest d right ≡ deepest d rest
@@ -156,12 +174,16 @@ module _ {A W : Type 0} {op : Sign → A → A → Told A} {rolls : ℕ → A} {
       pub right_refuses : (n p : ℕ) → Refuses op rolls (below s) right n p → Refuses op rolls (level s) l n p
       unfolding value_of and_then
       right_refuses n p r =
-          refuses_on s l going.ready.tree going.ready.rest level_reads n p (operation s going.left r.tree) r.rest (goes_on r.tree r.rest r.reads) (rw (going.told, r.told))
+          refuses_on s l going.ready.tree going.ready.rest level_reads n p (operation s going.left r.tree) r.rest
+          (goes_on r.tree r.rest r.reads) (rw (going.told, r.told))
 
       -- the right operand is in the next slot
       module _ (next : List ℕ) (w₁ : W) (operand : Worked op rolls Holds (below s) right next (top + 1) w w₁) where
         pub left_holds : Holds w₁ top going.value
         left_holds = operand.kept top going.value (omega arith) going.holds
+
+        pub right_falls : length next < length right
+        right_falls = below_falls s _ _ (falls (below s) right operand.tree next operand.reads)
 
         both_told : value_of op rolls (operation s going.left operand.tree) ≡ op s going.value operand.value
         unfolding value_of and_then
@@ -169,9 +191,10 @@ module _ {A W : Type 0} {op : Sign → A → A → Told A} {rolls : ℕ → A} {
 
         pub call_refuses : (n p : ℕ) → op s going.value operand.value ≡ refused n p → Refuses op rolls (level s) l n p
         call_refuses n p told =
-            refuses_on s l going.ready.tree going.ready.rest level_reads n p (operation s going.left operand.tree) next (goes_on operand.tree next operand.reads) (both_told ∙ told)
+            refuses_on s l going.ready.tree going.ready.rest level_reads n p (operation s going.left operand.tree) next
+            (goes_on operand.tree next operand.reads) (both_told ∙ told)
 
-        pub turns : (w₂ : W) → Operated op rolls Holds s going.value operand.value top w₁ w₂ → Going op rolls Holds sent s l top next w₀ w₂
+        pub turns : (w₂ : W) → Operated op Holds s going.value operand.value top w₁ w₂ → Going op rolls Holds sent s l top next w₀ w₂
         turns w₂ called =
             record {
               left = operation s going.left operand.tree;
@@ -184,12 +207,13 @@ module _ {A W : Type 0} {op : Sign → A → A → Told A} {rolls : ℕ → A} {
                 reads = sym (goes_on operand.tree next operand.reads) ∙ level_reads;
                 named = still_sent s right operand.tree next operand.reads sent right_sent;
                 low = going.ready.low;
-                shallow = omega (arith, going.ready.shallow, no_deeper_right going.ready.depth, no_deeper s right operand.tree next operand.reads going.ready.depth);
+                shallow =
+                    omega (arith, going.ready.shallow, no_deeper_right going.ready.depth, no_deeper s right operand.tree next operand.reads going.ready.depth);
               };
               told = both_told ∙ called.told;
               holds = called.holds;
               kept = λ i a h k. called.kept i a h (operand.kept i a (omega arith) (going.kept i a h k));
-              shorter = omega (arith, going.shorter, ap length by_sign, below_falls s _ _ (falls (below s) right operand.tree next operand.reads));
+              shorter = omega (arith, going.shorter, ap length by_sign, right_falls);
             }
 
 -- ---- slots
@@ -208,7 +232,7 @@ module _ {sent : ℕ → Bool} (l : List ℕ) (top : ℕ) (ready : Ready sent at
     -- what stands in the parentheses, and what follows them
     inner_parts : (u : Tree) × (m : List ℕ) × (reading (level joined) inner ≡ Some (u, m)) × (m ≡ 41 ∷ ready.rest) × (ready.tree ≡ parens u)
     inner_parts =
-        let e : option_and_then (λ p. closed p.0 p.1) (reading (level joined) inner) ≡ Some (ready.tree, ready.rest) = rw (atom_reading l, ← parenthesis) at ready.reads in
+        let e : option_and_then closed (reading (level joined) inner) ≡ Some (ready.tree, ready.rest) = rw (atom_reading l, ← parenthesis) at ready.reads in
         option_and_then_some _ _ _ e (λ p x y. let c = closed_some p.0 p.1 ready.tree ready.rest y in (p.0, p.1, x, c.0, c.1))
 
     pub ready_inner : Ready sent (level joined) inner top
@@ -232,7 +256,8 @@ module _ {sent : ℕ → Bool} (l : List ℕ) (top : ℕ) (ready : Ready sent at
         let d = some_pair_parts p.0 u p.1 m (sym p.2 ∙ e) in
         (sym d.1 ∙ p.3, ready.reads ∙ ap (λ (t : Tree). Some (t, ready.rest)) (p.4 ∙ ap parens d.0))
 
-    pub inner_refuses : {A : Type 0} {op : Sign → A → A → Told A} {rolls : ℕ → A} (n p : ℕ) → Refuses op rolls (level joined) inner n p → Refuses op rolls atom l n p
+    pub inner_refuses : {A : Type 0} {op : Sign → A → A → Told A} {rolls : ℕ → A} (n p : ℕ)
+        → Refuses op rolls (level joined) inner n p → Refuses op rolls atom l n p
     unfolding value_of
     inner_refuses n p r = record { tree = parens r.tree; rest = ready.rest; reads = (inner_same r.tree r.rest r.reads).1; told = r.told }
 
@@ -260,14 +285,15 @@ module _ {sent : ℕ → Bool} (l : List ℕ) (top : ℕ) (ready : Ready sent at
     pub named_sent : sent (was_letter.byte - 65) ≡ true
     named_sent =
         let w = was_letter in
-        sym (letter_sent sent w.byte w.low w.high) ∙ first (byte_sent sent w.byte) (bytes_sent sent ready.rest) (sym (ap (bytes_sent sent) w.first) ∙ ready.named)
+        sym (letter_sent sent w.byte w.low w.high)
+        ∙ first (byte_sent sent w.byte) (bytes_sent sent ready.rest) (sym (ap (bytes_sent sent) w.first) ∙ ready.named)
       where
         first : (a b : Bool) → (a && b) ≡ true → a ≡ true
         first true b q = refl
         first false b q = absurd (cc)
 
     pub letter_worked : {A W : Type 0} (op : Sign → A → A → Told A) {rolls : ℕ → A} {Holds : W → ℕ → A → Type 0} (w w' : W)
-        → Loaded op rolls Holds (was_letter.byte - 65) top w w' → Worked op rolls Holds atom l ready.rest top w w'
+        → Loaded rolls Holds (was_letter.byte - 65) top w w' → Worked op rolls Holds atom l ready.rest top w w'
     unfolding value_of
     letter_worked op {rolls} w w' loaded = record {
       tree = letter (was_letter.byte - 65);

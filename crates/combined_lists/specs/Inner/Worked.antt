@@ -26,27 +26,15 @@ pub record Ready (sent : ℕ → Bool) (j : Job) (l : List ℕ) (top : ℕ) : Ty
 abbrev pub Kept : {A W : Type 0} → (W → ℕ → A → Type 0) → ℕ → W → W → Type 0
 Kept {A} Holds top w w' = (i : ℕ) (a : A) → i < top → Holds w i a → Holds w' i a
 
-module _ {A W : Type 0} (op : Sign → A → A → Told A) (rolls : ℕ → A) (Holds : W → ℕ → A → Type 0) where
-  -- its value is in the slot
-  pub record Worked (j : Job) (l rest : List ℕ) (top : ℕ) (w w' : W) : Type 0 where
-    pub tree : Tree
-    pub value : A
-    pub reads : reading j l ≡ Some (tree, rest)
-    pub told : value_of op rolls tree ≡ answer value
-    pub holds : Holds w' top value
-    pub kept : Kept Holds top w w'
-
-  -- a roll is put into a slot
-  pub record Loaded (a top : ℕ) (w w' : W) : Type 0 where
-    pub holds : Holds w' top (rolls a)
-    pub kept : Kept Holds top w w'
-
-  -- an operation on what two slots hold leaves its result in the left one
-  pub record Operated (s : Sign) (x y : A) (left : ℕ) (w w' : W) : Type 0 where
-    pub value : A
-    pub told : op s x y ≡ answer value
-    pub holds : Holds w' left value
-    pub kept : Kept Holds left w w'
+-- its value is in the slot
+pub record Worked {A W : Type 0} (op : Sign → A → A → Told A) (rolls : ℕ → A) (Holds : W → ℕ → A → Type 0)
+    (j : Job) (l rest : List ℕ) (top : ℕ) (w w' : W) : Type 0 where
+  pub tree : Tree
+  pub value : A
+  pub reads : reading j l ≡ Some (tree, rest)
+  pub told : value_of op rolls tree ≡ answer value
+  pub holds : Holds w' top value
+  pub kept : Kept Holds top w w'
 
 -- an operation refuses
 pub record Refuses {A : Type 0} (op : Sign → A → A → Told A) (rolls : ℕ → A) (j : Job) (l : List ℕ) (number place : ℕ) : Type 0 where
@@ -54,3 +42,16 @@ pub record Refuses {A : Type 0} (op : Sign → A → A → Told A) (rolls : ℕ 
   pub rest : List ℕ
   pub reads : reading j l ≡ Some (tree, rest)
   pub told : value_of op rolls tree ≡ refused number place
+
+-- a roll is put into a slot
+pub record Loaded {A W : Type 0} (rolls : ℕ → A) (Holds : W → ℕ → A → Type 0) (a top : ℕ) (w w' : W) : Type 0 where
+  pub holds : Holds w' top (rolls a)
+  pub kept : Kept Holds top w w'
+
+-- an operation on x and y leaves its result in the left one's slot
+pub record Operated {A W : Type 0} (op : Sign → A → A → Told A) (Holds : W → ℕ → A → Type 0)
+    (s : Sign) (x y : A) (left : ℕ) (w w' : W) : Type 0 where
+  pub value : A
+  pub told : op s x y ≡ answer value
+  pub holds : Holds w' left value
+  pub kept : Kept Holds left w w'

@@ -16,7 +16,9 @@ pub or_level-and_level-requires-in-Some : goal.or_level-and_level-requires-in-So
 or_level-and_level-requires-in-Some t c = let right = after_shorter _ _ _ c.in-Some.ensures in (omega arith, tt)
 
 pub or_level-returns-in_err-rest-2 : goal.or_level-returns-in_err-rest-2
-or_level-returns-in_err-rest-2 t c = ap option_copied c.from_residual-in_err-rest-2.ensures ∙ right_none joined _ _ c.loop-right.invariant _ c.in-Some.ensures c.in_err-rest-2.ensures
+or_level-returns-in_err-rest-2 t c =
+    ap option_copied c.from_residual-in_err-rest-2.ensures
+    ∙ right_none joined _ _ c.loop-right.invariant _ c.in-Some.ensures c.in_err-rest-2.ensures
 
 pub or_level-loop-right-smaller : goal.or_level-loop-right-smaller
 or_level-loop-right-smaller t c =
@@ -40,7 +42,9 @@ pub and_level-quotient_level-requires-in-Some : goal.and_level-quotient_level-re
 and_level-quotient_level-requires-in-Some t c = let right = after_shorter _ _ _ c.in-Some.ensures in (omega arith, tt)
 
 pub and_level-returns-in_err-rest-2 : goal.and_level-returns-in_err-rest-2
-and_level-returns-in_err-rest-2 t c = ap option_copied c.from_residual-in_err-rest-2.ensures ∙ right_none common _ _ c.loop-right.invariant _ c.in-Some.ensures c.in_err-rest-2.ensures
+and_level-returns-in_err-rest-2 t c =
+    ap option_copied c.from_residual-in_err-rest-2.ensures
+    ∙ right_none common _ _ c.loop-right.invariant _ c.in-Some.ensures c.in_err-rest-2.ensures
 
 pub and_level-loop-right-smaller : goal.and_level-loop-right-smaller
 and_level-loop-right-smaller t c =
@@ -64,7 +68,9 @@ pub quotient_level-atom-requires-in-Some : goal.quotient_level-atom-requires-in-
 quotient_level-atom-requires-in-Some t c = let right = after_shorter _ _ _ c.in-Some.ensures in (omega arith, tt)
 
 pub quotient_level-returns-in_err-rest-2 : goal.quotient_level-returns-in_err-rest-2
-quotient_level-returns-in_err-rest-2 t c = ap option_copied c.from_residual-in_err-rest-2.ensures ∙ right_none quotient _ _ c.loop-right.invariant _ c.in-Some.ensures c.in_err-rest-2.ensures
+quotient_level-returns-in_err-rest-2 t c =
+    ap option_copied c.from_residual-in_err-rest-2.ensures
+    ∙ right_none quotient _ _ c.loop-right.invariant _ c.in-Some.ensures c.in_err-rest-2.ensures
 
 pub quotient_level-loop-right-smaller : goal.quotient_level-loop-right-smaller
 quotient_level-loop-right-smaller t c =
@@ -93,7 +99,9 @@ atom-returns-in-65-to-68 t c = atom_letter _ c.in_default.ensures c.in-65-to-68.
 pub atom-returns-in_default-line : goal.atom-returns-in_default-line
 atom-returns-in_default-line t c =
     elim c.in_default-line.branch [
-      atom-in_default-line-via-then-line-lt1 w ↦ atom_none c.args.line.now c.in_default.ensures (omega (arith, ltb-true))
-      | atom-in_default-line-via-else-line-lt1+then-line-lt65 w ↦ atom_other c.args.line.now c.in_default.ensures (omega (arith, ltb-false)) (inl (omega (arith, ltb-true)))
-      | atom-in_default-line-via-else-line-lt1+else-line-lt65+else-line-lt69 w ↦ atom_other c.args.line.now c.in_default.ensures (omega (arith, ltb-false)) (inr (omega (arith, ltb-false)))
+      | atom-in_default-line-via-then-line-lt1 w ↦ atom_none c.args.line.now c.in_default.ensures (omega (arith, ltb-true))
+      | atom-in_default-line-via-else-line-lt1+then-line-lt65 w ↦
+          atom_other c.args.line.now c.in_default.ensures (omega (arith, ltb-false)) (inl (omega (arith, ltb-true)))
+      | atom-in_default-line-via-else-line-lt1+else-line-lt65+else-line-lt69 w ↦
+          atom_other c.args.line.now c.in_default.ensures (omega (arith, ltb-false)) (inr (omega (arith, ltb-false)))
     ]

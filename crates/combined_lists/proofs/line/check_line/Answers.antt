@@ -8,10 +8,11 @@ pub returns-then-line-gt-LONGEST_LINE : goal.returns-then-line-gt-LONGEST_LINE
 returns-then-line-gt-LONGEST_LINE c =
     ap told_refusal c.into.ensures
     ∙ elim c.then-line-gt-LONGEST_LINE.branch [
-      then-line-gt-LONGEST_LINE-via-then-line-gt-LONGEST_LINE w ↦ too_long _ _ w.if-line-gt-LONGEST_LINE.true
-      | then-line-gt-LONGEST_LINE-via-else-line-gt-LONGEST_LINE+then-not-is_well_formed w ↦ no_form _ _ w.if-line-gt-LONGEST_LINE.false w.if-not-is_well_formed.ensures
+      | then-line-gt-LONGEST_LINE-via-then-line-gt-LONGEST_LINE w ↦ too_long _ _ w.if-line-gt-LONGEST_LINE.true
+      | then-line-gt-LONGEST_LINE-via-else-line-gt-LONGEST_LINE+then-not-is_well_formed w ↦
+          no_form _ _ w.if-line-gt-LONGEST_LINE.false w.if-not-is_well_formed.ensures
       | then-line-gt-LONGEST_LINE-via-else-line-gt-LONGEST_LINE+else-not-is_well_formed+then-not-all_sent w ↦
-        not_sent _ _ w.if-line-gt-LONGEST_LINE.false w.if-not-is_well_formed.ensures w.if-not-all_sent.ensures
+          not_sent _ _ w.if-line-gt-LONGEST_LINE.false w.if-not-is_well_formed.ensures w.if-not-all_sent.ensures
     ]
 
 pub returns-then-deepest-gt-DEEPEST_LINE : goal.returns-then-deepest-gt-DEEPEST_LINE
