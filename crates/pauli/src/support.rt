@@ -104,6 +104,25 @@ impl Support {
             last = q;
         }
     }
+
+    // The same, of qubits that are numbers already.
+    pub fn gather_qubits(&mut self, qubits: &[u32])
+        ensures gathered { Gathered (insert_all qubits.now self.old) self.new }
+        ensures rises { Rising 0 self.old }
+    {
+        // opened, so that the check knows its invariant
+        let _ = &self.count;
+        let mut from = Place(0);
+        let mut last = Qubit(0);
+        for number in qubits {
+            if self.is_past_limit() {
+                return;
+            }
+            let q = Qubit(*number);
+            from = self.note(walk_start(last, from, q), q);
+            last = q;
+        }
+    }
 }
 
 // The qubit at place p.

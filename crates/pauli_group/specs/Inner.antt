@@ -8,3 +8,5 @@ pub mod Compare
 pub mod Moved
 pub mod Remainder
 pub mod Shared
+pub mod Kept
+pub mod Sources

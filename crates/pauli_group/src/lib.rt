@@ -8,6 +8,10 @@ pub mod promise;
 pub mod area;
 // Lists of Paulis read into the area.
 pub mod list;
+// Lists of Paulis kept in words.
+pub mod kept;
+// Where a list comes from: a roll, or words that keep it.
+pub mod source;
 // Paulis as rows of a matrix.
 pub(crate) mod rows;
 // The echelon form of a list.

@@ -110,16 +110,18 @@ module _ (b : List ℕ) (n : ℕ) (e : count_of b ≡ answer n) where
 
 -- ---- the joined support
 
-module _ (l r : List ℕ) (nl : ℕ) (el : count_of l ≡ answer nl) (mid : List ℕ) (g : Gathered (insert_all (numbers (list_of l)) []) mid) where
-  left_known : mid ≡ support (list_of l)
-  unfolding support
-  left_known = g.known (answer_parts l (list_of l) (accepted l nl el).0).qubits
+pub own_few : (b : List ℕ) (n : ℕ) → count_of b ≡ answer n → length (support (list_of b)) ≤ most_qubits
+own_few b n e = (answer_parts b (list_of b) (accepted b n e).0).qubits
 
-  pub both_gathered : (qs : List ℕ) → Gathered (insert_all (numbers (list_of r)) mid) qs → Gathered (support (list_of l ++ list_of r)) qs
+module _ (ps rs : List Sparse) (few : length (support ps) ≤ most_qubits) (mid : List ℕ) (g : Gathered (insert_all (numbers ps) []) mid) where
+  left_known : mid ≡ support ps
+  unfolding support
+  left_known = g.known few
+
+  pub both_gathered : (qs : List ℕ) → Gathered (insert_all (numbers rs) mid) qs → Gathered (support (ps ++ rs)) qs
   unfolding support
   both_gathered qs h =
-      let same : insert_all (numbers (list_of r)) mid ≡ support (list_of l ++ list_of r) =
-      rw left_known (rw numbers_append (sym (insert_all_append (numbers (list_of l)) (numbers (list_of r)) []))) in
+      let same : insert_all (numbers rs) mid ≡ support (ps ++ rs) = rw left_known (rw numbers_append (sym (insert_all_append (numbers ps) (numbers rs) []))) in
       subst (λ (S : List ℕ). Gathered S qs) same h
 
 -- ---- the counts

@@ -77,7 +77,7 @@ unfolding paulis_in
 length_paulis [] = refl
 length_paulis (l ∷ ls) = ap suc (length_paulis ls)
 
-pauli_at : (ls : List (List ℕ)) (i : ℕ) (d : List ℕ) → i < length ls → get_or (paulis_in ls) i I ≡ pauli_in (get_or ls i d) 0
+pub pauli_at : (ls : List (List ℕ)) (i : ℕ) (d : List ℕ) → i < length ls → get_or (paulis_in ls) i I ≡ pauli_in (get_or ls i d) 0
 unfolding paulis_in
 pauli_at [] i d h = absurd (omega arith)
 pauli_at (l ∷ ls) zero d h = refl

@@ -4,8 +4,9 @@ use native.Mathlib.Decide.{dec_lt}
 use Rattle.std.proofs.Common.{Option, Some, None}
 use Rattle.std.specs.List.{position_or_len}
 use Rattle.std.specs.Option.{unwrap_or}
+use lib.ListN.{length-map}
 use lib.Seq.{set_split}
-use Rattle.std.proofs.lemmas.List.{drop-take, drop_at}
+use Rattle.std.proofs.lemmas.List.{drop-take, drop_at, get_or-map}
 use Rattle.std.specs.List.{copy_within}
 use Rattle.pauli.specs.Bytes.{u32_at, u32s_in}
 use Rattle.pauli.specs.Support.{most_qubits, insert, insert_all, Rising}
@@ -207,6 +208,14 @@ module _ (ls : List (List ℕ)) where
   unfolding numbers_from u32s_in
   numbers_end i h = ap u32s_in (drop_of_length-le ls h)
 
+pub numbers_length : (ls : List (List ℕ)) → length (u32s_in ls) ≡ length ls
+unfolding u32s_in
+numbers_length ls = length-map ls (λ l. u32_at l 0)
+
+pub number_at : (ls : List (List ℕ)) (i : ℕ) → i < length ls → get_or (u32s_in ls) i 0 ≡ u32_at (get_or ls i []) 0
+unfolding u32s_in
+number_at ls i h = get_or-map (λ l. u32_at l 0) ls i [] 0 h
+
 pub insert_all_longer : (qs known : List ℕ) → length known ≤ length (insert_all qs known)
 unfolding insert_all
 insert_all_longer [] known = omega arith
@@ -217,14 +226,14 @@ pub walk_from : (l : List ℕ) (last from : ℕ) → ((s : ℕ) → last < s →
 walk_from l last from walk q = elim (dec_lt last q) [ yes h ↦ rw (lt-ltb last q h) (walk q h) | no h ↦ rw (le-ltb last q (omega arith)) (omega arith) ]
 
 -- i of the numbers are noted, and the walk for a number above `last` may start at `from`
-module _ (ls : List (List ℕ)) (old : List ℕ) where
+module _ (ns old : List ℕ) where
   abbrev all : List ℕ
-  all = insert_all (u32s_in ls) old
+  all = insert_all ns old
 
   pub record Walking (known : List ℕ) (from last i : ℕ) : Type 0 where
-    pub done : i ≤ length ls
+    pub done : i ≤ length ns
     pub few : length known ≤ suc most_qubits
-    pub left : all ≡ insert_all (numbers_from ls i) known
+    pub left : all ≡ insert_all (drop i ns) known
     pub walk : (s : ℕ) → last < s → from ≤ lower s known
     pub rises : Rising 0 known
 
@@ -232,31 +241,31 @@ module _ (ls : List (List ℕ)) (old : List ℕ) where
   walking_start h rises = record {
     done = omega arith;
     few = h;
-    left = ap (λ ns. insert_all ns old) (numbers_start ls);
+    left = refl;
     walk = λ s k. omega arith;
     rises = rises;
   }
 
   module _ (known : List ℕ) (from last i : ℕ) (w : Walking known from last i) where
-    pub walking_next : i < length ls → (q : ℕ) → q ≡ u32_at (get_or ls i []) 0 → (new : List ℕ) (p : ℕ) → length known ≤ most_qubits
+    pub walking_next : i < length ns → (q : ℕ) → q ≡ get_or ns i 0 → (new : List ℕ) (p : ℕ) → length known ≤ most_qubits
         → new ≡ insert q known → p ≡ suc (lower q known) → Walking new p q (i + 1)
     unfolding insert_all
     walking_next h q e new p few t next = record {
       done = omega arith;
       few = rw t (omega (arith, few, (insert_length q known).1));
-      left = w.left ∙ rw (numbers_next ls i h, ← e, t);
+      left = w.left ∙ rw (drop-cons ns i 0 h, ← e, t, add-one i) refl;
       walk = λ s k. rw (next, t) (lower_next q s known k);
       rises = rw t (insert_rises 0 q known (omega arith) w.rises);
     }
 
     pub walking_full : most_qubits < length known → Gathered all known
     walking_full h =
-        let more = insert_all_longer (numbers_from ls i) known in
+        let more = insert_all_longer (drop i ns) known in
         let long : suc most_qubits ≤ length all = rw w.left (omega (arith, more)) in
-        record { count = omega (arith, w.few, long); known = λ k. absurd (omega arith); among = λ q. rw w.left (insert_all_keeps (numbers_from ls i) known q); rises = w.rises }
+        record { count = omega (arith, w.few, long); known = λ k. absurd (omega arith); among = λ q. rw w.left (insert_all_keeps (drop i ns) known q); rises = w.rises }
 
-    pub walking_end : length ls ≤ i → Gathered all known
+    pub walking_end : length ns ≤ i → Gathered all known
     unfolding insert_all
     walking_end h =
-        let e : all ≡ known = w.left ∙ rw (numbers_end ls i h) in
+        let e : all ≡ known = w.left ∙ rw (drop_of_length-le ns h) refl in
         record { count = rw e (omega (arith, w.few)); known = λ _. sym e; among = λ q. rw e (λ h. h); rises = w.rises }
