@@ -20,6 +20,7 @@ use pauli_group::checks::Rolls;
 use pauli_group::group::{Description, Group, group_of};
 use pauli_group::member::{IndexSet, factor};
 use pauli_group::promise::Promise;
+use pauli_group::source::Source;
 use pauli_group::standard::signs_of;
 
 // The exponent's word of an element that is no member. The area is lent, and words: a number has to stand for none, and a result is
@@ -98,7 +99,7 @@ pub fn factor_rolls(rolls: Rolls, promise: Promise, w: &mut [u64; WORK_WORDS]) -
     ensures results { stored_in w.new further_at rolls.entry.elements.count ≡ map (factorization_of (promise_of promise) (paulis (list_of rolls.entry.generators.bytes.now))) (paulis (list_of rolls.entry.elements.bytes.now)) }
 {
     let mut known = Support::new();
-    let g = group_of(rolls.generators, &mut known, w);
+    let g = group_of(Source::Rolled(rolls.generators), &mut known, w);
     let signs = signs_of(g.standards().paulis(w), promise);
     factor_all(rolls.elements, known.qubits(), g, signs.phases, w);
     Description {

@@ -10,3 +10,4 @@ pub mod Remainder
 pub mod Shared
 pub mod Kept
 pub mod Sources
+pub mod Further

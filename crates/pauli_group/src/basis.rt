@@ -1,16 +1,15 @@
 // The common basis of two groups, up to exponents.
 ghost use Rattle.std.specs.Prelude.{◌≡◌, ◌+◌, ◌≤◌, length};
-ghost use Rattle.pauli.specs.Condense.{list_of};
 ghost use Rattle.pauli.specs.Signed.{list_in};
 ghost use Rattle.pauli_group.specs.Inner.Area.{further_at};
-ghost use Rattle.pauli_group.specs.Calls.{paulis};
+ghost use Rattle.pauli_group.specs.Inner.Sources.{listed};
 ghost use Rattle.pauli_group.specs.Inner.Shared.{Joint, Stack, basis_over};
 
 use crate::area::{FURTHER, STANDARD, Span, WORK_WORDS};
 use crate::form::{form_of, put_products};
 use crate::group::group_of;
 use crate::moved::move_list;
-use pauli::joined::Pair;
+use crate::source::SourcePair;
 use pauli::support::Support;
 
 // How many Paulis of each of two lists stand one after the other.
@@ -20,10 +19,10 @@ pub(crate) struct Stacked {
     pub second: usize,
 }
 
-// Puts the standard generators of two rolls that can be joined over the places of the joint support, in the further list's place.
-fn stack_standard(pair: Pair, joint: &[u32], w: &mut [u64; WORK_WORDS]) -> Stacked
-    requires { Joint (paulis (list_of pair.left.bytes.now)) (paulis (list_of pair.right.bytes.now)) joint.now }
-    ensures { Stack (paulis (list_of pair.entry.left.bytes.now)) (paulis (list_of pair.entry.right.bytes.now)) w.new result.first result.second }
+// Puts the standard generators of two lists that can be joined over the places of the joint support, in the further list's place.
+fn stack_standard(pair: SourcePair, joint: &[u32], w: &mut [u64; WORK_WORDS]) -> Stacked
+    requires { Joint (listed pair.left) (listed pair.right) joint.now }
+    ensures { Stack (listed pair.entry.left) (listed pair.entry.right) w.new result.first result.second }
 {
     let mut known = Support::new();
     let a = group_of(pair.left, &mut known, w);
@@ -37,12 +36,12 @@ fn stack_standard(pair: Pair, joint: &[u32], w: &mut [u64; WORK_WORDS]) -> Stack
     }
 }
 
-// Leaves the common basis of the groups of two rolls that can be joined, over the places of the joint support, in the further
+// Leaves the common basis of the groups of two lists that can be joined, over the places of the joint support, in the further
 // list's place; tells how many elements it has.
-pub(crate) fn common_basis(pair: Pair, joint: &[u32], w: &mut [u64; WORK_WORDS]) -> usize
-    requires { Joint (paulis (list_of pair.left.bytes.now)) (paulis (list_of pair.right.bytes.now)) joint.now }
+pub(crate) fn common_basis(pair: SourcePair, joint: &[u32], w: &mut [u64; WORK_WORDS]) -> usize
+    requires { Joint (listed pair.left) (listed pair.right) joint.now }
     ensures few { result ≤ 128 }
-    ensures list { list_in w.new further_at result ≡ basis_over (paulis (list_of pair.entry.left.bytes.now)) (paulis (list_of pair.entry.right.bytes.now)) }
+    ensures list { list_in w.new further_at result ≡ basis_over (listed pair.entry.left) (listed pair.entry.right) }
 {
     let stacked = stack_standard(pair, joint, w);
     let n = stacked.first + stacked.second;

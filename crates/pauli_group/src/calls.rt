@@ -15,6 +15,7 @@ use crate::area::{WORK_WORDS, area_of, clear};
 use crate::checks::check_list;
 use crate::group::{Description, describe_once, group_of};
 use crate::promise::Promise;
+use crate::source::Source;
 use pauli::refusal::Refusal;
 use pauli::roll::Roll;
 use pauli::support::Support;
@@ -27,7 +28,7 @@ fn write_standard(roll: Roll, w: &mut [u64; WORK_WORDS], out: &mut [u8]) -> Resu
     ensures area { w.new ≡ cleared w.old }
 {
     let mut known = Support::new();
-    let g = group_of(roll, &mut known, w);
+    let g = group_of(Source::Rolled(roll), &mut known, w);
     let wrote = write_roll(g.standards().paulis(w), known.qubits(), out);
     clear(w);
     wrote

@@ -1,5 +1,5 @@
 // The call for the common part.
-ghost use Rattle.std.specs.Prelude.{◌≡◌, IfSome, ◌+◌, ◌*◌, ◌^◌, ◌<◌, ◌≤◌, ◌++◌, length, slice_index};
+ghost use Rattle.std.specs.Prelude.{◌≡◌, ℕ, IfSome, List, ◌+◌, ◌*◌, ◌^◌, ◌<◌, ◌≤◌, ◌++◌, length, slice_index};
 ghost use Rattle.std.specs.List.{AllWithin};
 ghost use Rattle.pauli.specs.Support.{All};
 ghost use Rattle.pauli.specs.Told.{answer};
@@ -7,15 +7,16 @@ ghost use Rattle.pauli.specs.Condense.{list_of};
 ghost use Rattle.pauli.specs.Signed.{held, pauli_in, list_in};
 ghost use Rattle.pauli.specs.Writing.{OnPlaces, told_bytes, left_in};
 ghost use Rattle.pauli_theory.specs.Standard.{support_of, phase_step};
-ghost use Rattle.pauli_theory.specs.Common.{with_exponent, phases_from, common_part, lesser};
+ghost use Rattle.pauli_theory.specs.Common.{with_exponent, phases_from, common_part, bitand};
 ghost use Rattle.pauli_theory.specs.Inner.CommonPlaces.{shared_exponent};
 ghost use Rattle.pauli_group.specs.Inner.Area.{target_at, further_at, stride_of, Outside};
 ghost use Rattle.pauli_group.specs.WorkArea.{cleared};
 ghost use Rattle.pauli_group.specs.Inner.Lists.{step_told, found};
 ghost use Rattle.pauli_group.specs.Calls.{paulis, list_bytes, common_bytes};
 ghost use Rattle.pauli_group.specs.Promises.{promise_of};
-ghost use Rattle.pauli_group.specs.Answers.{order_of};
 ghost use Rattle.pauli_group.specs.CallContracts.{CommonCall};
+ghost use Rattle.pauli_group.specs.Inner.Further.{FurtherHas, CommonIs, SomeCommon};
+ghost use Rattle.pauli_group.specs.Inner.Sources.{listed};
 ghost use Rattle.pauli_group.specs.Inner.Moved.{MovablePauli};
 ghost use Rattle.pauli_group.specs.Inner.Shared.{Solving, exponent_over, exponent_for, NotedBy, shared_at};
 ghost use Rattle.pauli.specs.Refusals.{told_of};
@@ -24,16 +25,18 @@ use crate::answers::Phases;
 use crate::area::{FURTHER, Span, WORK_WORDS, area_of, clear};
 use crate::basis::common_basis;
 use crate::checks::check_pair;
+use crate::further::write_further;
 use crate::group::{Group, group_of};
 use crate::member::solve;
 use crate::moved::move_pauli;
 use crate::order::order_of;
 use crate::promise::{Promise, Promises};
 use crate::scan::put_phase;
+use crate::source::{Source, SourcePair};
 use crate::standard::signs_of;
-use pauli::joined::{Pair, join_support};
+use pauli::joined::Pair;
 use pauli::refusal::Refusal;
-use pauli::roll::{MOST_PAULIS, Roll};
+use pauli::roll::MOST_PAULIS;
 use pauli::signed::{Pauli, indexed_product, load, store};
 use pauli::support::Support;
 use pauli::write::write_roll;
@@ -85,21 +88,21 @@ fn note_exponents(
     by
 }
 
-// Notes for each of the m Paulis of the further list the exponent by the group of a roll; tells its phases too.
+// Notes for each of the m Paulis of the further list the exponent by the group of a list; tells its phases too.
 fn note_by(
-    roll: Roll,
+    source: Source,
     promise: Promise,
     joint: &[u32],
     w: &mut [u64; WORK_WORDS],
     m: usize,
 ) -> Exponents
-    requires { (m ≤ 128) × OnPlaces (length joint.now) (list_in w.old further_at m) × All (MovablePauli joint.now (support_of (paulis (list_of roll.bytes.now)))) (list_in w.old further_at m) }
-    ensures step { step_told result.phases ≡ phase_step (promise_of promise) (paulis (list_of roll.entry.bytes.now)) }
-    ensures by { NotedBy (exponent_for joint.now (paulis (list_of roll.entry.bytes.now))) result.by m w.old }
+    requires { (m ≤ 128) × OnPlaces (length joint.now) (list_in w.old further_at m) × All (MovablePauli joint.now (support_of (listed source))) (list_in w.old further_at m) }
+    ensures step { step_told result.phases ≡ phase_step (promise_of promise) (listed source.entry) }
+    ensures by { NotedBy (exponent_for joint.now (listed source.entry)) result.by m w.old }
     ensures rest { Outside 0 further_at w.old w.new }
 {
     let mut known = Support::new();
-    let group = group_of(roll, &mut known, w);
+    let group = group_of(source, &mut known, w);
     let signs = signs_of(group.standards().paulis(w), promise);
     let by = note_exponents(w, m, group, known.qubits(), joint);
     Exponents {
@@ -168,54 +171,83 @@ fn append_phases(w: &mut [u64; WORK_WORDS], list: Span, first: Phases, second: P
     total
 }
 
-// Writes the common part of the groups of two rolls that can be joined.
-fn write_part(
-    pair: Pair,
+// The common part of the groups of two lists: one of the lists, or the Paulis of the further list, so many.
+#[derive(Clone, Copy)]
+pub enum Common {
+    Left,
+    Right,
+    Further(usize),
+}
+
+// Leaves the common part of the groups of two lists, neither inside the other, in the further list, over the places of their joint
+// support, which it leaves in known; tells how many Paulis it has.
+fn part_of(
+    pair: SourcePair,
     promises: Promises,
+    known: &mut Support,
     w: &mut [u64; WORK_WORDS],
-    out: &mut [u8],
-) -> Result<usize, Refusal>
-    ensures told { told_of result ≡ told_bytes (answer (list_bytes (common_part (promise_of promises.left) (promise_of promises.right) (paulis (list_of pair.entry.left.bytes.now)) (paulis (list_of pair.entry.right.bytes.now))))) out.old }
-    ensures left { out.new ≡ left_in (answer (list_bytes (common_part (promise_of promises.left) (promise_of promises.right) (paulis (list_of pair.entry.left.bytes.now)) (paulis (list_of pair.entry.right.bytes.now))))) out.old }
+) -> usize
+    ensures { FurtherHas known.new (common_part (promise_of promises.left) (promise_of promises.right) (listed pair.entry.left) (listed pair.entry.right)) w.new result }
 {
-    let support = join_support(pair.left, pair.right);
-    let joint = support.qubits();
+    *known = pair.support();
+    let joint = known.qubits();
     let m = common_basis(pair, joint, w);
     let first = note_by(pair.left, promises.left, joint, w, m);
     let second = note_by(pair.right, promises.right, joint, w, m);
     let basis = Span::at(FURTHER, m);
     let shared = Span::at(FURTHER, keep_shared(w, basis, &first, &second));
-    let total = append_phases(w, shared, first.phases, second.phases);
-    write_roll(Span::at(FURTHER, total).paulis(w), joint, out)
+    append_phases(w, shared, first.phases, second.phases)
 }
 
-// Writes the Paulis of a roll.
-fn write_list(roll: Roll, w: &mut [u64; WORK_WORDS], out: &mut [u8]) -> Result<usize, Refusal>
-    ensures told { told_of result ≡ told_bytes (answer (list_bytes (paulis (list_of roll.entry.bytes.now)))) out.old }
-    ensures left { out.new ≡ left_in (answer (list_bytes (paulis (list_of roll.entry.bytes.now)))) out.old }
+// The common part of the groups of two lists: the lesser of the two, where they compare. Else it is left in the further list, over
+// the places of their joint support, which is left in known.
+pub fn common_of(
+    pair: SourcePair,
+    promises: Promises,
+    known: &mut Support,
+    w: &mut [u64; WORK_WORDS],
+) -> Common
+    ensures { CommonIs (listed pair.entry.left) (listed pair.entry.right) (bitand (promise_of promises.left) (promise_of promises.right) (listed pair.entry.left) (listed pair.entry.right)) known.new w.new result }
+{
+    match order_of(pair, promises, w) {
+        Some(lesser) => match lesser {
+            Ordering::Equal | Ordering::Less => Common::Left,
+            Ordering::Greater => Common::Right,
+        },
+        None => Common::Further(part_of(pair, promises, known, w)),
+    }
+}
+
+// Writes the Paulis of a list, and clears the work area.
+fn write_list(source: Source, w: &mut [u64; WORK_WORDS], out: &mut [u8]) -> Result<usize, Refusal>
+    ensures told { told_of result ≡ told_bytes (answer (list_bytes (listed source.entry))) out.old }
+    ensures left { out.new ≡ left_in (answer (list_bytes (listed source.entry))) out.old }
+    ensures area { (work : List ℕ) → length work ≡ 4096 → w.new ≡ cleared work }
 {
     let mut known = Support::new();
-    let group = group_of(roll, &mut known, w);
-    write_roll(group.generators().paulis(w), known.qubits(), out)
+    let group = group_of(source, &mut known, w);
+    let wrote = write_roll(group.generators().paulis(w), known.qubits(), out);
+    clear(w);
+    wrote
 }
 
-// Writes the lesser list where the order says one, else the common part.
-fn write_lesser(
-    order: Option<Ordering>,
-    pair: Pair,
-    promises: Promises,
+// Writes what is the common part of two lists, and clears the work area.
+fn write_part(
+    part: Common,
+    pair: SourcePair,
+    joint: &[u32],
     w: &mut [u64; WORK_WORDS],
     out: &mut [u8],
 ) -> Result<usize, Refusal>
-    ensures told { told_of result ≡ told_bytes (answer (list_bytes (lesser (order_of order) (paulis (list_of pair.entry.left.bytes.now)) (paulis (list_of pair.entry.right.bytes.now)) (common_part (promise_of promises.left) (promise_of promises.right) (paulis (list_of pair.entry.left.bytes.now)) (paulis (list_of pair.entry.right.bytes.now)))))) out.old }
-    ensures left { out.new ≡ left_in (answer (list_bytes (lesser (order_of order) (paulis (list_of pair.entry.left.bytes.now)) (paulis (list_of pair.entry.right.bytes.now)) (common_part (promise_of promises.left) (promise_of promises.right) (paulis (list_of pair.entry.left.bytes.now)) (paulis (list_of pair.entry.right.bytes.now)))))) out.old }
+    requires { SomeCommon (listed pair.left) (listed pair.right) joint.now w.old part }
+    ensures told { (p : SomeCommon (listed pair.entry.left) (listed pair.entry.right) joint.now w.old part) → told_of result ≡ told_bytes (answer (list_bytes p.list)) out.old }
+    ensures left { (p : SomeCommon (listed pair.entry.left) (listed pair.entry.right) joint.now w.old part) → out.new ≡ left_in (answer (list_bytes p.list)) out.old }
+    ensures area { (work : List ℕ) → length work ≡ 4096 → w.new ≡ cleared work }
 {
-    match order {
-        Some(lesser) => match lesser {
-            Ordering::Equal | Ordering::Less => write_list(pair.left, w, out),
-            Ordering::Greater => write_list(pair.right, w, out),
-        },
-        None => write_part(pair, promises, w, out),
+    match part {
+        Common::Left => write_list(pair.left, w, out),
+        Common::Right => write_list(pair.right, w, out),
+        Common::Further(n) => write_further(n, joint, w, out),
     }
 }
 
@@ -230,10 +262,10 @@ fn write_common(
     ensures left { out.new ≡ left_in (answer (common_bytes (promise_of promises.left) (promise_of promises.right) (record { left = paulis (list_of pair.entry.left.bytes.now); right = paulis (list_of pair.entry.right.bytes.now) }))) out.old }
     ensures area { w.new ≡ cleared w.old }
 {
-    let order = order_of(pair, promises, w);
-    let wrote = write_lesser(order, pair, promises, w, out);
-    clear(w);
-    wrote
+    let lists = SourcePair::rolled(pair);
+    let mut joint = Support::new();
+    let part = common_of(lists, promises, &mut joint, w);
+    write_part(part, lists, joint.qubits(), w, out)
 }
 
 // Writes the common part of the groups of two lists as a roll: each may have a promise, and the two joined have none.

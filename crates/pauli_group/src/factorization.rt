@@ -15,6 +15,7 @@ use crate::checks::{Rolls, check_question};
 use crate::group::group_of;
 use crate::member::{IndexSet, factor, put_indexes};
 use crate::promise::Promise;
+use crate::source::Source;
 use crate::standard::signs_of;
 use pauli::refusal::{Reason, Refusal};
 use pauli::support::Support;
@@ -31,7 +32,7 @@ fn factor_once(
     ensures area { w.new ≡ cleared w.old }
 {
     let mut known = Support::new();
-    let g = group_of(rolls.generators, &mut known, w);
+    let g = group_of(Source::Rolled(rolls.generators), &mut known, w);
     let signs = signs_of(g.standards().paulis(w), promise);
     let factoring = factor(rolls.elements, number, known.qubits(), g, signs.phases, w);
     clear(w);

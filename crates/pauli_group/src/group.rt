@@ -10,13 +10,13 @@ ghost use Rattle.pauli_group.specs.Inner.Area.{list_at, standard_at, further_at,
 ghost use Rattle.pauli_group.specs.WorkArea.{cleared};
 ghost use Rattle.pauli_group.specs.Inner.Groups.{Built, Grouped, facts_in, facts_of};
 ghost use Rattle.pauli_group.specs.Calls.{paulis};
+ghost use Rattle.pauli_group.specs.Inner.Sources.{listed, counted};
 
 use crate::area::{LIST, STANDARD, Span, WORK_WORDS, clear};
 use crate::form::{form_of, put_products};
-use crate::list::read_list;
 use crate::promise::Promise;
+use crate::source::{Source, SourcePair};
 use crate::standard::{Signs, signs_of, standardize};
-use pauli::joined::{Pair, join_support};
 use pauli::roll::Roll;
 use pauli::support::Support;
 
@@ -75,28 +75,29 @@ fn build(w: &mut [u64; WORK_WORDS], n: usize, s: usize) -> Group
     }
 }
 
-// Reads a roll, and builds its group.
-pub fn group_of(roll: Roll, known: &mut Support, w: &mut [u64; WORK_WORDS]) -> Group
-    ensures count { result.count ≡ roll.entry.count }
-    ensures group { Grouped (paulis (list_of roll.entry.bytes.now)) known.new w.new result.places result.rank result.total }
+// Reads a list, and builds its group.
+pub fn group_of(source: Source, known: &mut Support, w: &mut [u64; WORK_WORDS]) -> Group
+    ensures count { result.count ≡ counted source.entry }
+    ensures group { Grouped (listed source.entry) known.new w.new result.places result.rank result.total }
     ensures rest { Outside 0 further_at w.old w.new }
 {
     *known = Support::new();
-    roll.gather(known);
+    source.gather(known);
     let qubits = known.qubits();
-    read_list(roll, qubits, w, LIST);
-    build(w, roll.count, qubits.len())
+    source.read(qubits, w, LIST);
+    build(w, source.count(), qubits.len())
 }
 
-// Reads two rolls that can be joined, one after the other, and builds the group of the joined list.
-fn group_of_two(pair: Pair, known: &mut Support, w: &mut [u64; WORK_WORDS]) -> Group
-    ensures { Grouped (paulis (list_of pair.entry.left.bytes.now ++ list_of pair.entry.right.bytes.now)) known.new w.new result.places result.rank result.total }
+// Reads two lists that can be joined, one after the other, and builds the group of the joined list.
+fn group_of_two(pair: SourcePair, known: &mut Support, w: &mut [u64; WORK_WORDS]) -> Group
+    ensures { Grouped (listed pair.entry.left ++ listed pair.entry.right) known.new w.new result.places result.rank result.total }
 {
-    *known = join_support(pair.left, pair.right);
+    *known = pair.support();
     let qubits = known.qubits();
-    read_list(pair.left, qubits, w, LIST);
-    read_list(pair.right, qubits, w, LIST + 5 * pair.left.count);
-    build(w, pair.left.count + pair.right.count, qubits.len())
+    let first = pair.left.count();
+    pair.left.read(qubits, w, LIST);
+    pair.right.read(qubits, w, LIST + 5 * first);
+    build(w, first + pair.right.count(), qubits.len())
 }
 
 // What the calls tell of the group of a list, which is in the work area.
@@ -109,30 +110,30 @@ fn describe_group(group: Group, promise: Promise, w: &[u64; WORK_WORDS]) -> Desc
     }
 }
 
-// What the calls tell of the group of a roll.
-pub(crate) fn describe(roll: Roll, promise: Promise, w: &mut [u64; WORK_WORDS]) -> Description
-    ensures { facts_in result ≡ facts_of (promise_of promise) (paulis (list_of roll.entry.bytes.now)) }
+// What the calls tell of the group of a list.
+pub(crate) fn describe(source: Source, promise: Promise, w: &mut [u64; WORK_WORDS]) -> Description
+    ensures { facts_in result ≡ facts_of (promise_of promise) (listed source.entry) }
 {
     let mut known = Support::new();
-    let g = group_of(roll, &mut known, w);
+    let g = group_of(source, &mut known, w);
     describe_group(g, promise, w)
 }
 
-// What the calls tell of the group of two rolls joined, without promise.
-pub(crate) fn describe_two(pair: Pair, w: &mut [u64; WORK_WORDS]) -> Description
-    ensures { facts_in result ≡ facts_of none (paulis (list_of pair.entry.left.bytes.now ++ list_of pair.entry.right.bytes.now)) }
+// What the calls tell of the group of two lists joined, without promise.
+pub(crate) fn describe_two(pair: SourcePair, w: &mut [u64; WORK_WORDS]) -> Description
+    ensures { facts_in result ≡ facts_of none (listed pair.entry.left ++ listed pair.entry.right) }
 {
     let mut known = Support::new();
     let g = group_of_two(pair, &mut known, w);
     describe_group(g, Promise::None, w)
 }
 
-// Describes the group, and clears the work area.
+// Describes the group of a roll, and clears the work area.
 pub(crate) fn describe_once(roll: Roll, promise: Promise, w: &mut [u64; WORK_WORDS]) -> Description
     ensures told { facts_in result ≡ facts_of (promise_of promise) (paulis (list_of roll.entry.bytes.now)) }
     ensures area { w.new ≡ cleared w.old }
 {
-    let d = describe(roll, promise, w);
+    let d = describe(Source::Rolled(roll), promise, w);
     clear(w);
     d
 }

@@ -21,6 +21,7 @@ use crate::area::{FURTHER, STANDARD, Span, WORK_WORDS, area_of, clear};
 use crate::checks::check_list;
 use crate::group::group_of;
 use crate::promise::Promise;
+use crate::source::Source;
 use crate::standard::signs_of;
 use pauli::places::Places;
 use pauli::refusal::{Reason, Refusal};
@@ -207,7 +208,7 @@ fn write_page(
     ensures area { w.new ≡ cleared w.old }
 {
     let mut known = Support::new();
-    let g = group_of(roll, &mut known, w);
+    let g = group_of(Source::Rolled(roll), &mut known, w);
     if g.rank > MOST_LISTED {
         clear(w);
         return Err(Reason::Listing.into());

@@ -8,28 +8,30 @@ ghost use Rattle.pauli.specs.Signed.{held, list_in};
 ghost use Rattle.pauli.specs.Writing.{told_bytes, left_in};
 ghost use Rattle.pauli_theory.specs.Modulo.{modulo};
 ghost use Rattle.pauli_theory.specs.Inner.ModuloPlaces.{multiplied_at};
-ghost use Rattle.pauli_theory.specs.Standard.{support_of};
 ghost use Rattle.pauli_group.specs.Inner.Area.{further_at, Outside};
 ghost use Rattle.pauli_group.specs.WorkArea.{cleared};
 ghost use Rattle.pauli_group.specs.Calls.{paulis, list_bytes};
 ghost use Rattle.pauli_group.specs.Promises.{promise_of};
 ghost use Rattle.pauli_group.specs.CallContracts.{ModuloCall};
-ghost use Rattle.pauli_group.specs.Inner.Remainder.{multiplied_stored, Other, remainder_by, Remainder};
+ghost use Rattle.pauli_group.specs.Inner.Further.{FurtherHas};
+ghost use Rattle.pauli_group.specs.Inner.Remainder.{multiplied_stored, Other, remainder_by};
+ghost use Rattle.pauli_group.specs.Inner.Sources.{listed};
 ghost use Rattle.pauli.specs.Refusals.{told_of};
 
-use crate::area::{FURTHER, STANDARD, Span, WORK_WORDS, area_of, clear};
+use crate::area::{FURTHER, STANDARD, Span, WORK_WORDS, area_of};
 use crate::checks::check_pair;
 use crate::form::stride_of;
+use crate::further::write_further;
 use crate::group::{Group, group_of};
 use crate::moved::{move_list, move_pauli};
 use crate::promise::{Promise, Promises};
 use crate::scan::take_mod;
+use crate::source::SourcePair;
 use crate::standard::signs_of;
-use pauli::joined::{Pair, join_support};
+use pauli::joined::Pair;
 use pauli::refusal::Refusal;
 use pauli::signed::{Pauli, load, store};
 use pauli::support::{Place, Support, place_of, qubit_at};
-use pauli::write::write_roll;
 
 // The Pauli times other, if it has a one at the place: in x, or else in z. is_x is the pivot's half of the columns, as the
 // definition multiplied_at takes it.
@@ -81,12 +83,18 @@ fn multiply_all(w: &mut [u64; WORK_WORDS], m: usize, group: Group, own: &[u32], 
     }
 }
 
-// Leaves the remainder of the left list by the right one in the further list, over the places of the joint support; tells how many
-// Paulis it has.
-fn remainder(pair: Pair, promise: Promise, joint: &[u32], w: &mut [u64; WORK_WORDS]) -> usize
-    requires { (length joint.now ≤ 128) × (joint.now ≡ support_of (paulis (list_of pair.left.bytes.now) ++ paulis (list_of pair.right.bytes.now))) }
-    ensures { Remainder (promise_of promise) (paulis (list_of pair.entry.left.bytes.now)) (paulis (list_of pair.entry.right.bytes.now)) w.new result }
+// Leaves the remainder of the left list by the right one in the further list, over the places of their joint support, which it
+// leaves in known; tells how many Paulis it has.
+pub fn remainder(
+    pair: SourcePair,
+    promise: Promise,
+    known: &mut Support,
+    w: &mut [u64; WORK_WORDS],
+) -> usize
+    ensures { FurtherHas known.new (modulo (promise_of promise) (listed pair.entry.left) (listed pair.entry.right)) w.new result }
 {
+    *known = pair.support();
+    let joint = known.qubits();
     let mut own = Support::new();
     let a = group_of(pair.left, &mut own, w);
     move_list(w, a.standards(), FURTHER, own.qubits(), joint);
@@ -99,7 +107,7 @@ fn remainder(pair: Pair, promise: Promise, joint: &[u32], w: &mut [u64; WORK_WOR
 }
 
 // Writes the remainder of two rolls that can be joined, and clears the work area.
-pub(crate) fn write_modulo(
+fn write_modulo(
     pair: Pair,
     promise: Promise,
     w: &mut [u64; WORK_WORDS],
@@ -109,13 +117,9 @@ pub(crate) fn write_modulo(
     ensures left { out.new ≡ left_in (answer (list_bytes (modulo (promise_of promise) (paulis (list_of pair.entry.left.bytes.now)) (paulis (list_of pair.entry.right.bytes.now))))) out.old }
     ensures area { w.new ≡ cleared w.old }
 {
-    let support = join_support(pair.left, pair.right);
-    let joint = support.qubits();
-    let count = remainder(pair, promise, joint, w);
-    let list = Span::at(FURTHER, count);
-    let wrote = write_roll(list.paulis(w), joint, out);
-    clear(w);
-    wrote
+    let mut joint = Support::new();
+    let count = remainder(SourcePair::rolled(pair), promise, &mut joint, w);
+    write_further(count, joint.qubits(), w, out)
 }
 
 // The remainder of the left list by the right one. Each list may have a promise; the left one's is not read.

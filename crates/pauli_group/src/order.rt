@@ -7,6 +7,7 @@ ghost use Rattle.pauli_group.specs.Answers.{order_of};
 ghost use Rattle.pauli_group.specs.WorkArea.{cleared};
 ghost use Rattle.pauli_group.specs.Inner.Lists.{step_told};
 ghost use Rattle.pauli_group.specs.Calls.{paulis};
+ghost use Rattle.pauli_group.specs.Inner.Sources.{listed};
 ghost use Rattle.pauli_group.specs.Inner.Compare.{ranks_in, order_by};
 ghost use Rattle.pauli_group.specs.CallContracts.{OrderCall};
 
@@ -14,6 +15,7 @@ use crate::area::{WORK_WORDS, area_of, clear};
 use crate::checks::check_pair;
 use crate::group::{Description, describe, describe_two};
 use crate::promise::Promises;
+use crate::source::SourcePair;
 use pauli::joined::Pair;
 use pauli::refusal::Refusal;
 use std::cmp::Ordering;
@@ -59,13 +61,13 @@ fn order_by(a: GroupRanks, b: GroupRanks, both: GroupRanks) -> Option<Ordering>
     None
 }
 
-// How the groups of two rolls that can be joined compare.
+// How the groups of two lists that can be joined compare.
 pub(crate) fn order_of(
-    pair: Pair,
+    pair: SourcePair,
     promises: Promises,
     w: &mut [u64; WORK_WORDS],
 ) -> Option<Ordering>
-    ensures { order_of result ≡ partial_cmp (promise_of promises.left) (promise_of promises.right) (paulis (list_of pair.entry.left.bytes.now)) (paulis (list_of pair.entry.right.bytes.now)) }
+    ensures { order_of result ≡ partial_cmp (promise_of promises.left) (promise_of promises.right) (listed pair.entry.left) (listed pair.entry.right) }
 {
     let a = describe(pair.left, promises.left, w);
     let b = describe(pair.right, promises.right, w);
@@ -78,7 +80,7 @@ fn compare(pair: Pair, promises: Promises, w: &mut [u64; WORK_WORDS]) -> Option<
     ensures told { order_of result ≡ partial_cmp (promise_of promises.left) (promise_of promises.right) (paulis (list_of pair.entry.left.bytes.now)) (paulis (list_of pair.entry.right.bytes.now)) }
     ensures area { w.new ≡ cleared w.old }
 {
-    let order = order_of(pair, promises, w);
+    let order = order_of(SourcePair::rolled(pair), promises, w);
     clear(w);
     order
 }

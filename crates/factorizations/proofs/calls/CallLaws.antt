@@ -18,6 +18,7 @@ use Rattle.pauli_group.proofs.checks.RollsLaws.{Accepted, both}
 use Rattle.pauli_group.proofs.checks.Room.{room_told, room_enough, room_passed, room_refused}
 use Rattle.pauli_group.proofs.area.AreaLaws.{cleared_part}
 use Rattle.pauli_group.proofs.group.GroupedLaws.{list_length}
+use Rattle.pauli_group.proofs.source.SourceLaws.{roll_counted}
 use Rattle.factorizations.specs.Calls.{questions, questions_counts, results_of, factorizations_call, Totals, totals, told_results}
 use Rattle.factorizations.specs.Contract.{FactorizationsCall}
 use Rattle.factorizations.specs.Records.{results_bytes}
@@ -49,7 +50,7 @@ module _ (b e : List ℕ) (words : ℕ) where
 
     pub counted_long : work_words ≤ words → answer (record { left = n; right = m }) ≡ map_told questions_counts (questions b e words)
     unfolding map_told questions_counts
-    counted_long h = rw (questions_long n m a h, list_length b n a.generators, list_length e m a.elements)
+    counted_long h = rw (questions_long n m a h, list_length _ _ (roll_counted b n a.generators), list_length _ _ (roll_counted e m a.elements))
 
   -- the rolls are accepted, and the area is large enough
   pub record Asking (n m : ℕ) : Type 0 where
@@ -112,7 +113,7 @@ module _ (promise : Promise) (b e work out : List ℕ) where
     left_is v = rw call_is v
 
     number : length (results_by promise b e) ≡ m
-    number = length-map (paulis (list_of e)) (factorization_of promise (paulis (list_of b))) ∙ list_length e m a.rolls.elements
+    number = length-map (paulis (list_of e)) (factorization_of promise (paulis (list_of b))) ∙ list_length _ _ (roll_counted e m a.rolls.elements)
 
     told_is : {t : Told ℕ} → t ≡ told_bytes (answer (results_bytes (results_by promise b e))) out
         → map_told (with_count m) t ≡ told_results (factorizations_call promise b e (length work)) out

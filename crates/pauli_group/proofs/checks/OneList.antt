@@ -11,6 +11,7 @@ use Rattle.pauli_group.specs.Calls.{paulis, one_list}
 use Rattle.pauli_group.proofs.checks.Room.{room_told, room_enough, room_passed, room_refused}
 use Rattle.pauli_group.proofs.area.AreaLaws.{cleared_part}
 use Rattle.pauli_group.proofs.group.GroupedLaws.{list_length}
+use Rattle.pauli_group.proofs.source.SourceLaws.{roll_counted}
 
 -- ---- one list, checked
 
@@ -30,7 +31,7 @@ module _ (b : List ℕ) (size : ℕ) where
 
     pub list_long : work_words ≤ size → answer n ≡ map_told length (one_list b size)
     unfolding map_told
-    list_long h = rw (counted ∙ room_enough size _ h) (ap answer (sym (list_length b n e)))
+    list_long h = rw (counted ∙ room_enough size _ h) (ap answer (sym (list_length _ _ (roll_counted b n e))))
 
   -- a roll of n Paulis is read, and the area is large enough
   pub record Given (n : ℕ) : Type 0 where
@@ -47,7 +48,7 @@ module _ (b : List ℕ) (size : ℕ) where
           let (gs, told, many) = map_answer length (one_list b size) n (sym e) in
           let (room, same) = room_passed size (answer (paulis (list_of b))) gs (sym (counted k f) ∙ told) in
           let list : paulis (list_of b) ≡ gs = cc in
-          let number : k ≡ n = sym (list_length b k f) ∙ ap length list ∙ many in
+          let number : k ≡ n = sym (list_length _ _ (roll_counted b k f)) ∙ ap length list ∙ many in
           record { count = f ∙ ap answer number; room = room; told = told ∙ sym same }
 
   pub list_none : {m p : ℕ} → refused m p ≡ map_told length (one_list b size) → one_list b size ≡ refused m p

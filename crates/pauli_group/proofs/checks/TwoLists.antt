@@ -13,6 +13,7 @@ use Rattle.pauli_group.specs.Calls.{paulis, Pair, pair_counts, two_lists}
 use Rattle.pauli_group.proofs.checks.Room.{room_told, room_enough, room_passed, room_refused}
 use Rattle.pauli_group.proofs.area.AreaLaws.{cleared_part}
 use Rattle.pauli_group.proofs.group.GroupedLaws.{list_length}
+use Rattle.pauli_group.proofs.source.SourceLaws.{roll_counted}
 
 -- ---- what the checks tell
 
@@ -42,7 +43,7 @@ module _ (l r : List ℕ) (size : ℕ) where
 
     pub counted_long : work_words ≤ size → answer (record { left = nl; right = nr }) ≡ map_told pair_counts (two_lists l r size)
     unfolding map_told pair_counts
-    counted_long h = rw (pair_long nl nr j h, list_length l nl j.left, list_length r nr j.right)
+    counted_long h = rw (pair_long nl nr j h, list_length _ _ (roll_counted l nl j.left), list_length _ _ (roll_counted r nr j.right))
 
   -- the two can be joined, and the area is large enough
   pub record Paired (nl nr : ℕ) : Type 0 where

@@ -2,15 +2,14 @@
 use Rattle.std.proofs.Common.{◌≡◌, ℕ, ◌+◌, ◌*◌, ◌^◌, ◌<◌, ◌≤◌, List, ◌++◌, map, length, get_or, sym, ap, ◌∙◌, ap₂, arith}
 use mathlib.Core.Option.{Option}
 use Rattle.binar.proofs.Lists.{all_map, all_over, all_under}
-use Rattle.pauli.specs.Roll.{count_of}
+use Rattle.pauli.specs.Roll.{Sparse}
 use Rattle.pauli.specs.Support.{All, Rising}
-use Rattle.pauli.specs.Told.{answer}
-use Rattle.pauli.specs.Condense.{list_of, condensed}
+use Rattle.pauli.specs.Condense.{condensed}
 use Rattle.pauli.specs.Pauli.{Pauli}
 use Rattle.pauli.specs.PauliTheorems.{On, PauliOn}
 use Rattle.pauli.specs.Sets.{condense}
 use Rattle.pauli.specs.Signed.{pauli_in, list_in}
-use Rattle.pauli.specs.Writing.{OnPlaces, roll_over}
+use Rattle.pauli.specs.Writing.{OnPlaces}
 use Rattle.pauli.proofs.condense.Places.{condense_bit}
 use Rattle.pauli_theory.specs.Group.{Promise}
 use Rattle.pauli_theory.specs.Standard.{support_of, phase_step}
@@ -19,21 +18,24 @@ use Rattle.pauli_theory.specs.Inner.CommonPlaces.{shared_exponent, shared_with}
 use Rattle.pauli_theory.specs.Order.{Order, partial_cmp}
 use Rattle.pauli_theory.proofs.CommonExponents.{Solved, basis_left, basis_right}
 use Rattle.pauli_theory.proofs.CommonPlaces.{places_basis}
-use Rattle.pauli_theory.proofs.CommonWritten.{part_places, part_places_on, written_part}
+use Rattle.pauli_theory.proofs.Common.{common_basis_law}
+use Rattle.pauli_theory.proofs.CommonWritten.{part_places, places_part}
 use Rattle.pauli_theory.proofs.ModuloPlaces.{joined}
 use Rattle.pauli_theory.proofs.Placed.{condensed_on}
 use Rattle.pauli_theory.proofs.Rows.{support_rises}
 use Rattle.pauli_group.specs.Inner.Area.{further_at, Outside}
+use Rattle.pauli_group.proofs.source.SourceLaws.{Counted}
 use Rattle.pauli_group.specs.Inner.Groups.{over_support}
-use Rattle.pauli_group.specs.Calls.{paulis, list_bytes, common_bytes}
+use Rattle.pauli_group.specs.Calls.{paulis}
 use Rattle.pauli_group.proofs.group.GroupedLaws.{list_length}
+use Rattle.pauli_group.specs.Inner.Further.{FurtherHas}
 use Rattle.pauli_group.specs.Inner.Moved.{Movable, MovablePauli}
 use Rattle.pauli_group.specs.Inner.Shared.{Joint, standard_over, basis_over, exponent_for, NotedBy, shared_at}
 use Rattle.pauli_group.proofs.common.SharedLaws.{shared_all}
 use Rattle.pauli_group.proofs.list.ListLaws.{list_kept_after, pauli_kept_after}
 
-pub lists_few : (l r : List ℕ) (nl nr : ℕ) → count_of l ≡ answer nl → count_of r ≡ answer nr → nl + nr ≤ 128
-    → length (paulis (list_of l)) + length (paulis (list_of r)) ≤ 128
+pub lists_few : (l r : List Sparse) (nl nr : ℕ) → Counted l nl → Counted r nr → nl + nr ≤ 128
+    → length (paulis l) + length (paulis r) ≤ 128
 lists_few l r nl nr a b few = omega (arith, list_length l nl a, list_length r nr b)
 
 -- ---- the common basis over the places of the joined support
@@ -121,15 +123,18 @@ module _ (gs hs : List Pauli) (joint : List ℕ) (J : Joint gs hs joint) (m : �
           ∙ ap₂ (λ (i : ℕ) (j : ℕ). shared_with (by_groups (joined gs hs) i j) (basis_over gs hs)) ea eb)
           (ap₂ (λ (i : ℕ) (j : ℕ). phases_from i j 4 0) ea eb)
 
-      pub part_places_lem : OnPlaces (length joint) (list_in v further_at total)
-      part_places_lem = rw (part_list, J.count) (part_places_on left right gs hs)
-
-      pub part_written : roll_over joint (list_in v further_at total) ≡ list_bytes (common_part left right gs hs)
-      part_written = rw (part_list, J.support) (written_part left right gs hs)
+      pub part_further : total ≤ 132 → FurtherHas joint (common_part left right gs hs) v total
+      part_further few = record {
+        rises = rw J.support (support_rises (gs ++ hs));
+        places = J.few;
+        few = few;
+        on = rw J.support ((common_basis_law gs hs).part_on left right);
+        list = rw J.support (part_list ∙ places_part left right gs hs);
+      }
 
 -- ---- the call
 
-pub lesser_bytes : (left right : Promise) (gs hs : List Pauli) (o : Order) → o ≡ partial_cmp left right gs hs
-    → list_bytes (lesser o gs hs (common_part left right gs hs)) ≡ common_bytes left right (record { left = gs; right = hs })
-unfolding common_bytes bitand
-lesser_bytes left right gs hs o e = ap (λ p. list_bytes (lesser p gs hs (common_part left right gs hs))) e
+pub bitand_is : (left right : Promise) (gs hs : List Pauli) (o : Order) → o ≡ partial_cmp left right gs hs
+    → bitand left right gs hs ≡ lesser o gs hs (common_part left right gs hs)
+unfolding bitand
+bitand_is left right gs hs o e = sym (ap (λ p. lesser p gs hs (common_part left right gs hs)) e)

@@ -7,9 +7,7 @@ use Rattle.binar.specs.Solve.{transpose_solve}
 use Rattle.pauli.specs.declared.signed.Pauli.{Pauli as Held}
 use Rattle.pauli.specs.Pauli.{Pauli, I, normal, indexed_product, phase}
 use Rattle.pauli.specs.Writing.{OnPlaces, roll_over}
-use Rattle.pauli.specs.Condense.{list_of}
-use Rattle.pauli.specs.Roll.{count_of}
-use Rattle.pauli.specs.Told.{answer}
+use Rattle.pauli.specs.Roll.{Sparse}
 use Rattle.pauli.proofs.write.Writers.{length_list}
 use Rattle.pauli.specs.Support.{All}
 use Rattle.binar.proofs.Lists.{all_get}
@@ -25,6 +23,7 @@ use Rattle.pauli_theory.specs.Inner.ModuloPlaces.{moved_set, moved_pauli}
 use Rattle.pauli_theory.proofs.CommonWritten.{shared_append, phases_next}
 use Rattle.pauli_theory.proofs.IfZero.{if_zero_zero, if_zero_more}
 use Rattle.pauli_group.specs.Inner.Area.{target_at, list_at, further_at, row_words, stride_of, Outside}
+use Rattle.pauli_group.proofs.source.SourceLaws.{Counted}
 use Rattle.pauli_group.specs.Inner.Groups.{over_support, Grouped}
 use Rattle.pauli_group.specs.Calls.{paulis, list_bytes}
 use Rattle.pauli_group.specs.Inner.Lists.{row_over, found}
@@ -284,15 +283,15 @@ module _ {first w : List ℕ} {n : ℕ} (O : Outside target_at (stride_of n) fir
   unfolding exponent_over
   noted_exponent joint own i e told = told ∙ ap₂ (λ ps p. solved_exponent places ps (moved_pauli joint own p)) list_here (noted_here i)
 
--- ---- by the group of an accepted roll
+-- ---- by the group of a list within the limits
 
-module _ (b : List ℕ) (n : ℕ) (count : count_of b ≡ answer n) {known x : List ℕ} {places rank total : ℕ}
-    (G : Grouped (paulis (list_of b)) known x places rank total) (size : length x ≡ 4096) where
+module _ (ps : List Sparse) (n : ℕ) (count : Counted ps n) {known x : List ℕ} {places rank total : ℕ}
+    (G : Grouped (paulis ps) known x places rank total) (size : length x ≡ 4096) where
   abbrev gs : List Pauli
-  gs = paulis (list_of b)
+  gs = paulis ps
 
   number : length gs ≡ n
-  number = list_length b n count
+  number = list_length ps n count
 
   group_list : list_in x list_at n ≡ over_support gs
   group_list = rw (← number) G.list
@@ -301,9 +300,9 @@ module _ (b : List ℕ) (n : ℕ) (count : count_of b ≡ answer n) {known x : L
   unfolding over_support
   group_solving = record {
     form = rw (← number) (G.form ∙ places_echelon gs ∙ rw (← G.size, ← G.list));
-    solvable = rw (← number) (grouped_solvable G (list_few b n count) (group_places b n count G) size);
-    few = omega (arith, number, list_few b n count);
-    small = group_places b n count G;
+    solvable = rw (← number) (grouped_solvable G (list_few ps n count) (group_places ps n count G) size);
+    few = omega (arith, number, list_few ps n count);
+    small = group_places ps n count G;
   }
 
   module _ {entry : List ℕ} (o : Outside 0 further_at entry x) (qs : List ℕ) (m : ℕ) where

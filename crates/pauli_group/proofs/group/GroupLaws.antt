@@ -1,5 +1,5 @@
 -- The group of a list in the work area: from the roll's Paulis over the places of their support.
-use Rattle.std.proofs.Common.{◌≡◌, ℕ, ◌+◌, ◌*◌, ◌≤◌, List, [], ◌++◌, map, length, sym, refl, ap, ◌∙◌, ap₂, arith}
+use Rattle.std.proofs.Common.{◌≡◌, ℕ, ◌+◌, ◌*◌, ◌≤◌, List, [], ◌++◌, map, length, sym, refl, ap, ◌∙◌, subst, ap₂, arith}
 use mathlib.Core.List.{map-append, Memᴰ as Mem}
 use lib.ListN.{length-map}
 use Rattle.binar.specs.Echelon.{rank as echelon_rank}
@@ -12,9 +12,8 @@ use Rattle.pauli.specs.Sets.{pauli_of}
 use Rattle.pauli.specs.Signed.{list_in}
 use Rattle.pauli.specs.Told.{answer}
 use Rattle.pauli.specs.Writing.{OnPlaces}
-use Rattle.pauli.proofs.joined.JoinLaws.{accepted}
 use Rattle.pauli.proofs.join.ProductLaws.{count_accepted, readable}
-use Rattle.pauli.proofs.roll.RollLaws.{answer_parts}
+use Rattle.pauli.proofs.roll.ListSupport.{in_support, sets_in_support}
 use Rattle.pauli_theory.specs.Group.{Promise, none, abelian, not_abelian}
 use Rattle.pauli_theory.specs.Standard.{support_of, form_of, standard, rank, nonabelian, phase_step, stabilizer, step_of}
 use Rattle.pauli_theory.proofs.Theorems.{group_laws}
@@ -24,6 +23,10 @@ use Rattle.pauli_theory.proofs.Written.{support_of_lem, placed_roll}
 use Rattle.pauli_group.specs.Inner.Area.{list_at, standard_at, Outside}
 use Rattle.pauli_group.specs.Inner.Groups.{products_named, Built, over_support, Grouped, Facts, facts_in, facts_of}
 use Rattle.pauli_group.specs.declared.group.Description.{Description}
+use Rattle.pauli_group.specs.declared.source.Source.{Source}
+use Rattle.pauli_group.specs.declared.source.Source.TheVariants.{Rolled, Kept}
+use Rattle.pauli_group.specs.Inner.Kept.{spread}
+use Rattle.pauli_group.specs.Inner.Sources.{sparse_in, PlacedIn}
 use Rattle.pauli_group.specs.Calls.{paulis}
 use Rattle.pauli_group.specs.Inner.Lists.{step_told, over_places, row_over, form_over, from_products, ReadableAll, clash_of, stabilizer_of}
 use Rattle.pauli_group.specs.Answers.{yes_number}
@@ -31,14 +34,10 @@ use Rattle.pauli_group.proofs.list.ListLaws.{list_append, list_kept}
 
 -- ---- the support
 
--- the numbers of one accepted roll, gathered
-pub own_gathered : (b qs : List ℕ) → Gathered (insert_all (numbers (list_of b)) []) qs → Gathered (support (list_of b)) qs
+-- the numbers of one list, gathered
+pub own_gathered : (ps : List Sparse) (qs : List ℕ) → Gathered (insert_all (numbers ps) []) qs → Gathered (support ps) qs
 unfolding support
-own_gathered b qs g = g
-
-module _ (b : List ℕ) (n : ℕ) (e : count_of b ≡ answer n) where
-  pub own_few : length (support (list_of b)) ≤ most_qubits
-  own_few = (answer_parts b (list_of b) (accepted b n e).0).qubits
+own_gathered ps qs g = g
 
 module _ (ps : List Sparse) (known : List ℕ) (g : Gathered (support ps) known) (few : length (support ps) ≤ most_qubits) where
   pub known_is : known ≡ support ps
@@ -55,6 +54,16 @@ module _ (ps : List Sparse) (known : List ℕ) (g : Gathered (support ps) known)
   -- each Pauli of a roll whose list is part of ps
   pub part_readable : (b : List ℕ) (n : ℕ) → count_of b ≡ answer n → ((p : Sparse) → Mem p (list_of b) → Mem p ps) → ReadableAll b n known
   part_readable b n e inside i h = rw known_is (readable b n (count_accepted b n e) i h ps inside)
+
+  -- a list that is part of ps
+  pub part_placed : (s : Source) → ((p : Sparse) → Mem p (sparse_in s) → Mem p ps) → PlacedIn s known
+  part_placed (Rolled r) inside = part_readable r.bytes.now r.count r.accepted inside
+  part_placed (Kept k) inside = (
+    g.rises,
+    λ q m.
+        let (p, i, j) = in_support (spread k.qubits.now k.paulis.now) q (subst (Mem q) (sym k.kept.support_is) m) in
+        rw known_is (sets_in_support p ps (inside p i) q j),
+  )
 
   -- the area with the list
   module _ (w : List ℕ) (n : ℕ) (list : list_in w list_at n ≡ map (over_places known) ps) where

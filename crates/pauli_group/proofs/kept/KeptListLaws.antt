@@ -1,5 +1,5 @@
 -- Laws of lists kept in words.
-use Rattle.std.proofs.Common.{◌≡◌, ℕ, zero, suc, ◌%◌, ◌^◌, ◌<◌, List, [], ◌∷◌, map, length, get_or, sym, refl, ap, ◌∙◌, subst, arith}
+use Rattle.std.proofs.Common.{◌≡◌, ℕ, ◌%◌, ◌^◌, ◌<◌, List, [], length, get_or, sym, ap, ◌∙◌, subst, arith}
 use mathlib.Core.List.{Memᴰ as Mem}
 use lib.ListN.{length-map}
 use Rattle.std.proofs.lemmas.List.{get_or-map}
@@ -9,7 +9,7 @@ use Rattle.pauli.specs.Pauli.{Pauli, I, normal}
 use Rattle.pauli.specs.Roll.{Sparse, numbers, support}
 use Rattle.pauli.specs.Sets.{pauli_of, expand}
 use Rattle.pauli.specs.Signed.{held, pauli_in, paulis_in, stored}
-use Rattle.pauli.specs.Support.{Rising, insert_all}
+use Rattle.pauli.specs.Support.{Rising}
 use Rattle.pauli.specs.Writing.{sparse_over}
 use Rattle.pauli.proofs.signed.SignedLaws.{length_paulis, pauli_at, stored_value}
 use Rattle.pauli.proofs.support.Lists.{in_get_or}

@@ -40,6 +40,7 @@ use Rattle.pauli_theory.proofs.IfZero.{if_zero_zero, if_zero_more}
 use Rattle.pauli_theory.proofs.OverPlaces.{placed, places_form, places_phase_step, places_factorization, off_factorization}
 use Rattle.pauli_theory.proofs.Rows.{support_rises}
 use Rattle.pauli_group.specs.Inner.Area.{target_at, list_at, standard_at, row_words, stride_of}
+use Rattle.pauli_group.proofs.source.SourceLaws.{Counted}
 use Rattle.pauli_group.specs.Inner.Groups.{Grouped, over_support}
 use Rattle.pauli_group.specs.Calls.{paulis}
 use Rattle.pauli_group.specs.Inner.Lists.{row_over, clash_of, stabilizer_of}
@@ -241,18 +242,18 @@ module _ {known w : List ℕ} {n places r total step : ℕ} (g : Asked known w n
         pub factored_phase : (k % 4 % step ≡ 0 → ⊥) → none ≡ factorization_of g.promise gs (pauli_of e)
         factored_phase d = sym (answered ∙ if_zero_more (k % 4 % step) _ _ (more_than (k % 4 % step) d))
 
--- ---- the list of an accepted roll
+-- ---- a list within the limits
 
-module _ (b : List ℕ) (n : ℕ) (e : count_of b ≡ answer n) {known x : List ℕ} {places r total : ℕ}
-    (G : Grouped (paulis (list_of b)) known x places r total) (promise : Promise) {step clash stable : ℕ}
+module _ (ps : List Sparse) (n : ℕ) (e : Counted ps n) {known x : List ℕ} {places r total : ℕ}
+    (G : Grouped (paulis ps) known x places r total) (promise : Promise) {step clash stable : ℕ}
     (ec : clash ≡ clash_of promise (list_in x standard_at total))
     (es : step ≡ step_of (clash_of promise (list_in x standard_at total)) (list_in x standard_at total))
     (et : stable ≡ stabilizer_of (clash_of promise (list_in x standard_at total)) (list_in x standard_at total)) where
   unfoldable pub asked_of : Asked known x n places r total step
   asked_of = record {
-    list = paulis (list_of b);
+    list = paulis ps;
     promise = promise;
-    size = sym (list_length b n e);
+    size = sym (list_length ps n e);
     grouped = G;
     step_is = (described G promise step clash stable ec es et).step_is;
   }

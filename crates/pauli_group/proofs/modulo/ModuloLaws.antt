@@ -1,38 +1,29 @@
 -- Laws of the call for the remainder: the two groups in the area, and what is left of the first.
 use Rattle.std.proofs.Common.{◌≡◌, ℕ, ◌*◌, ◌<◌, ◌≤◌, List, ◌++◌, map, length, get_or, take, drop, sym, refl, ap, ◌∙◌, subst, ap₂, arith}
-use mathlib.Core.List.{map-append, Memᴰ as Mem}
-use lib.ListN.{length-map}
+use mathlib.Core.List.{Memᴰ as Mem}
 use Rattle.binar.specs.Echelon.{EchelonForm, rank as echelon_rank}
 use Rattle.binar.specs.Layout.{form_in}
 use Rattle.binar.proofs.Lists.{all_of, all_map, all_over, map_same}
-use Rattle.pauli.specs.Known.{Gathered}
-use Rattle.pauli.specs.Roll.{Sparse, support}
-use Rattle.pauli.specs.Support.{most_qubits, All, Rising}
+use Rattle.pauli.specs.Support.{All, Rising}
 use Rattle.pauli.proofs.support.Lists.{in_get_or}
-use Rattle.pauli.specs.Condense.{list_of, condensed}
 use Rattle.pauli.specs.Pauli.{Pauli, normal}
 use Rattle.pauli.specs.Signed.{list_in}
-use Rattle.pauli.specs.Sets.{pauli_of}
-use Rattle.pauli.specs.Writing.{OnPlaces, roll_over}
+use Rattle.pauli.specs.Writing.{OnPlaces}
 use Rattle.pauli.proofs.signed.Algebra.{normal_lt}
-use Rattle.pauli.proofs.write.Writers.{length_list}
 use Rattle.pauli_theory.specs.Group.{Promise}
 use Rattle.pauli_theory.specs.Modulo.{modulo}
 use Rattle.pauli_theory.specs.Inner.ModuloPlaces.{moved_pauli}
 use Rattle.pauli_theory.specs.Standard.{support_of, form_of, standard, rank, phase_step, exponent_mod}
 use Rattle.pauli_theory.proofs.ModuloPlaces.{left_in_joined, right_in_joined, pivots_fit, multiplied_places, places_modulo, modulo_on}
 use Rattle.pauli_theory.proofs.OverPlaces.{placed}
-use Rattle.pauli_theory.proofs.Placed.{condensed_on}
 use Rattle.pauli_theory.proofs.Rows.{support_rises}
 use Rattle.pauli_theory.proofs.Theorems.{group_laws}
-use Rattle.pauli_theory.proofs.Written.{support_of_lem, written_over}
 use Rattle.pauli_group.specs.Inner.Area.{standard_at, further_at, stride_of}
 use Rattle.pauli_group.specs.Inner.Groups.{over_support, Grouped}
-use Rattle.pauli_group.specs.Calls.{paulis, list_bytes}
 use Rattle.pauli_group.proofs.member.FactorLaws.{grouped_solvable}
-use Rattle.pauli_group.proofs.group.GroupLaws.{known_is, places_are, places_few}
 use Rattle.pauli_group.specs.Inner.Moved.{Movable, MovablePauli}
-use Rattle.pauli_group.specs.Inner.Remainder.{Other, remainder_by, Remainder}
+use Rattle.pauli_group.specs.Inner.Further.{FurtherHas}
+use Rattle.pauli_group.specs.Inner.Remainder.{Other, remainder_by}
 use Rattle.pauli_group.proofs.modulo.RemainderLaws.{normal_low}
 
 module _ (gs hs : List Pauli) (qs : List ℕ) (joint : qs ≡ support_of (gs ++ hs)) where
@@ -98,39 +89,12 @@ module _ (gs hs : List Pauli) (qs : List ℕ) (joint : qs ≡ support_of (gs ++ 
 
       pub remainder_left : (promise : Promise) (m : ℕ) → m ≡ phase_step promise hs → (w y : List ℕ) (n : ℕ)
           → list_in w further_at n ≡ remainder_by known qs x (length hs) r total ps
-          → list_in y further_at n ≡ map (exponent_mod m) (list_in w further_at n) → n ≤ 128 → Remainder promise gs hs y n
-      remainder_left promise m step w y n made taken low =
-          let list = taken ∙ ap (map (exponent_mod m)) (made ∙ remainder_is) ∙ places_modulo gs hs promise m step in
-          record {
-            count = sym (length_list y further_at n) ∙ ap length list ∙ length-map (modulo promise gs hs) (condensed (support_of (gs ++ hs)));
-            few = low;
-            list = list;
-          }
-
--- ---- the joined support of two rolls
-
-module _ (l r qs : List ℕ) (few : length (support (list_of l ++ list_of r)) ≤ most_qubits)
-    (g : Gathered (support (list_of l ++ list_of r)) qs) where
-  abbrev ks : List Sparse
-  ks = list_of l ++ list_of r
-
-  pub joined_support : qs ≡ support_of (paulis (list_of l) ++ paulis (list_of r))
-  unfolding paulis
-  joined_support = known_is ks qs g few ∙ support_of_lem ks ∙ ap support_of (map-append pauli_of (list_of l) (list_of r))
-
-  pub joined_size : length qs ≡ length (support_of (paulis (list_of l) ++ paulis (list_of r)))
-  joined_size = places_are ks qs g few ∙ ap length (sym (known_is ks qs g few) ∙ joined_support)
-
-  pub joined_places : length qs ≤ 128
-  joined_places = places_few ks qs g few
-
--- ---- the remainder, written
-
-module _ {promise : Promise} {gs hs : List Pauli} {x : List ℕ} {n : ℕ} (left : Remainder promise gs hs x n) where
-  pub remainder_on : (m : ℕ) → m ≡ length (support_of (gs ++ hs)) → OnPlaces m (list_in x further_at n)
-  remainder_on m e = rw (e, left.list) (condensed_on (support_of (gs ++ hs)) (modulo promise gs hs))
-
-  pub remainder_written : (qs : List ℕ) → qs ≡ support_of (gs ++ hs) → roll_over qs (list_in x further_at n) ≡ list_bytes (modulo promise gs hs)
-  remainder_written qs e =
-      ap₂ roll_over e left.list
-      ∙ written_over (support_of (gs ++ hs)) (support_rises (gs ++ hs)) (modulo promise gs hs) (modulo_on gs hs promise)
+          → list_in y further_at n ≡ map (exponent_mod m) (list_in w further_at n) → n ≤ 128 → length qs ≤ 128
+          → FurtherHas qs (modulo promise gs hs) y n
+      remainder_left promise m step w y n made taken low places = record {
+        rises = qs_rise;
+        places = places;
+        few = omega (arith, low);
+        on = rw joint (modulo_on gs hs promise);
+        list = rw joint (taken ∙ ap (map (exponent_mod m)) (made ∙ remainder_is) ∙ places_modulo gs hs promise m step);
+      }

@@ -4,13 +4,12 @@ use mathlib.Core.List.Memᴰ
 use mathlib.Core.List.Memᴰ.{append_cases as in-append}
 use mathlib.Core.List.{Memᴰ as Mem}
 use Rattle.pauli.specs.Roll.{Sparse, numbers, support}
-use Rattle.pauli.specs.Told.{answer, refused}
+use mathlib.Core.Option.{some, none}
 use Rattle.pauli.proofs.roll.ListSupport.{numbers_append, support_length}
 use Rattle.pauli.specs.Pauli.{Pauli}
 use Rattle.pauli_theory.specs.Group.{Promise}
 use Rattle.pauli_theory.specs.Modulo.{modulo, if_below, try_quotient}
 use Rattle.pauli_theory.specs.Order.{Order, equal, less, greater, no_order, partial_cmp}
-use Rattle.pauli_group.specs.Calls.{list_bytes, quotient_bytes}
 use Rattle.pauli_group.specs.Inner.Compare.{is_below}
 
 -- the other way round two lists have as many qubits
@@ -28,24 +27,24 @@ turned true = refl
 turned false = refl
 
 module _ (left right : Promise) (gs hs : List Pauli) (order : Order) (e : order ≡ partial_cmp right left hs gs) (b : Bool) (test : b ≡ is_below order) where
-  below_none : (o : Order) → is_below o ≡ false → quotient_bytes (if_below o (modulo right gs hs)) ≡ refused 11 0
-  unfolding if_below quotient_bytes
+  below_none : (o : Order) → is_below o ≡ false → if_below o (modulo right gs hs) ≡ none
+  unfolding if_below
   below_none equal f = absurd (true≢false f)
   below_none less f = absurd (true≢false f)
   below_none greater f = refl
   below_none no_order f = refl
 
-  below_some : (o : Order) → is_below o ≡ true → quotient_bytes (if_below o (modulo right gs hs)) ≡ answer (list_bytes (modulo right gs hs))
-  unfolding if_below quotient_bytes
+  below_some : (o : Order) → is_below o ≡ true → if_below o (modulo right gs hs) ≡ some (modulo right gs hs)
+  unfolding if_below
   below_some equal f = refl
   below_some less f = refl
   below_some greater f = absurd (true≢false (sym f))
   below_some no_order f = absurd (true≢false (sym f))
 
-  pub quotient_none : not b ≡ true → quotient_bytes (try_quotient left right gs hs) ≡ refused 11 0
+  pub quotient_none : not b ≡ true → try_quotient left right gs hs ≡ none
   unfolding try_quotient
   quotient_none f = rw (← e) (below_none order (sym test ∙ turned b ∙ ap not f))
 
-  pub quotient_some : not b ≡ false → quotient_bytes (try_quotient left right gs hs) ≡ answer (list_bytes (modulo right gs hs))
+  pub quotient_some : not b ≡ false → try_quotient left right gs hs ≡ some (modulo right gs hs)
   unfolding try_quotient
   quotient_some f = rw (← e) (below_some order (sym test ∙ turned b ∙ ap not f))

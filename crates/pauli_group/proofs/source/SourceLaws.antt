@@ -1,6 +1,5 @@
 -- Laws of lists by where they come from.
-use Rattle.std.proofs.Common.{◌≡◌, ℕ, ◌≤◌, List, [], length, sym, ◌∙◌, subst, ⊎_elim, refl, arith}
-use mathlib.Core.List.{Memᴰ as Mem}
+use Rattle.std.proofs.Common.{◌≡◌, ℕ, ◌≤◌, List, [], length, sym, ◌∙◌, subst, ⊎_elim, refl}
 use Rattle.pauli.specs.Condense.{list_of}
 use Rattle.pauli.specs.Known.{Gathered}
 use Rattle.pauli.specs.Roll.{Sparse, most_paulis, numbers, support, count_of}

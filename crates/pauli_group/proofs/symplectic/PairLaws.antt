@@ -31,7 +31,8 @@ use Rattle.pauli_group.specs.Calls.{paulis, symplectic_bytes}
 use Rattle.pauli_group.specs.Inner.Lists.{found, over_places, Tested}
 use Rattle.pauli_group.specs.Inner.Pairs.{times_if_stored, paired_in, Plain, PairedTo}
 use Rattle.pauli_group.specs.declared.symplectic.Pairing.{Pairing}
-use Rattle.pauli_group.proofs.group.GroupLaws.{own_few, known_is, listed, size_same}
+use Rattle.pauli.proofs.joined.JoinLaws.{own_few}
+use Rattle.pauli_group.proofs.group.GroupLaws.{known_is, listed, size_same}
 use Rattle.pauli_group.proofs.list.ListLaws.{pauli_kept, list_kept, list_kept_after, list_store, list_snoc, list_append, list_at_lem, store_outside, store_pauli, outside_join, outside_wider}
 
 -- ---- values

@@ -1,17 +1,13 @@
 -- The remainder of a list by another, in the work area.
-use Rattle.std.specs.Prelude.{◌≡◌, ℕ, Bool, cond, ◌+◌, ◌*◌, ◌<◌, ◌≤◌, List, ◌++◌, map, length, take, drop, slice_index}
+use Rattle.std.specs.Prelude.{ℕ, Bool, cond, ◌+◌, ◌*◌, ◌<◌, ◌≤◌, List, map, length, take, drop, slice_index}
 use mathlib.Core.List.{Memᴰ as Mem}
 use Rattle.binar.specs.Row.{bit, if_bit}
 use Rattle.pauli.specs.Support.{Rising}
-use Rattle.pauli.specs.Condense.{condensed}
 use Rattle.pauli.specs.Pauli.{Pauli}
 use Rattle.pauli.specs.Signed.{list_in, times_stored}
 use Rattle.pauli.specs.Writing.{OnPlaces}
-use Rattle.pauli_theory.specs.Group.{Promise}
-use Rattle.pauli_theory.specs.Modulo.{modulo}
 use Rattle.pauli_theory.specs.Inner.ModuloPlaces.{moved_pauli, multiplied_by_all_over}
-use Rattle.pauli_theory.specs.Standard.{support_of}
-use Rattle.pauli_group.specs.Inner.Area.{standard_at, further_at, stride_of}
+use Rattle.pauli_group.specs.Inner.Area.{standard_at, stride_of}
 
 -- g times other as it is stored, if g has a one at the place: in x for true, in z for false
 unfoldable pub multiplied_stored : Bool → ℕ → Pauli → Pauli → Pauli
@@ -32,9 +28,3 @@ pub record Other (own qs x : List ℕ) (n rank total : ℕ) : Type 0 where
 unfoldable pub remainder_by : List ℕ → List ℕ → List ℕ → ℕ → ℕ → ℕ → List Pauli → List Pauli
 remainder_by own qs x n rank total gs =
     multiplied_by_all_over own qs (map (moved_pauli own qs) (list_in x standard_at total)) (take rank (drop (n * stride_of n) x)) gs
-
--- the remainder of gs by hs, r Paulis over the places of the joined support, is the further list of the area x
-pub record Remainder (promise : Promise) (gs hs : List Pauli) (x : List ℕ) (r : ℕ) : Type 0 where
-  pub count : r ≡ length (modulo promise gs hs)
-  pub few : r ≤ 128
-  pub list : list_in x further_at r ≡ map (condensed (support_of (gs ++ hs))) (modulo promise gs hs)

@@ -3,7 +3,8 @@ use Rattle.std.proofs.Common.{sym, ap}
 use Rattle.pauli.specs.Refusals.{told_of}
 use Rattle.pauli.proofs.joined.JoinLaws.{accepted, count_refused}
 use Rattle.pauli.proofs.refusal.HandedOn.{handed_on}
-use Rattle.pauli_group.proofs.group.GroupLaws.{own_gathered, own_few, known_is}
+use Rattle.pauli.proofs.joined.JoinLaws.{own_few}
+use Rattle.pauli_group.proofs.group.GroupLaws.{own_gathered, known_is}
 use Rattle.centralizer.proofs.calls.CheckedLaws.{within_refused, within_called}
 use Rattle.centralizer.proofs.calls.centralizer_within.Goals as goal
 
@@ -15,7 +16,7 @@ returns-in_err-roll c =
 pub centralize-requires : goal.centralize-requires
 centralize-requires c =
     let b = c.in_ok-roll.roll.bytes.now in
-    let g = own_gathered b _ (rw (c.new-known.ensures, ← c.qubits.ensures.list) at c.gather.ensures) in
+    let g = own_gathered _ _ (rw (c.new-known.ensures, ← c.qubits.ensures.list) at c.gather.ensures) in
     known_is _ _ g (own_few b c.in_ok-roll.roll.count c.in_ok-roll.roll.accepted)
 
 pub returns : goal.returns

@@ -2,21 +2,22 @@ use Rattle.std.proofs.Common.{inl, inr, le_trans, arith}
 use Rattle.pauli_group.proofs.area.AreaLaws.{form_room_more}
 use Rattle.pauli_group.proofs.basis.BasisLaws.{stack_count, stack_first, stack_on, stack_rank, stack_zeros, dependencies_on, basis_count, basis_is}
 use Rattle.pauli_group.proofs.common.PartLaws.{lists_few}
+use Rattle.pauli_group.proofs.source.SourceLaws.{source_counted}
 use Rattle.pauli_group.proofs.basis.common_basis.Goals as goal
 
 pub overflow_add-n : goal.overflow_add-n
 overflow_add-n c =
-    let few = lists_few _ _ _ _ c.args.pair.left.accepted c.args.pair.right.accepted c.args.pair.few in
+    let few = lists_few _ _ _ _ (source_counted c.args.pair.left) (source_counted c.args.pair.right) c.args.pair.few in
     omega (arith, stack_count _ _ few _ _ _ c.stack_standard-stacked.ensures)
 
 pub at-both-requires : goal.at-both-requires
 at-both-requires c =
-    let few = lists_few _ _ _ _ c.args.pair.left.accepted c.args.pair.right.accepted c.args.pair.few in
+    let few = lists_few _ _ _ _ (source_counted c.args.pair.left) (source_counted c.args.pair.right) c.args.pair.few in
     omega (arith, stack_count _ _ few _ _ _ c.stack_standard-stacked.ensures)
 
 pub form_of-rank-requires : goal.form_of-rank-requires
 form_of-rank-requires c =
-    let few = lists_few _ _ _ _ c.args.pair.left.accepted c.args.pair.right.accepted c.args.pair.few in
+    let few = lists_few _ _ _ _ (source_counted c.args.pair.left) (source_counted c.args.pair.right) c.args.pair.few in
     let S = c.stack_standard-stacked.ensures in
     let both = c.at-both.ensures in
     let n = stack_count _ _ few _ _ _ S in
@@ -24,14 +25,14 @@ form_of-rank-requires c =
 
 pub overflow_sub-n : goal.overflow_sub-n
 overflow_sub-n c =
-    let few = lists_few _ _ _ _ c.args.pair.left.accepted c.args.pair.right.accepted c.args.pair.few in
+    let few = lists_few _ _ _ _ (source_counted c.args.pair.left) (source_counted c.args.pair.right) c.args.pair.few in
     let both = c.at-both.ensures in
     let F = rw (both.0, both.1) at c.form_of-rank.ensures in
     stack_rank _ _ few _ _ _ c.stack_standard-stacked.ensures _ c.requires.count _ F.rank _ F.form F.rest
 
 pub put_products-requires : goal.put_products-requires
 put_products-requires c =
-    let few = lists_few _ _ _ _ c.args.pair.left.accepted c.args.pair.right.accepted c.args.pair.few in
+    let few = lists_few _ _ _ _ (source_counted c.args.pair.left) (source_counted c.args.pair.right) c.args.pair.few in
     let S = c.stack_standard-stacked.ensures in
     let both = c.at-both.ensures in
     let F = rw (both.0, both.1) at c.form_of-rank.ensures in
@@ -44,7 +45,7 @@ put_products-requires c =
 
 pub form_of-count-requires : goal.form_of-count-requires
 form_of-count-requires c =
-    let few = lists_few _ _ _ _ c.args.pair.left.accepted c.args.pair.right.accepted c.args.pair.few in
+    let few = lists_few _ _ _ _ (source_counted c.args.pair.left) (source_counted c.args.pair.right) c.args.pair.few in
     let S = c.stack_standard-stacked.ensures in
     let both = c.at-both.ensures in
     let F = rw (both.0, both.1) at c.form_of-rank.ensures in
@@ -56,7 +57,7 @@ form_of-count-requires c =
 
 pub at-basis-requires : goal.at-basis-requires
 at-basis-requires c =
-    let few = lists_few _ _ _ _ c.args.pair.left.accepted c.args.pair.right.accepted c.args.pair.few in
+    let few = lists_few _ _ _ _ (source_counted c.args.pair.left) (source_counted c.args.pair.right) c.args.pair.few in
     let S = c.stack_standard-stacked.ensures in
     let both = c.at-both.ensures in
     let F = rw (both.0, both.1) at c.form_of-rank.ensures in
@@ -69,7 +70,7 @@ at-basis-requires c =
 
 pub put_products-requires-2 : goal.put_products-requires-2
 put_products-requires-2 c =
-    let few = lists_few _ _ _ _ c.args.pair.left.accepted c.args.pair.right.accepted c.args.pair.few in
+    let few = lists_few _ _ _ _ (source_counted c.args.pair.left) (source_counted c.args.pair.right) c.args.pair.few in
     let S = c.stack_standard-stacked.ensures in
     let both = c.at-both.ensures in
     let F = rw (both.0, both.1) at c.form_of-rank.ensures in
@@ -84,7 +85,7 @@ put_products-requires-2 c =
 
 pub returns : goal.returns
 returns c =
-    let few = lists_few _ _ _ _ c.args.pair.left.accepted c.args.pair.right.accepted c.args.pair.few in
+    let few = lists_few _ _ _ _ (source_counted c.args.pair.left) (source_counted c.args.pair.right) c.args.pair.few in
     let S = c.stack_standard-stacked.ensures in
     let both = c.at-both.ensures in
     let F = rw (both.0, both.1) at c.form_of-rank.ensures in

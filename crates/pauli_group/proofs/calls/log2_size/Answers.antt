@@ -5,6 +5,7 @@ use Rattle.pauli_group.specs.Promises.{promise_of}
 use Rattle.pauli_group.specs.Calls.{size_call}
 use Rattle.pauli_group.proofs.calls.CallLaws.{facts_none, facts_given, size_told}
 use Rattle.pauli_group.proofs.group.GroupedLaws.{list_rank}
+use Rattle.pauli_group.proofs.source.SourceLaws.{roll_counted}
 use Rattle.pauli_group.proofs.checks.OneList.{answers, refuses}
 use Rattle.pauli.proofs.refusal.HandedOn.{handed_on}
 use Rattle.pauli.specs.Refusals.{told_of}
@@ -15,7 +16,7 @@ overflow_add-result c =
     let promise = promise_of c.args.promise in
     let e = c.describe_list.ensures in
     let found = facts_given promise _ _ e.told _ c.in_ok-d.was in
-    omega (arith, found.facts.rank_is, list_rank _ _ found.given.count)
+    omega (arith, found.facts.rank_is, list_rank _ _ (roll_counted _ _ found.given.count))
 
 pub returns-in_err-d : goal.returns-in_err-d
 unfolding size_call

@@ -6,6 +6,7 @@ use Rattle.pauli_group.proofs.area.AreaLaws.{span_list}
 use Rattle.pauli_group.proofs.group.GroupedLaws.{group_on}
 use Rattle.pauli_group.proofs.member.FactorLaws.{places_known}
 use Rattle.pauli_group.proofs.calls.CallLaws.{group_written}
+use Rattle.pauli_group.proofs.source.SourceLaws.{roll_counted}
 use Rattle.pauli_group.proofs.calls.write_standard.Goals as goal
 
 pub write_roll-wrote-requires : goal.write_roll-wrote-requires
@@ -16,7 +17,7 @@ write_roll-wrote-requires c =
     let known = places_known g.ensures.group in (
       omega (arith, c.paulis.ensures.count, c.standards.ensures, few),
       rw (c.qubits.ensures.list, ← known) few.1,
-      rw (list, c.qubits.ensures.list, ← known) (group_on _ _ c.args.roll.accepted g.ensures.group),
+      rw (list, c.qubits.ensures.list, ← known) (group_on _ _ (roll_counted _ _ c.args.roll.accepted) g.ensures.group),
     )
 
 pub returns : goal.returns

@@ -1,9 +1,5 @@
-use Rattle.pauli.specs.Condense.{list_of}
-use Rattle.pauli_theory.specs.Group.{none}
-use Rattle.pauli_theory.specs.Order.{ranks_of}
-use Rattle.pauli_group.proofs.group.GroupLaws.{paulis_append}
 use Rattle.pauli_group.proofs.order.OrderLaws.{ranks_are, compared}
-use Rattle.std.proofs.Common.{ap, ◌∙◌}
+use Rattle.std.proofs.Common.{◌∙◌}
 use Rattle.pauli_group.proofs.order.order_of.Goals as goal
 
 pub returns : goal.returns
@@ -11,5 +7,4 @@ returns c =
     c.order_by.ensures
     ∙ compared _ _ _ _ _ _ _ (ranks_are _ _ _ c.describe-a.ensures _ _ c.ranks_of.ensures.0 c.ranks_of.ensures.1)
     (ranks_are _ _ _ c.describe-b.ensures _ _ c.ranks_of-2.ensures.0 c.ranks_of-2.ensures.1)
-    (ranks_are _ _ _ c.describe_two-both.ensures _ _ c.ranks_of-3.ensures.0 c.ranks_of-3.ensures.1
-    ∙ ap (ranks_of none) (paulis_append (list_of c.args.pair.left.bytes.now) (list_of c.args.pair.right.bytes.now)))
+    (ranks_are _ _ _ c.describe_two-both.ensures _ _ c.ranks_of-3.ensures.0 c.ranks_of-3.ensures.1)

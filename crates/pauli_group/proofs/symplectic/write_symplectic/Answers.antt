@@ -1,11 +1,11 @@
 -- The list is read over the places of its support, paired and written, and the area is cleared.
 use Rattle.std.proofs.Common.{ℕ, List, ap, ◌∙◌, arith}
-use Rattle.pauli.proofs.joined.JoinLaws.{accepted_few}
+use Rattle.pauli.proofs.joined.JoinLaws.{accepted_few, own_few}
 use Rattle.pauli.specs.Roll.{most_paulis}
 use Rattle.pauli.specs.Told.{answer}
 use Rattle.pauli.specs.Writing.{told_bytes, left_in}
 use Rattle.pauli_group.proofs.area.AreaLaws.{span_list}
-use Rattle.pauli_group.proofs.group.GroupLaws.{own_gathered, own_few, places_few, part_readable}
+use Rattle.pauli_group.proofs.group.GroupLaws.{own_gathered, places_few, part_readable}
 use Rattle.pauli_group.proofs.symplectic.PairLaws.{pairs_on, pairs_written}
 use Rattle.pauli_group.proofs.symplectic.write_symplectic.Goals as goal
 
@@ -13,7 +13,7 @@ pub read_list-requires : goal.read_list-requires
 unfolding most_paulis
 read_list-requires c =
     let roll = c.args.roll in
-    let g = own_gathered roll.bytes.now _ (rw (c.new-known.ensures, ← c.qubits-qubits.ensures.list) at c.gather.ensures) in
+    let g = own_gathered _ _ (rw (c.new-known.ensures, ← c.qubits-qubits.ensures.list) at c.gather.ensures) in
     let few = own_few roll.bytes.now roll.count roll.accepted in (
       part_readable _ _ g few roll.bytes.now roll.count roll.accepted (λ p m. m),
       places_few _ _ g few,
@@ -32,7 +32,7 @@ pub write_roll-wrote-requires : goal.write_roll-wrote-requires
 unfolding most_paulis
 write_roll-wrote-requires c =
     let roll = c.args.roll in
-    let g = own_gathered roll.bytes.now _ (rw (c.new-known.ensures, ← c.qubits-qubits.ensures.list) at c.gather.ensures) in
+    let g = own_gathered _ _ (rw (c.new-known.ensures, ← c.qubits-qubits.ensures.list) at c.gather.ensures) in
     let few = own_few roll.bytes.now roll.count roll.accepted in
     let list = span_list _ c.paulis.ensures.list c.at-paired.ensures in (
       omega (arith, accepted_few roll.bytes.now roll.count roll.accepted, c.paulis.ensures.count, c.at-paired.ensures),
@@ -44,7 +44,7 @@ pub returns : goal.returns
 returns c =
     let roll = c.args.roll in
     let out = c.args.out.now in
-    let g = own_gathered roll.bytes.now _ (rw (c.new-known.ensures, ← c.qubits-qubits.ensures.list) at c.gather.ensures) in
+    let g = own_gathered _ _ (rw (c.new-known.ensures, ← c.qubits-qubits.ensures.list) at c.gather.ensures) in
     let wrote = rw (span_list _ c.paulis.ensures.list c.at-paired.ensures) at c.write_roll-wrote.ensures in
     let same = pairs_written roll.bytes.now roll.count roll.accepted _ g _ c.read_list.ensures.list _ c.pair_up.ensures in record {
       told = wrote.told ∙ ap (λ (bs : List ℕ). told_bytes (answer bs) out) same;

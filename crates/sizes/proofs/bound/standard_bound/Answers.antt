@@ -3,7 +3,7 @@ use Rattle.std.proofs.Common.{sym, ap, ◌∙◌, arith}
 use Rattle.pauli.specs.Roll.{most_paulis}
 use Rattle.pauli.specs.Support.{most_qubits}
 use Rattle.pauli.proofs.joined.JoinLaws.{accepted_few}
-use Rattle.pauli_group.proofs.group.GroupLaws.{own_few}
+use Rattle.pauli.proofs.joined.JoinLaws.{own_few}
 use Rattle.sizes.proofs.bound.BoundLaws.{bound_refused, bound_told}
 use Rattle.pauli.specs.Refusals.{told_of}
 use Rattle.pauli.proofs.refusal.HandedOn.{handed_on}
