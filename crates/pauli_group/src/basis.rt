@@ -1,5 +1,5 @@
 // The common basis of two groups, up to exponents.
-ghost use Rattle.std.specs.Prelude.{◌≡◌, ◌+◌, ◌≤◌, length};
+ghost use Rattle.std.specs.Prelude.{◌≡◌, ◌+◌, ◌≤◌};
 ghost use Rattle.pauli.specs.Signed.{list_in};
 ghost use Rattle.pauli_group.specs.Inner.Area.{further_at};
 ghost use Rattle.pauli_group.specs.Inner.Sources.{listed};

@@ -1,5 +1,5 @@
 // The call for membership.
-ghost use Rattle.std.specs.Prelude.{◌≡◌, ◌<◌, length, slice_index_or};
+ghost use Rattle.std.specs.Prelude.{◌≡◌, ◌<◌, slice_index_or};
 ghost use Rattle.pauli.specs.Condense.{list_of, nothing};
 ghost use Rattle.pauli.specs.Sets.{pauli_of};
 ghost use Rattle.pauli_theory.specs.Membership.{factorization_of};

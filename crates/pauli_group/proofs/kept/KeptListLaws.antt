@@ -43,7 +43,8 @@ module _ (own : List ℕ) (words : List (List ℕ)) where
           let size : i < length (paulis_in words) = rw (length_paulis words) h in
           k.on q (subst (λ (p : Pauli). Mem p (paulis_in words)) (pauli_at words i [] h) (in_get_or (paulis_in words) i I size))
 
-      pub kept_loaded : (p : Held) → held p ≡ stored q → ((held p).x < 2 ^ length own) × ((held p).z < 2 ^ length own) × MovablePauli own qs (held p)
+      pub kept_loaded : (p : Held) → held p ≡ stored q
+          → ((held p).x < 2 ^ length own) × ((held p).z < 2 ^ length own) × MovablePauli own qs (held p)
       kept_loaded p e = loaded_movable p q (stored_value q e) own qs (length own) on (movable q.x, movable q.z)
 
       read_over : (d : Sparse) → over_places qs (get_or (spread own words) i d) ≡ normal (moved_pauli own qs q)

@@ -17,12 +17,13 @@ use Rattle.pauli_group.proofs.kept.KeptListLaws.{spread_length}
 module _ (ns known : List ℕ) (rises : Rising 0 known) where
   through : Inside (insert_all ns known) (insert_all (insert_all ns []) known)
   through q m =
-      let known' = insert_all (insert_all ns []) known in
-      ⊎_elim (λ i. insert_all_has (insert_all ns []) known q (insert_all_has ns [] q i)) (insert_all_keeps (insert_all ns []) known q) (in_insert_all ns known q m)
+      ⊎_elim (λ i. insert_all_has (insert_all ns []) known q (insert_all_has ns [] q i))
+      (insert_all_keeps (insert_all ns []) known q) (in_insert_all ns known q m)
 
   back : Inside (insert_all (insert_all ns []) known) (insert_all ns known)
   back q m =
-      ⊎_elim (λ i. ⊎_elim (insert_all_has ns known q) (λ j. elim j [ ]) (in_insert_all ns [] q i)) (insert_all_keeps ns known q) (in_insert_all (insert_all ns []) known q m)
+      ⊎_elim (λ i. ⊎_elim (insert_all_has ns known q) (λ j. elim j [ ]) (in_insert_all ns [] q i))
+      (insert_all_keeps ns known q) (in_insert_all (insert_all ns []) known q m)
 
   insert_rising : insert_all ns known ≡ insert_all (insert_all ns []) known
   insert_rising =
