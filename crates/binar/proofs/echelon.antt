@@ -15,3 +15,4 @@ pub mod Search
 pub mod RowByRow
 pub mod Others
 pub mod Passes
+pub mod Spread

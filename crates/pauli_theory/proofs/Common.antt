@@ -142,12 +142,12 @@ module _ (left right : Promise) (gs hs : List Pauli) (p : Pauli) where
       ]
 
 -- ---- the elements that are kept
-cons_some_count : (o : Option Pauli) (ps : List Pauli) → length (cons_some o ps) ≤ suc (length ps)
+pub cons_some_count : (o : Option Pauli) (ps : List Pauli) → length (cons_some o ps) ≤ suc (length ps)
 unfolding cons_some
 cons_some_count none ps = omega arith
 cons_some_count (some p) ps = omega arith
 
-cons_some_all : (Q : Pauli → Type 0) (o : Option Pauli) (ps : List Pauli) → ((p : Pauli) → o ≡ some p → Q p) → All Q ps → All Q (cons_some o ps)
+pub cons_some_all : (Q : Pauli → Type 0) (o : Option Pauli) (ps : List Pauli) → ((p : Pauli) → o ≡ some p → Q p) → All Q ps → All Q (cons_some o ps)
 unfolding cons_some
 cons_some_all Q none ps f h = h
 cons_some_all Q (some p) ps f h = (f p refl, h)
@@ -171,7 +171,7 @@ variant_on : (ks : List ℕ) (left right : Promise) (gs hs : List Pauli) (p q : 
 unfolding with_exponent
 variant_on ks left right gs hs p q on v = subst (PauliOn ks) v.equals (record { x = on.x; z = on.z })
 
-variant_low : (left right : Promise) (gs hs : List Pauli) (p q : Pauli) → Variant left right gs hs p q → q.e < 4
+pub variant_low : (left right : Promise) (gs hs : List Pauli) (p q : Pauli) → Variant left right gs hs p q → q.e < 4
 unfolding with_exponent
 variant_low left right gs hs p q v = omega (arith, v.low, ap (λ r. r.e) v.equals)
 
@@ -233,11 +233,11 @@ module _ (a b : ℕ) where
 
 -- ---- the common part, with any promises
 module _ (gs hs : List Pauli) (left right : Promise) where
-  phases_few : length (common_phases left right gs hs) ≤ 4
+  pub phases_few : length (common_phases left right gs hs) ≤ 4
   unfolding common_phases
   phases_few = phases_count _ _ 4 0
 
-  phases_all : (Q : Pauli → Type 0) → ((k : ℕ) → k < 4 → k % phase_step left gs ≡ 0 → k % phase_step right hs ≡ 0 → Q (phase k))
+  pub phases_all : (Q : Pauli → Type 0) → ((k : ℕ) → k < 4 → k % phase_step left gs ≡ 0 → k % phase_step right hs ≡ 0 → Q (phase k))
       → All Q (common_phases left right gs hs)
   unfolding common_phases
   phases_all Q f = phases_by _ _ Q 4 0 f

@@ -24,7 +24,7 @@ use Rattle.pauli_theory.proofs.ModuloPlaces.{joined, left_standard_on, moved_sta
 use Rattle.pauli_theory.proofs.CommonPlaces.{stacked}
 
 -- at most one standard generator has a zero row
-standard_fit : (gs : List Pauli) → length (standard gs) ≤ rank gs + 1
+pub standard_fit : (gs : List Pauli) → length (standard gs) ≤ rank gs + 1
 unfolding completed
 standard_fit gs =
     let B = basis gs in

@@ -162,21 +162,21 @@ module _ (left right : Promise) (gs hs : List Pauli) (hl : Honest left gs) (hr :
   lesser_whole no_order h p a b = part_whole h p a b
 
   module _ {X : Type 0} (x y z : X) where
-    lesser_first : (o : Order) → Outcome gs hs o → Inside gs hs → lesser o x y z ≡ x
+    pub lesser_first : (o : Order) → Outcome gs hs o → Inside gs hs → lesser o x y z ≡ x
     unfolding lesser
     lesser_first equal c f = refl
     lesser_first less c f = refl
     lesser_first greater c f = absurd (c.1 f)
     lesser_first no_order c f = absurd (c.0 f)
 
-    lesser_second : (o : Order) → Outcome gs hs o → Inside hs gs → (Inside gs hs → ⊥) → lesser o x y z ≡ y
+    pub lesser_second : (o : Order) → Outcome gs hs o → Inside hs gs → (Inside gs hs → ⊥) → lesser o x y z ≡ y
     unfolding lesser
     lesser_second equal c f n = absurd (n c.there)
     lesser_second less c f n = absurd (n c.0)
     lesser_second greater c f n = refl
     lesser_second no_order c f n = absurd (c.1 f)
 
-    lesser_neither : (o : Order) → Outcome gs hs o → (Inside gs hs → ⊥) → (Inside hs gs → ⊥) → lesser o x y z ≡ z
+    pub lesser_neither : (o : Order) → Outcome gs hs o → (Inside gs hs → ⊥) → (Inside hs gs → ⊥) → lesser o x y z ≡ z
     unfolding lesser
     lesser_neither equal c m n = absurd (m c.there)
     lesser_neither less c m n = absurd (m c.0)

@@ -59,11 +59,11 @@ module _ (qs : List ℕ) (rises : Rising 0 qs) where
   abbrev places : List Pauli → List Pauli
   places ps = map (condensed qs) ps
 
-  rows_of_places : (ps : List Pauli) → map (λ p. p.x + 2 ^ length qs * p.z) (places ps) ≡ map (row_of qs) ps
+  pub rows_of_places : (ps : List Pauli) → map (λ p. p.x + 2 ^ length qs * p.z) (places ps) ≡ map (row_of qs) ps
   unfolding row_of condensed
   rows_of_places ps = map-map (λ p. p.x + 2 ^ length qs * p.z) (condensed qs) ps
 
-  indexed_places : (s : ℕ) (ps : List Pauli) → All (PauliOn qs) ps → All (λ p. p.e < 4) ps
+  pub indexed_places : (s : ℕ) (ps : List Pauli) → All (PauliOn qs) ps → All (λ p. p.e < 4) ps
       → indexed_product s (places ps) ≡ condensed qs (indexed_product s ps)
   unfolding condensed
   indexed_places s ps on low =

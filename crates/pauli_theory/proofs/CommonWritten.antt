@@ -30,7 +30,7 @@ use Rattle.pauli_theory.proofs.CommonPlaces.{basis_places, places_basis}
 use Rattle.pauli_theory.proofs.CommonExponents.{Solved, basis_left, basis_right, phase_by_exponents}
 
 -- ---- elements with shared exponents, one after the other
-cons_some_append : (o : Option Pauli) (ps rs : List Pauli) → cons_some o (ps ++ rs) ≡ cons_some o ps ++ rs
+pub cons_some_append : (o : Option Pauli) (ps rs : List Pauli) → cons_some o (ps ++ rs) ≡ cons_some o ps ++ rs
 unfolding cons_some
 cons_some_append none ps rs = refl
 cons_some_append (some p) ps rs = refl
@@ -59,7 +59,7 @@ phases_next a b (suc n) e =
 
 -- ---- over places
 module _ (qs : List ℕ) where
-  condensed_phases : (a b n e : ℕ) → map (condensed qs) (phases_from a b n e) ≡ phases_from a b n e
+  pub condensed_phases : (a b n e : ℕ) → map (condensed qs) (phases_from a b n e) ≡ phases_from a b n e
   unfolding phases_from
   condensed_phases a b zero e = refl
   condensed_phases a b (suc n) e =
@@ -118,7 +118,7 @@ module _ (left right : Promise) (gs hs : List Pauli) where
   abbrev pub shared_at : Pauli → Option ℕ
   shared_at q = shared_exponent (phase_step left gs) (phase_step right hs) (exponent_in gs q) (exponent_in hs q)
 
-  exponent_at : (ks : List Pauli) (p : Pauli) → PauliOn (joined gs hs) p → (w : Solved ks p)
+  pub exponent_at : (ks : List Pauli) (p : Pauli) → PauliOn (joined gs hs) p → (w : Solved ks p)
       → exponent_in ks (condensed (joined gs hs) p) ≡ (indexed_product w.set ks).e
   exponent_at ks p on w =
       ap (solved_exponent (length (support_of ks)) (placed ks)) (moved_pauli_lem (joined gs hs) (support_rises (gs ++ hs)) (support_of ks) p on)

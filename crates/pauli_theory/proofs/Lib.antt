@@ -29,8 +29,10 @@ pub mod Symplectic
 pub mod CommonRows
 pub mod Common
 pub mod CommonPart
+pub mod WholeCommon
 pub mod Theorems
 pub mod Marked
+pub mod WholeMarked
 pub mod ByProducts
 pub mod Placed
 pub mod OverPlaces
@@ -52,3 +54,6 @@ pub mod CommonPlaces
 pub mod CommonExponents
 pub mod CommonWritten
 pub mod CommonCount
+pub mod WholeCommonLaw
+pub mod StandardPlaces
+pub mod WholePlaces

@@ -166,16 +166,16 @@ module _ (gs : List Pauli) where
 
 -- ---- standard generators
 -- the modulus, the row generators and the standard generators that the rank and the products of T's rows make
-modulus_from : ℕ → List Pauli → ℕ
+unfoldable pub modulus_from : ℕ → List Pauli → ℕ
 modulus_from r P = modulus_of (map (λ p. p.e) (drop r P))
 
-generators_from : ℕ → List Pauli → List Pauli
+unfoldable pub generators_from : ℕ → List Pauli → List Pauli
 generators_from r P = map (exponent_mod (modulus_from r P)) (take r P)
 
-standard_from : ℕ → List Pauli → List Pauli
+unfoldable pub standard_from : ℕ → List Pauli → List Pauli
 standard_from r P = standard_of (sign_test (generators_from r P)) (modulus_from r P) (generators_from r P)
 
-standard_from_lem : (gs : List Pauli) → standard gs ≡ standard_from (rank gs) (row_products gs)
+pub standard_from_lem : (gs : List Pauli) → standard gs ≡ standard_from (rank gs) (row_products gs)
 unfolding standard_from generators_from modulus_from sign_test
 standard_from_lem gs = standard_by_products gs
 
@@ -197,7 +197,7 @@ module _ (qs : List ℕ) (r : ℕ) (P : List Pauli) where
         all_over (PauliOn qs) (exponent_mod (modulus_from r P)) (take r P)
         (all_map (λ p a. record { x = a.x; z = a.z }) (take r P) (all_left (PauliOn qs) (take r P) (drop r P) (rw take-append-drop on)))
 
-    standard_condensed : standard_from r (map (condensed qs) P) ≡ map (condensed qs) (standard_from r P)
+    pub standard_condensed : standard_from r (map (condensed qs) P) ≡ map (condensed qs) (standard_from r P)
     unfolding standard_from
     standard_condensed =
         let ps = generators_from r P in
@@ -215,7 +215,7 @@ module _ (gs : List Pauli) where
       (all_of (λ q. condensed_indexed qs (support_rises gs) q.t gs (support_on gs)) rows)
       ∙ sym (map-map (condensed qs) (λ q. indexed_product q.t gs) rows)
 
-  products_on : All (PauliOn (support_of gs)) (row_products gs)
+  pub products_on : All (PauliOn (support_of gs)) (row_products gs)
   products_on =
       let rows = (form_of gs).rows in
       all_over (PauliOn (support_of gs)) (λ q. indexed_product q.t gs) rows (all_of (λ q. indexed_on gs q.t) rows)

@@ -1,2 +1,3 @@
 pub mod ModuloPlaces
 pub mod CommonPlaces
+pub mod WholePlaces

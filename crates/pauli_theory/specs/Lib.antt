@@ -5,10 +5,12 @@ pub mod Membership
 pub mod Order
 pub mod Modulo
 pub mod Common
+pub mod WholeCommon
 pub mod Inner
 pub mod Symplectic
 pub mod Centralizer
 pub mod Theorems
+pub mod WholeCommonTheorems
 pub mod ListingTheorems
 pub mod CentralizerTheorems
 pub mod Marked
