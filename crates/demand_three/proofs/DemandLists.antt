@@ -1,24 +1,22 @@
 -- Indexes in an output, index sets and the generators that they name; and lists whose exponents are taken by value.
 use mathlib.Core.Path.{◌≡◌, refl, ap, ◌∙◌}
 use mathlib.Core.List.{List, [], ◌∷◌, ◌++◌, map}
-use Prim.Native.Nat.{ℕ, zero, suc, ◌+◌, ◌*◌, ◌/◌, ◌%◌, ◌^◌, ◌<◌}
+use Prim.Native.Nat.{ℕ, zero, suc, ◌+◌, ◌*◌, ◌^◌, ◌<◌}
 use native.Mathlib.Omega.{arith}
 use lib.ListN.{length, get_or, drop, length-map, get_or-map}
 use lib.Seq.{ext_get_or}
-use Rattle.binar.proofs.Lists.{all_map, all_over, all_under}
 use Rattle.pauli.specs.Bytes.{u16_at, le16}
-use Rattle.pauli.specs.Pauli.{Pauli, I, normal, cons_if, select}
+use Rattle.pauli.specs.Pauli.{Pauli, I, normal, select}
 use Rattle.pauli.specs.Roll.{Sparse, by_value}
 use Rattle.pauli.specs.Support.{All}
 use Rattle.pauli.specs.Sets.{members}
 use Rattle.pauli.proofs.roll.BytesLaws.{length_le16, u16_read}
 use Rattle.pauli.proofs.roll.Items.{items_at, items_bytes, length_items_at, length_items_bytes, items_read}
 use Rattle.pauli.proofs.join.ReadBack.{paulis_by_value as lists_by_value}
-use Rattle.pauli_theory.specs.Group.{Generated, Inside, SameGroup}
-use Rattle.pauli_theory.proofs.Agree.{four, agree_normal, agree_flip}
-use Rattle.pauli_theory.proofs.Group.{generated_subgroup, generators, inside_by}
+use Rattle.pauli_theory.specs.Group.{SameGroup}
 use Rattle.pauli_theory.proofs.IndexSets.{members_up_to}
 use Rattle.pauli_theory.proofs.OverPlaces.{up_to, up_to_length, up_to_at}
+use Rattle.pauli_theory.proofs.ByValue.{map_select, normal_inside, inside_normal}
 use Rattle.pauli_group.specs.Calls.{paulis, le16s}
 use Rattle.demand_three.specs.DemandThree.{indexes_at}
 
@@ -49,17 +47,6 @@ indexes_read b i ns rest low h =
 
 -- ---- index sets
 
-module _ {A B : Type 0} (f : A → B) where
-  map_cons_if : (d : ℕ) (x : A) (xs : List A) → map f (cons_if d x xs) ≡ cons_if d (f x) (map f xs)
-  unfolding cons_if
-  map_cons_if zero x xs = refl
-  map_cons_if (suc d) x xs = refl
-
-  map_select : (s : ℕ) (xs : List A) → map f (select s xs) ≡ select s (map f xs)
-  unfolding select
-  map_select s [] = refl
-  map_select s (x ∷ xs) = map_cons_if (s % 2) x (select (s / 2) xs) ∙ ap (cons_if (s % 2) (f x)) (map_select (s / 2) xs)
-
 -- below the length the default does not matter
 pub get_or_any : {A : Type 0} (l : List A) (i : ℕ) (d e : A) → i < length l → get_or l i d ≡ get_or l i e
 get_or_any [] i d e h = absurd (omega arith)
@@ -87,19 +74,6 @@ module _ (gs : List Pauli) where
 paulis_by_value : (ps : List Sparse) → paulis (map by_value ps) ≡ map normal (paulis ps)
 unfolding paulis
 paulis_by_value ps = lists_by_value ps
-
-normal_inside : (gs : List Pauli) → Inside (map normal gs) gs
-normal_inside gs =
-    inside_by (map normal gs) gs
-    (all_over (Generated gs) normal gs
-    (all_map (λ p a. (generated_subgroup gs).agrees p (normal p) (agree_flip (agree_normal p four)) a) gs (generators gs)))
-
-inside_normal : (gs : List Pauli) → Inside gs (map normal gs)
-inside_normal gs =
-    let hs = map normal gs in
-    inside_by gs hs
-    (all_map (λ p a. (generated_subgroup hs).agrees (normal p) p (agree_normal p four) a) gs
-    (all_under (Generated hs) normal gs (generators hs)))
 
 pub by_value_group : (ps : List Sparse) → SameGroup (paulis ps) (paulis (map by_value ps))
 by_value_group ps = rw paulis_by_value (record { there = inside_normal (paulis ps); back = normal_inside (paulis ps) })

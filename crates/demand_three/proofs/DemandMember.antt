@@ -24,7 +24,7 @@ use Rattle.pauli_group.specs.WorkArea.{enough, area_after}
 use Rattle.pauli_group.specs.Calls.{paulis, question, factorization_call, index_bytes, Factored, factored, told_member, member_left}
 use Rattle.pauli_group.proofs.factorization.QuestionLaws.{indexes_below}
 use Rattle.demand_three.specs.DemandThree.{Generators, list, Element, pauli, Asked, Member, indexes_at, Gives, if_area, if_room, bytes_of}
-use Rattle.demand_three.proofs.ReadBack.{read_few}
+use Rattle.pauli_group.proofs.calls.ReadBackLaws.{read_few}
 use Rattle.demand_three.proofs.DemandLists.{length_le16s, indexes_read, named_select}
 use Rattle.pauli_group.specs.declared.answers.Factors.{Factors}
 use Rattle.pauli.specs.declared.refusal.Refusal.{Refusal}

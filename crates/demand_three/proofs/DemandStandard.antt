@@ -1,21 +1,19 @@
 -- Standard generators, by what their calls promise: their roll holds them, so it is the same exactly for the same group.
 use mathlib.Core.Path.{◌≡◌, refl, sym, ap, ◌∙◌}
 use mathlib.Core.Bool.{Bool, true, false}
-use mathlib.Core.List.{List, map, map-id}
+use mathlib.Core.List.{List, map}
 use Prim.Native.Nat.{ℕ}
 use lib.Dec.{ltb}
 use lib.ListN.{length, take}
-use Rattle.binar.proofs.Lists.{all_map, map_same}
 use Rattle.pauli.specs.Sets.{pauli_of, sparse_of}
-use Rattle.pauli.specs.Pauli.{Pauli, normal}
 use Rattle.pauli.specs.Roll.{Sparse, write}
 use Rattle.pauli.specs.Told.{answer, refuse_if, and_then, map_told}
 use Rattle.pauli.specs.Writing.{told_bytes}
-use Rattle.pauli.proofs.signed.Algebra.{normal_lt}
 use Rattle.pauli.proofs.join.ReadBack.{told_bytes_lem}
 use Rattle.pauli.proofs.roll.Told.{test_passed, map_test}
 use Rattle.pauli_theory.specs.Group.{SameGroup}
 use Rattle.pauli_theory.specs.Standard.{standard}
+use Rattle.pauli_theory.proofs.ByValue.{standard_values}
 use Rattle.pauli_theory.proofs.Theorems.{group_laws}
 use Rattle.pauli_group.specs.WorkArea.{enough}
 use Rattle.pauli_group.specs.Calls.{one_list, standard_bytes, standard_generators}
@@ -26,12 +24,6 @@ use Rattle.pauli.specs.Refusals.{told_of}
 -- the standard generators as the roll holds them
 abbrev roll_of : Generators → List Sparse
 roll_of A = map sparse_of (standard (list A))
-
--- they are values
-standard_values : (gs : List Pauli) → map normal (standard gs) ≡ standard gs
-standard_values gs =
-    let ps = standard gs in
-    map_same normal (λ p. p) ps (all_map normal_lt ps (group_laws.standard_law gs).values) ∙ map-id ps
 
 -- ---- the calls
 

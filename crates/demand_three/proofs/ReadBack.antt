@@ -2,37 +2,31 @@
 use mathlib.Core.Path.{◌≡◌, refl, sym, ap, ◌∙◌, subst}
 use mathlib.Core.List.{List, ◌++◌, map}
 use mathlib.Core.Option.{Option, some, none}
-use Prim.Native.Nat.{ℕ, ◌+◌, ◌≤◌}
+use Prim.Native.Nat.{ℕ, ◌+◌}
 use native.Mathlib.Omega.{arith}
-use borrow.Author.Tests.{ltb-false}
-use lib.ListN.{length, take, drop, length-map}
+use lib.ListN.{length, take, drop}
 use Rattle.binar.proofs.Lists.{all_left, all_right}
-use Rattle.pauli.specs.JoinCalls.{read_both, few_qubits}
 use Rattle.pauli.specs.Told.{answer, and_then, map_told}
-use Rattle.pauli.specs.Roll.{most_paulis, Sparse, support, read, write}
-use Rattle.pauli.specs.Support.{most_qubits, All}
+use Rattle.pauli.specs.Roll.{most_paulis, Sparse, read, write}
+use Rattle.pauli.specs.Support.{All}
 use Rattle.pauli.specs.Pauli.{Pauli}
 use Rattle.pauli.specs.PauliTheorems.{PauliOn}
-use Rattle.pauli.specs.Sets.{pauli_of, sparse_of}
+use Rattle.pauli.specs.Sets.{sparse_of}
 use Rattle.pauli.specs.ReadBack.{Holds}
-use Rattle.pauli.proofs.join.ReadBack.{Qubits, read_qubits, joined_qubits, written_holds, told_bytes_lem, call_holds, joining_read_back, product_read_back}
-use Rattle.pauli.proofs.roll.RollLaws.{answer_parts, parts_count}
+use Rattle.pauli.proofs.join.ReadBack.{told_bytes_lem, call_holds, joining_read_back, product_read_back}
 use Rattle.pauli.proofs.roll.Told.{refused_none, test_passed, answered, map_answer}
 use Rattle.pauli_theory.specs.Group.{Promise}
 use Rattle.pauli_theory.specs.Standard.{support_of, standard}
 use Rattle.pauli_theory.specs.Listing.{largest_page, page_size, elements_of, page}
 use Rattle.pauli_theory.specs.Symplectic.{symplectic_form}
-use Rattle.pauli_theory.specs.Order.{Order, equal, less, greater, no_order, partial_cmp}
-use Rattle.pauli_theory.specs.Modulo.{if_below, modulo, try_quotient}
+use Rattle.pauli_theory.specs.Modulo.{modulo, try_quotient}
 use Rattle.pauli_theory.specs.Common.{bitand}
 use Rattle.pauli_theory.proofs.ListingTheorems.{listing_laws}
-use Rattle.pauli_theory.proofs.ModuloPlaces.{modulo_on, modulo_count}
 use Rattle.pauli_theory.proofs.Theorems.{group_laws}
-use Rattle.pauli_theory.proofs.Written.{support_of_lem}
 use Rattle.pauli_group.specs.WorkArea.{enough}
 use Rattle.pauli_group.specs.Calls.{paulis, one_list, standard_bytes, standard_generators, symplectic_bytes, symplectic_call, page_bytes, elements_call, Pair, two_lists, modulo_bytes, modulo_call, quotient_bytes, quotient_call, common_bytes, common_call}
 use Rattle.pauli_group.specs.CallContracts.{QuotientCall}
-use Rattle.pauli_group.proofs.group.GroupLaws.{paulis_append}
+use Rattle.pauli_group.proofs.calls.ReadBackLaws.{read_few, list_holds, both_are, quotient_holds, modulo_holds, common_holds}
 use Rattle.demand_three.specs.ReadBack.{ReadBack}
 use Rattle.pauli.specs.declared.refusal.Refusal.{Refusal}
 use Rattle.std.proofs.Common.{Result}
@@ -41,20 +35,6 @@ use Rattle.pauli.specs.Refusals.{told_of}
 -- ---- calls on one list
 
 module _ (b : List ℕ) (ps : List Sparse) (e : read b ≡ answer ps) where
-  pub read_few : length (paulis ps) ≤ most_paulis
-  unfolding paulis
-  read_few =
-      let p = answer_parts b ps e in
-      omega (arith, p.few, parts_count b _ _ ps p, length-map ps pauli_of)
-
-  list_qubits : Qubits (support_of (paulis ps))
-  unfolding paulis
-  list_qubits = subst Qubits (support_of_lem ps) (read_qubits b ps e)
-
-  -- a result on the list's qubits
-  pub list_holds : (rs : List Pauli) → All (PauliOn (support_of (paulis ps))) rs → length rs ≤ most_paulis → Holds (write (map sparse_of rs)) rs
-  list_holds = written_holds (support_of (paulis ps)) list_qubits
-
   one_is : (words : ℕ) (hs : List Pauli) → one_list b words ≡ answer hs → hs ≡ paulis ps
   unfolding one_list and_then enough
   one_is words hs s = let (area, same) = test_passed _ 9 0 _ hs (rw e at s) in cc
@@ -70,12 +50,12 @@ module _ (b : List ℕ) (ps : List Sparse) (e : read b ≡ answer ps) where
   unfolding most_paulis
   standard_holds =
       let law = group_laws.standard_law (paulis ps) in
-      list_holds (standard (paulis ps)) law.on_support (omega (arith, law.count, read_few))
+      list_holds b ps e (standard (paulis ps)) law.on_support (omega (arith, law.count, read_few b ps e))
 
   symplectic_holds : Holds (write (map sparse_of (symplectic_form (paulis ps)))) (symplectic_form (paulis ps))
   symplectic_holds =
       let law = group_laws.symplectic_law (paulis ps) in
-      list_holds (symplectic_form (paulis ps)) law.on_support (omega (arith, law.count, read_few))
+      list_holds b ps e (symplectic_form (paulis ps)) law.on_support (omega (arith, law.count, read_few b ps e))
 
   module _ (promise : Promise) (start count : ℕ) where
     abbrev es : List Pauli
@@ -86,7 +66,7 @@ module _ (b : List ℕ) (ps : List Sparse) (e : read b ≡ answer ps) where
     page_holds =
         let law = listing_laws.page_law start count es in
         let on = subst (All (PauliOn (support_of (paulis ps)))) law.parts (listing_laws.elements_law promise (paulis ps)).on_support in
-        list_holds (page start count es)
+        list_holds b ps e (page start count es)
         (all_left (PauliOn (support_of (paulis ps))) (page start count es) (drop (start + page_size count) es)
         (all_right (PauliOn (support_of (paulis ps))) (take start es) (page start count es ++ drop (start + page_size count) es) on))
         (omega (arith, law.size, law.limit))
@@ -101,57 +81,6 @@ module _ (b : List ℕ) (ps : List Sparse) (e : read b ≡ answer ps) where
         subst (λ (c : List ℕ). Holds c (page start count es)) (ap (λ (ks : List Pauli). write (map sparse_of (page start count (elements_of promise ks)))) (sym same) ∙ bytes) page_holds
 
 -- ---- calls on two lists
-
--- what is known of the lists of two rolls where two_lists answers
-record Both (ps qs : List Sparse) (given : Pair) : Type 0 where
-  is : given ≡ record { left = paulis ps; right = paulis qs }
-  few : length ps + length qs ≤ most_paulis
-  qubits : length (support (ps ++ qs)) ≤ most_qubits
-
-module _ (l r : List ℕ) (ps qs : List Sparse) (el : read l ≡ answer ps) (er : read r ≡ answer qs) where
-  both_are : (words : ℕ) (given : Pair) → two_lists l r words ≡ answer given → Both ps qs given
-  unfolding two_lists read_both and_then few_qubits enough
-  both_are words given s =
-      let (few, s₁) = test_passed _ 2 0 _ given (rw (el, er) at s) in
-      let (qubits, s₂) = test_passed _ 7 0 _ given s₁ in
-      let (area, s₃) = test_passed _ 9 0 _ given s₂ in
-      record {
-        is = cc;
-        few = ltb-false most_paulis (length ps + length qs) few;
-        qubits = ltb-false most_qubits (length (support (ps ++ qs))) qubits;
-      }
-
-  module _ {given : Pair} (B : Both ps qs given) where
-    -- a result on the qubits of both lists
-    both_holds : (rs : List Pauli) → All (PauliOn (support_of (paulis ps ++ paulis qs))) rs → length rs ≤ most_paulis → Holds (write (map sparse_of rs)) rs
-    unfolding paulis
-    both_holds =
-        written_holds (support_of (paulis ps ++ paulis qs))
-        (subst Qubits (support_of_lem (ps ++ qs) ∙ ap support_of (paulis_append ps qs)) (joined_qubits l r ps qs el er B.qubits))
-
-    modulo_few : (right : Promise) → length (modulo right (paulis ps) (paulis qs)) ≤ most_paulis
-    unfolding most_paulis
-    modulo_few right = omega (arith, modulo_count (paulis ps) (paulis qs) right, (group_laws.standard_law (paulis ps)).count, read_few l ps el)
-
-    modulo_holds : (right : Promise) → Holds (write (map sparse_of (modulo right given.left given.right))) (modulo right (paulis ps) (paulis qs))
-    modulo_holds right = rw B.is (both_holds (modulo right (paulis ps) (paulis qs)) (modulo_on (paulis ps) (paulis qs) right) (modulo_few right))
-
-    common_holds : (left right : Promise)
-        → Holds (write (map sparse_of (bitand left right given.left given.right))) (bitand left right (paulis ps) (paulis qs))
-    unfolding paulis
-    common_holds left right =
-        let law = group_laws.common_basis_law (paulis ps) (paulis qs) in
-        rw B.is
-        (both_holds (bitand left right (paulis ps) (paulis qs)) (law.result_on left right)
-        (law.result_count left right (omega (arith, B.few, length-map ps pauli_of, length-map qs pauli_of))))
-
--- a quotient is the list modulo the divisor
-below_some : {X : Type 0} (o : Order) (x y : X) → if_below o x ≡ some y → x ≡ y
-unfolding if_below
-below_some equal x y e = cc
-below_some less x y e = cc
-below_some greater x y e = let z : ◌≡◌ {A = ℕ} 0 1 = cc in absurd (omega arith)
-below_some no_order x y e = let z : ◌≡◌ {A = ℕ} 0 1 = cc in absurd (omega arith)
 
 quotient_bytes_lem : (o : Option (List Pauli)) (bs : List ℕ) → quotient_bytes o ≡ answer bs → (rs : List Pauli) × (o ≡ some rs) × (write (map sparse_of rs) ≡ bs)
 unfolding quotient_bytes
@@ -169,13 +98,10 @@ quotient_back left right l r work out wrote work' out' ps qs c el er n t =
     let (given, two, next) = answered (two_lists l r (length work)) _ bs s in
     let B = both_are l r ps qs el er (length work) given two in
     let (rs, divided, made) = quotient_bytes_lem (try_quotient left right given.left given.right) bs next in
-    let same : try_quotient left right (paulis ps) (paulis qs) ≡ some rs = ap (λ (b : Pair). try_quotient left right b.left b.right) (sym B.is) ∙ divided in
-    let rest : modulo right (paulis ps) (paulis qs) ≡ rs = below_some (partial_cmp right left (paulis qs) (paulis ps)) (modulo right (paulis ps) (paulis qs)) rs same in (
+    let same : try_quotient left right (paulis ps) (paulis qs) ≡ some rs = ap (λ (b : Pair). try_quotient left right b.left b.right) (sym B.is) ∙ divided in (
       rs,
       same,
-      subst (λ (b : List ℕ). Holds b rs) (sym (ap (take n) c.written ∙ front ∙ sym made))
-          (subst (λ (us : List Pauli). Holds (write (map sparse_of us)) us) rest
-          (both_holds l r ps qs el er B (modulo right (paulis ps) (paulis qs)) (modulo_on (paulis ps) (paulis qs) right) (modulo_few l r ps qs el er B right))),
+      subst (λ (b : List ℕ). Holds b rs) (sym (ap (take n) c.written ∙ front ∙ sym made)) (quotient_holds l r ps qs el er B.fit left right rs same),
     )
 
 pub read_back : ReadBack
@@ -193,14 +119,16 @@ read_back = record {
   modulo = λ right l r work out wrote work' out' ps qs c el er n t.
       call_holds (modulo_call right l r (length work)) out wrote out' n c.told c.written t (modulo right (paulis ps) (paulis qs)) λ bs s.
       let (given, two, made) = map_answer (modulo_bytes right) (two_lists l r (length work)) bs s in
-      subst (λ (b : List ℕ). Holds b (modulo right (paulis ps) (paulis qs))) made
-      (modulo_holds l r ps qs el er (both_are l r ps qs el er (length work) given two) right);
+      let B = both_are l r ps qs el er (length work) given two in
+      subst (λ (b : List ℕ). Holds b (modulo right (paulis ps) (paulis qs))) (ap (modulo_bytes right) (sym B.is) ∙ made)
+      (modulo_holds l r ps qs el er B.fit right);
   try_quotient = quotient_back;
   bitand = λ left right l r work out wrote work' out' ps qs c el er n t.
       call_holds (common_call left right l r (length work)) out wrote out' n c.told c.written t (bitand left right (paulis ps) (paulis qs)) λ bs s.
       let (given, two, made) = map_answer (common_bytes left right) (two_lists l r (length work)) bs s in
-      subst (λ (b : List ℕ). Holds b (bitand left right (paulis ps) (paulis qs))) made
-      (common_holds l r ps qs el er (both_are l r ps qs el er (length work) given two) left right);
+      let B = both_are l r ps qs el er (length work) given two in
+      subst (λ (b : List ℕ). Holds b (bitand left right (paulis ps) (paulis qs))) (ap (common_bytes left right) (sym B.is) ∙ made)
+      (common_holds l r ps qs el er B.fit left right);
   joining = joining_read_back;
   product = product_read_back;
 }

@@ -1,1 +1,2 @@
 pub mod FurtherLaws
+pub mod ReadLaws

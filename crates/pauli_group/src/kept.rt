@@ -8,8 +8,7 @@ ghost use Rattle.pauli_group.specs.Inner.Kept.{spread, KeptOver};
 ghost use Rattle.pauli_group.specs.Inner.Lists.{over_places};
 
 use crate::area::WORK_WORDS;
-use crate::moved::move_pauli;
-use pauli::signed::{Pauli, store};
+use crate::moved::move_words;
 
 // A list kept in words, five for each Pauli, over the places of the qubits that it uses.
 #[derive(Clone, Copy)]
@@ -21,15 +20,11 @@ pub struct KeptList<'a> {
 
 impl<'a> KeptList<'a> {
     // Reads its Paulis, over the places of a support that has its qubits, to the words from word base on.
-    // A loop of its own: one over a closure would tell what the closure's relation says, to be turned back into this equation.
     pub(crate) fn read(self, support: &[u32], w: &mut [u64; WORK_WORDS], base: usize)
         requires { Rising 0 support.now × ((q : ℕ) → Mem q self.qubits.now → Mem q support.now) × (length support.now ≤ 128) × (base + 5 * length self.paulis.now ≤ 4096) }
         ensures list { list_in w.new base (length self.entry.paulis.now) ≡ map (over_places support.now) (spread self.entry.qubits.now self.entry.paulis.now) }
         ensures rest { Outside base (5 * length self.entry.paulis.now) w.old w.new }
     {
-        for i in 0..self.paulis.len() {
-            let p = Pauli::from_words(&self.paulis[i]);
-            store(w, base + 5 * i, move_pauli(p, self.qubits, support));
-        }
+        move_words(self.paulis, self.qubits, support, w, base);
     }
 }

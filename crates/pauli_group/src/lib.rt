@@ -40,8 +40,8 @@ pub mod symplectic;
 pub mod order;
 // Paulis moved from the places of one support to those of another.
 pub mod moved;
-// The further list, written.
-pub(crate) mod further;
+// The further list.
+pub mod further;
 // The call for the remainder of a list by another.
 pub mod modulo;
 // The call for the quotient of a list by another.

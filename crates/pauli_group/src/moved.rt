@@ -2,7 +2,7 @@
 // made at each call, of supports that are owned elsewhere, and what must hold of them (MovablePauli) speaks of the Pauli too.
 ghost use Rattle.std.specs.Prelude.{◌≡◌, ◌+◌, ◌*◌, ◌^◌, ◌<◌, ◌≤◌, map, length};
 ghost use Rattle.pauli.specs.Pauli.{normal};
-ghost use Rattle.pauli.specs.Signed.{held, list_in};
+ghost use Rattle.pauli.specs.Signed.{held, list_in, paulis_in};
 ghost use Rattle.pauli.specs.PlaceSet.{set_in};
 ghost use Rattle.pauli.specs.Writing.{OnPlaces};
 ghost use Rattle.pauli.specs.Support.{All};
@@ -40,6 +40,19 @@ pub fn move_pauli(p: Pauli, own: &[u32], joint: &[u32]) -> Pauli
         exponent: p.exponent,
         x: move_set(p.x, own, joint),
         z: move_set(p.z, own, joint),
+    }
+}
+
+// The Paulis of a list in words, moved to the words of w from word base on.
+// A loop of its own: one over a closure would tell what the closure's relation says, to be turned back into this equation.
+pub fn move_words(list: &[[u64; 5]], own: &[u32], joint: &[u32], w: &mut [u64], base: usize)
+    requires { (length joint.now ≤ 128) × (base + 5 * length list.now ≤ length w.old) × OnPlaces (length own.now) (paulis_in list.now) × All (MovablePauli own.now joint.now) (paulis_in list.now) }
+    ensures list { list_in w.new base (length list.now) ≡ map (λ p. normal (moved_pauli own.now joint.now p)) (paulis_in list.now) }
+    ensures rest { Outside base (5 * length list.now) w.old w.new }
+{
+    for i in 0..list.len() {
+        let p = Pauli::from_words(&list[i]);
+        store(w, base + 5 * i, move_pauli(p, own, joint));
     }
 }
 

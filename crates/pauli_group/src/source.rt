@@ -1,19 +1,22 @@
 // Where a list of Paulis comes from: a roll, or words that keep it.
-ghost use Rattle.std.specs.Prelude.{◌≡◌, ◌+◌, ◌*◌, ◌≤◌, ◌++◌, map, length};
+ghost use Rattle.std.specs.Prelude.{◌≡◌, ℕ, ◌+◌, ◌*◌, ◌≤◌, ◌++◌, map, length, IfOk};
 ghost use Rattle.pauli.specs.Known.{Gathered};
+ghost use Rattle.pauli.specs.Refusals.{told_by};
 ghost use Rattle.pauli.specs.Roll.{numbers, support};
 ghost use Rattle.pauli.specs.Signed.{list_in};
 ghost use Rattle.pauli.specs.Support.{most_qubits, insert_all};
+ghost use Rattle.pauli.specs.Told.{answer};
 ghost use Rattle.pauli_group.specs.Inner.Area.{Outside};
 ghost use Rattle.pauli_group.specs.Inner.Lists.{over_places};
-ghost use Rattle.pauli_group.specs.Inner.Sources.{sparse_in, counted, PlacedIn};
+ghost use Rattle.pauli_group.specs.Inner.Sources.{sparse_in, listed, counted, joinable, PlacedIn};
 ghost use Rattle.pauli_group.specs.declared.source.Source.TheVariants.{Rolled};
 
 use crate::area::WORK_WORDS;
 use crate::kept::KeptList;
 use crate::list::read_list;
 use pauli::joined::Pair;
-use pauli::roll::Roll;
+use pauli::refusal::{Reason, Refusal};
+use pauli::roll::{MOST_PAULIS, Roll};
 use pauli::support::Support;
 
 // Where a list comes from.
@@ -57,6 +60,16 @@ impl<'a> Source<'a> {
     }
 }
 
+// Gathers the support of two lists joined.
+fn joint_support(left: Source, right: Source) -> Support
+    ensures { Gathered (support (sparse_in left.entry ++ sparse_in right.entry)) result }
+{
+    let mut known = Support::new();
+    left.gather(&mut known);
+    right.gather(&mut known);
+    known
+}
+
 // Two lists that can be joined.
 #[derive(Clone, Copy)]
 pub struct SourcePair<'a> {
@@ -77,13 +90,24 @@ impl<'a> SourcePair<'a> {
         }
     }
 
+    // Checks the limits of the joined list.
+    pub fn checked(left: Source<'a>, right: Source<'a>) -> Result<SourcePair<'a>, Refusal>
+        ensures told { told_by {B = ℕ} (λ pair. 0) result ≡ joinable (listed left.entry) (listed right.entry) (answer 0) }
+        ensures sources { IfOk result (λ pair. (pair.left ≡ left.entry) × (pair.right ≡ right.entry)) }
+    {
+        if left.count() + right.count() > MOST_PAULIS {
+            return Err(Reason::Paulis.into());
+        }
+        if joint_support(left, right).is_past_limit() {
+            return Err(Reason::Qubits.into());
+        }
+        Ok(SourcePair { left, right })
+    }
+
     // Gathers the support of the joined list.
     pub fn support(self) -> Support
         ensures { Gathered (support (sparse_in self.entry.left ++ sparse_in self.entry.right)) result }
     {
-        let mut known = Support::new();
-        self.left.gather(&mut known);
-        self.right.gather(&mut known);
-        known
+        joint_support(self.left, self.right)
     }
 }

@@ -57,3 +57,4 @@ pub mod CommonCount
 pub mod WholeCommonLaw
 pub mod StandardPlaces
 pub mod WholePlaces
+pub mod ByValue

@@ -140,7 +140,7 @@ select_first s (x ∷ xs) ys h =
     ap (cons_if (s % 2) x) (select_first (s / 2) xs ys (omega (arith, pow-suc 2 (length xs))))
 
 -- ---- any promise
-step_divisor : (promise : Promise) (gs : List Pauli) → Divisor (phase_step promise gs)
+pub step_divisor : (promise : Promise) (gs : List Pauli) → Divisor (phase_step promise gs)
 step_divisor = phases_cases (λ ks s. Divisor s) four two one
 
 phases_multiples : (promise : Promise) (gs : List Pauli) → phases_of promise gs ≡ multiples (phase_step promise gs)

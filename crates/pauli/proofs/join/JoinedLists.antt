@@ -5,7 +5,7 @@ use Rattle.binar.proofs.Lists.{all_join, all_map, all_over}
 use Rattle.pauli.specs.Told.{answer, refuse_if, and_then, map_told}
 use Rattle.pauli.specs.Roll.{most_paulis, Sparse, support, read, write, by_value}
 use Rattle.pauli.specs.Support.{most_qubits, All}
-use Rattle.pauli.specs.RollTheorems.{Allowed}
+use Rattle.pauli.specs.RollTheorems.{Allowed, Within}
 use Rattle.pauli.specs.JoinCalls.{read_both, few_qubits, joined_of, join_of}
 use Rattle.pauli.specs.JoinTheorems.{JoinLaw, JoinedLaw}
 use Rattle.pauli.proofs.roll.Checks.{AllowedSets}
@@ -13,16 +13,20 @@ use Rattle.pauli.proofs.roll.ListSupport.{support_by_value}
 use Rattle.pauli.proofs.roll.RollLaws.{read_law, answer_parts}
 use Rattle.pauli.proofs.roll.Told.{test_passed, map_test}
 
--- a list within the limits is read back from its roll
-pub written_read : (ps : List Sparse) → length ps ≤ most_paulis → All AllowedSets ps → length (support ps) ≤ most_qubits → read (write ps) ≡ answer (map by_value ps)
-unfolding write by_value
-written_read ps count sets qubits =
-    read_law.accepts (map by_value ps)
-    (record {
-      count = rw length-map count;
-      allowed = all_over Allowed by_value ps (all_map (λ p a. record { byte = omega arith; x = a.0; z = a.1 }) ps sets);
-      qubits = rw support_by_value qubits;
-    })
+module _ (ps : List Sparse) (count : length ps ≤ most_paulis) (sets : All AllowedSets ps) (qubits : length (support ps) ≤ most_qubits) where
+  -- by value, a list within the limits is one whose exponents are bytes too
+  pub value_within : Within (map by_value ps)
+  unfolding by_value
+  value_within = record {
+    count = rw length-map count;
+    allowed = all_over Allowed by_value ps (all_map (λ p a. record { byte = omega arith; x = a.0; z = a.1 }) ps sets);
+    qubits = rw support_by_value qubits;
+  }
+
+  -- it is read back from its roll
+  pub written_read : read (write ps) ≡ answer (map by_value ps)
+  unfolding write
+  written_read = read_law.accepts (map by_value ps) value_within
 
 module _ (l r : List ℕ) (ps qs : List Sparse) (el : read l ≡ answer ps) (er : read r ≡ answer qs) where
   -- the limits, in turn

@@ -111,10 +111,10 @@ module _ (ps : List Sparse) (known : List ℕ) (g : Gathered (support ps) known)
 
 -- ---- two lists, one after the other
 
-module _ (f : Sparse → Pauli) (ls rs : List Sparse) (m n : ℕ) (x y : List ℕ)
-    (first : list_in x list_at m ≡ map f ls) (second : list_in y (list_at + 5 * m) n ≡ map f rs) (o : Outside (list_at + 5 * m) (5 * n) x y) where
-  pub two_listed : list_in y list_at (m + n) ≡ map f (ls ++ rs)
-  two_listed = list_append y list_at m n ∙ ap₂ (λ (a : List Pauli) (b : List Pauli). a ++ b) (list_kept o list_at m (omega arith) ∙ first) second ∙ sym (map-append f ls rs)
+module _ (f : Sparse → Pauli) (ls rs : List Sparse) (at m n : ℕ) (x y : List ℕ)
+    (first : list_in x at m ≡ map f ls) (second : list_in y (at + 5 * m) n ≡ map f rs) (o : Outside (at + 5 * m) (5 * n) x y) where
+  pub two_listed : list_in y at (m + n) ≡ map f (ls ++ rs)
+  two_listed = list_append y at m n ∙ ap₂ (λ (a : List Pauli) (b : List Pauli). a ++ b) (list_kept o at m (omega arith) ∙ first) second ∙ sym (map-append f ls rs)
 
 -- ---- what the standard generators tell
 

@@ -14,12 +14,13 @@ use Rattle.pauli.proofs.support.SupportLaws.{rising_least, insert_known}
 use Rattle.pauli.proofs.support.Walk.{lower_stop, lower_go, lower_next}
 use Rattle.pauli.specs.declared.signed.Pauli.{Pauli as Held}
 use Rattle.pauli.specs.Pauli.{Pauli, I, normal}
-use Rattle.pauli.specs.Signed.{held, pauli_in, list_in}
+use Rattle.pauli.specs.Signed.{held, pauli_in, list_in, paulis_in, stored}
 use Rattle.pauli.specs.Writing.{OnPlaces}
 use Rattle.pauli.proofs.signed.Algebra.{pauli_path}
 use Rattle.pauli.proofs.condense.CondenseLaws.{lower_at}
 use Rattle.pauli.proofs.condense.MoreBits.{bit_or_lem}
 use Rattle.pauli.proofs.condense.Sets.{set_members, members_rise, members_only}
+use Rattle.pauli.proofs.signed.SignedLaws.{length_paulis, pauli_at, stored_value}
 use Rattle.pauli.proofs.write.Writers.{length_list}
 use Rattle.pauli_theory.specs.Inner.ModuloPlaces.{moved_set, moved_pauli}
 use Rattle.pauli_theory.proofs.IndexSets.{bit_below}
@@ -44,7 +45,7 @@ lower_place least (r ∷ rs) h q (there m) =
     let past : suc r ≤ q = rising_least (suc r) rs h.1 m in
     lower_go q r rs past ∙ rw (ne_eqb r q (λ e. omega arith)) (ap suc (lower_place (suc r) rs h.1 q m))
 
-or_assoc : (a b c : ℕ) → bit_or (bit_or a b) c ≡ bit_or a (bit_or b c)
+pub or_assoc : (a b c : ℕ) → bit_or (bit_or a b) c ≡ bit_or a (bit_or b c)
 or_assoc a b c = ext (bit_or (bit_or a b) c) (bit_or a (bit_or b c)) λ k. simp bit_or_lem (omega arith)
 
 -- ---- a set moved, place by place
@@ -134,6 +135,27 @@ module _ (p : Held) (q : Pauli) (e : normal (held p) ≡ normal q) where
   pub moved_value : (own qs : List ℕ) (r : Held) → held r ≡ moved_pauli own qs (held p) → normal (held r) ≡ normal (moved_pauli own qs q)
   unfolding normal moved_pauli
   moved_value own qs r g = ap normal g ∙ pauli_path same_value (ap (moved_set own qs) same_x) (ap (moved_set own qs) same_z)
+
+-- Pauli i of a list in words
+module _ (words : List (List ℕ)) (i : ℕ) (h : i < length words) where
+  pub words_movable : (own qs : List ℕ) → OnPlaces (length own) (paulis_in words) → All (MovablePauli own qs) (paulis_in words)
+      → (p : Held) → held p ≡ stored (pauli_in (get_or words i []) 0)
+      → ((held p).x < 2 ^ length own) × ((held p).z < 2 ^ length own) × MovablePauli own qs (held p)
+  unfolding OnPlaces
+  words_movable own qs on m p e =
+      let q = pauli_in (get_or words i []) 0 in
+      let at = pauli_at words i [] h in
+      let size : i < length (paulis_in words) = rw (length_paulis words) h in
+      loaded_movable p q (stored_value q e) own qs (length own)
+      (subst (λ (r : Pauli). (r.x < 2 ^ length own) × (r.z < 2 ^ length own)) at
+      (all_get (λ r. (r.x < 2 ^ length own) × (r.z < 2 ^ length own)) (paulis_in words) I on i size))
+      (subst (MovablePauli own qs) at (all_get (MovablePauli own qs) (paulis_in words) I m i size))
+
+  pub words_value : (own qs : List ℕ) (p r : Held) → held p ≡ stored (pauli_in (get_or words i []) 0) → held r ≡ moved_pauli own qs (held p)
+      → normal (held r) ≡ normal (moved_pauli own qs (get_or (paulis_in words) i I))
+  words_value own qs p r e m =
+      let q = pauli_in (get_or words i []) 0 in
+      moved_value p q (stored_value q e) own qs r m ∙ ap (λ (s : Pauli). normal (moved_pauli own qs s)) (sym (pauli_at words i [] h))
 
 -- Pauli i of the n from word base on is still as it was at first, since only words behind them have changed
 module _ (first w : List ℕ) (base to n k i : ℕ) (o : Outside to k first w) (before : base + 5 * n ≤ to) (h : i < n) where

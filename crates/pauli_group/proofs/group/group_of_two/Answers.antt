@@ -31,7 +31,7 @@ build-requires c =
     rw (c.count-first.ensures, c.count.ensures) (
       pair.few,
       places_few _ _ g pair.qubits,
-      on_places _ _ g pair.qubits _ _ (two_listed _ (sparse_in pair.left) (sparse_in pair.right) _ _ _ _ c.read.ensures.list second.list second.rest),
+      on_places _ _ g pair.qubits _ _ (two_listed _ (sparse_in pair.left) (sparse_in pair.right) _ _ _ _ _ c.read.ensures.list second.list second.rest),
     )
 
 pub returns : goal.returns
@@ -42,5 +42,5 @@ returns c =
     let size =
     length-append (sparse_in pair.left) (sparse_in pair.right) ∙ ap₂ ◌+◌ (source_counted pair.left).size (source_counted pair.right).size in
     rw (← c.qubits-qubits.ensures.list, c.build.ensures.places, ← paulis_append (sparse_in pair.left) (sparse_in pair.right))
-    (grouped _ _ g pair.qubits _ _ (two_listed _ (sparse_in pair.left) (sparse_in pair.right) _ _ _ _ c.read.ensures.list second.list second.rest) _ _ _ size
+    (grouped _ _ g pair.qubits _ _ (two_listed _ (sparse_in pair.left) (sparse_in pair.right) _ _ _ _ _ c.read.ensures.list second.list second.rest) _ _ _ size
     (rw (c.count-first.ensures, c.count.ensures) at c.build.ensures.built))
