@@ -1,2 +1,3 @@
 pub mod WorkLaws
 pub mod WalkLaws
+pub mod LevelCalls

@@ -1,2 +1,4 @@
 pub mod Ends
 pub mod Worked
+pub mod Slots
+pub mod Call

@@ -5,4 +5,7 @@ pub mod LineTheorems
 pub mod Work
 pub mod WorkTheorems
 pub mod Marked
+pub mod Combining
+pub mod CombineContract
+pub mod CombineTheorems
 pub mod Inner

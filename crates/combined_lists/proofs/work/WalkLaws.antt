@@ -18,7 +18,7 @@ second : (a b : Bool) → (a && b) ≡ true → b ≡ true
 second true b q = q
 second false b q = absurd (cc)
 
-waits_below : (k : Sign) → waits (below k) + 1 ≡ rank k
+pub waits_below : (k : Sign) → waits (below k) + 1 ≡ rank k
 waits_below quotient = refl
 waits_below common = refl
 waits_below joined = refl

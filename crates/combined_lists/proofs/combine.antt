@@ -1,0 +1,4 @@
+pub mod RollLaws
+pub mod BytesLaws
+pub mod CombineLaws
+pub mod CombineTheoremLaws

@@ -1,0 +1,6 @@
+-- The library's first chunk.
+use Rattle.std.proofs.Common.{refl}
+use Rattle.combined_lists.proofs.combine.area_of.Goals as goal
+
+pub returns : goal.returns
+returns c = ((refl, λ w. refl), record { writes_back = tt; value = (rw c.unwrap.ensures at c.first_chunk_mut.ensures.cases).same })
