@@ -223,6 +223,8 @@ def compare_bad(args):
                good._replace(work=2**32 - 1), good._replace(first=bytes(262_145)), good._replace(second=bytes(262_145))]
     named = good._replace(op=25, work=calls.WORK_WORDS)
     outside += [named._replace(second=bytes(n)) for n in (1, 2, 3, 5, 4097, 4 * 1025)]
+    lined = good._replace(op=26, first=b"A", work=32_768)
+    outside += [lined._replace(second=b) for b in (b"", bytes(3), bytes(15), bytes(17), b"\1" + bytes(15), b"\xff" * 4 + bytes(12))]
     strings = good._replace(second=b"abc").raw()
     cases = [r.raw() + good.raw() for r in outside] + [strings[:k] for k in range(1, len(strings))]
     cases.append(strings[:20] + b"\xff" * 8 + good.raw())
@@ -232,7 +234,8 @@ def compare_bad(args):
             stop(good, f"a request outside the bounds: {case[:40].hex()}", f"{answer}, bad request", got)
     inside = [(good._replace(out=262_144, work=40_960), answer), (good._replace(second=bytes(262_144)), answer),
               (good._replace(first=bytes(262_144)), "refused 1 at 0; out - kept; work none"),
-              (named._replace(second=bytes(4 * 1024)), "refused 13 at 0; out - kept; work untouched"), (good, answer)]
+              (named._replace(second=bytes(4 * 1024)), "refused 13 at 0; out - kept; work untouched"),
+              (lined._replace(second=bytes(16)), "refused 14 at 0; out - kept; work untouched"), (good, answer)]
     compare(inside, args.replay)
     print(f"outside the bounds: {len(cases)} requests end with `bad request`, {len(inside)} at the bounds are answered")
 

@@ -13,7 +13,7 @@
  * written (work, out, words).
  *
  * A work area has HOWHIRUKE_WORK_WORDS words or more and may hold anything. Its first HOWHIRUKE_WORK_WORDS words are zero at the end, but
- * untouched at refusals 1 to 9; its other words are never touched. An output is written from its front, and only the result's own bytes;
+ * untouched at refusals 1 to 9 and 13 to 15; its other words are never touched. For howhiruke_combine it is HOWHIRUKE_LINE_WORDS. An output is written from its front, and only the result's own bytes;
  * a refusal leaves it alone. An output of HOWHIRUKE_LARGEST_ROLL bytes is never too short for a roll.
  *
  * Nothing is asked of the contents: a call on any bytes ends, and answers or refuses.
@@ -44,12 +44,15 @@ extern "C" {
 #define HOWHIRUKE_DEFAULT_PAGE 16       /* elements of a page with count 0 */
 #define HOWHIRUKE_LARGEST_PAGE 128      /* elements of a page with a count of 128 or more */
 #define HOWHIRUKE_MOST_TOGETHER 63      /* distinct qubits of a list and of the named support of its centralizer */
+#define HOWHIRUKE_LONGEST_LINE 256      /* bytes of a line that combines lists */
+#define HOWHIRUKE_DEEPEST_LINE 4        /* parentheses in parentheses of a line */
 
 /* Sizes. How long an output has to be can be asked before the call: for howhiruke_join howhiruke_joined_sizes tells it exactly; for
  * howhiruke_standard_generators what howhiruke_standard_bound tells is enough; a page of howhiruke_elements has as many Paulis as
  * howhiruke_page_size tells, of at most 10 + 8 s bytes each on s qubits, and 2 bytes more. For any roll HOWHIRUKE_LARGEST_ROLL, the length of
  * the largest possible one, is enough. */
 #define HOWHIRUKE_WORK_WORDS 4096       /* 64-bit words of a work area */
+#define HOWHIRUKE_LINE_WORDS 32768      /* 64-bit words of the work area of a line */
 #define HOWHIRUKE_LARGEST_ROLL 132354   /* bytes of the longest roll that is accepted or written */
 #define HOWHIRUKE_LARGEST_PRODUCT 1036  /* bytes of the longest roll of one Pauli */
 #define HOWHIRUKE_LARGEST_INDEXES 256   /* bytes of the indexes of a member */
@@ -69,11 +72,13 @@ enum {
     HOWHIRUKE_REFUSED_RISING = 6,    /* a set not strictly rising */
     HOWHIRUKE_REFUSED_QUBITS = 7,    /* over 128 distinct qubits, also joined */
     HOWHIRUKE_REFUSED_NUMBER = 8,    /* generator or element number past its list */
-    HOWHIRUKE_REFUSED_WORK = 9,      /* work area under 4,096 words */
+    HOWHIRUKE_REFUSED_WORK = 9,      /* work area under 4,096 words, of a line under 32,768 */
     HOWHIRUKE_REFUSED_LISTING = 10,  /* listing with rank above 16 */
     HOWHIRUKE_REFUSED_SUBGROUP = 11, /* divisor not a subgroup */
     HOWHIRUKE_REFUSED_OUTPUT = 12,   /* output shorter than the result */
-    HOWHIRUKE_REFUSED_SUPPORT = 13   /* named support not strictly rising, above 65,535, or over 63 qubits with the list's own */
+    HOWHIRUKE_REFUSED_SUPPORT = 13,  /* named support not strictly rising, above 65,535, or over 63 qubits with the list's own */
+    HOWHIRUKE_REFUSED_LINE = 14,     /* line empty, too long, ill-formed, or naming a roll that was not sent */
+    HOWHIRUKE_REFUSED_DEPTH = 15     /* line with parentheses deeper than 4 */
 };
 
 /* refusal is 0 for an answer, which is in first, second and third; what a call does not name is 0. At a refusal, place is the
@@ -214,6 +219,18 @@ howhiruke_answer howhiruke_try_quotient(const uint8_t *left, size_t left_len, co
 howhiruke_answer howhiruke_bitand(const uint8_t *left, size_t left_len, const uint8_t *right, size_t right_len,
                                   uint64_t left_promise, uint64_t right_promise, uint64_t *work, size_t work_len,
                                   uint8_t *out, size_t out_len);
+
+/* ---- a line that combines lists */
+
+/* Writes what a line such as A|B&C/D comes to, with the rolls A to D; a roll of length 0 was not sent. `/` is the quotient, `&` the common
+ * part, `|` joining; `/` binds before `&` and `&` before `|`, each from the left, and parentheses come first: that line is
+ * A|(B&(C/D)). A line of one letter writes that roll with exponents 0 to 3. No promises. first: the roll's length. Refusals, in this order:
+ * 14, 15; 1 to 7 for each roll sent, named in the line or not; 9; those of the operations, left operands first (2 and 7 joined, 11);
+ * 12. Here 1 to 7 of the rolls, 9, 14 and 15 leave the work area untouched; else its HOWHIRUKE_LINE_WORDS words end as zeros, also where an
+ * operation refuses. */
+howhiruke_answer howhiruke_combine(const uint8_t *line, size_t line_len, const uint8_t *a, size_t a_len, const uint8_t *b, size_t b_len,
+                                   const uint8_t *c, size_t c_len, const uint8_t *d, size_t d_len,
+                                   uint64_t *work, size_t work_len, uint8_t *out, size_t out_len);
 
 /* ---- the report */
 

@@ -4,7 +4,7 @@
 #include <string.h>
 #include "howhiruke.h"
 
-enum { WORDS = HOWHIRUKE_WORK_WORDS, ROOM = HOWHIRUKE_LARGEST_ROLL + 3 };
+enum { WORDS = HOWHIRUKE_WORK_WORDS, LINE = HOWHIRUKE_LINE_WORDS, ROOM = HOWHIRUKE_LARGEST_ROLL + 3 };
 
 typedef struct {
     int e;
@@ -63,7 +63,7 @@ static roll of(int count, const pauli *ps)
 
 #define LIST(...) of((int)(sizeof((pauli[]){__VA_ARGS__}) / sizeof(pauli)), (pauli[]){__VA_ARGS__})
 
-static uint64_t work[WORDS + 3];
+static uint64_t work[LINE + 3];
 static uint8_t out[ROOM];
 static int rows;
 
@@ -102,12 +102,17 @@ static int kept(size_t from)
 /* The work area after a call that used it, or after a refusal up to 9. */
 static int used(void)
 {
-    return same_words(0, WORDS, 0) && same_words(WORDS, WORDS + 3, FILL);
+    return same_words(0, WORDS, 0) && same_words(WORDS, LINE + 3, FILL);
+}
+
+static int line_used(void)
+{
+    return same_words(0, LINE, 0) && same_words(LINE, LINE + 3, FILL);
 }
 
 static int untouched(void)
 {
-    return same_words(0, WORDS + 3, FILL);
+    return same_words(0, LINE + 3, FILL);
 }
 
 static void holds(const char *row, int right)
@@ -270,6 +275,58 @@ static void centralizers(void)
     refused("centralizer 1", CALL(centralizer_of, bell.b, 1, WORK, OUT), 1, 0);
 }
 
+/* The same of a line. */
+static void lined(const char *row, howhiruke_answer a, roll r)
+{
+    wrote(row, a, r);
+    if (!line_used())
+        wrong(row, a);
+}
+
+#define TEXT(line) (const uint8_t *)line, sizeof line - 1
+#define LINE_AREA work, LINE + 3
+#define LINE_CALL(line, ...) CALL(combine, TEXT(line), __VA_ARGS__, LINE_AREA, OUT)
+#define NOT_SENT out, 0
+
+/* Lines that combine lists. */
+static void lines(void)
+{
+    pauli fifth = {5, {0, E}, {E}}, fourth = {1, {0, E}, {E}};
+    roll bell = LIST(XX, ZZ), xx = LIST(XX), zz = LIST(ZZ), x1 = LIST(X1), z = LIST(Z), raw = LIST(fifth), imaginary = LIST(fourth);
+    static pauli many_zs[65];
+    for (int k = 0; k < 65; k++)
+        many_zs[k] = (pauli){0, {E}, {k, E}};
+    roll half = of(65, many_zs);
+    lined("A", LINE_CALL("A", ROLL(raw), NOT_SENT, NOT_SENT, NOT_SENT), imaginary);
+    lined("A|B", LINE_CALL("A|B", ROLL(xx), ROLL(x1), NOT_SENT, NOT_SENT), LIST(XX, X1));
+    lined("A&B", LINE_CALL("A&B", ROLL(bell), ROLL(xx), NOT_SENT, NOT_SENT), xx);
+    lined("A/B", LINE_CALL("A/B", ROLL(bell), ROLL(xx), NOT_SENT, NOT_SENT), LIST(I, ZZ));
+    lined("A|B&C/D", LINE_CALL("A|B&C/D", ROLL(x1), ROLL(bell), ROLL(bell), ROLL(xx)), LIST(X1, I, ZZ));
+    lined("(A|B)&C", LINE_CALL("(A|B)&C", ROLL(xx), ROLL(zz), ROLL(zz), NOT_SENT), zz);
+    lined("((((D))))", LINE_CALL("((((D))))", NOT_SENT, NOT_SENT, NOT_SENT, ROLL(z)), z);
+    char open[257];
+    memset(open, '(', sizeof open);
+    for (size_t n = 256; n <= sizeof open; n++)
+        refused_with("all open", CALL(combine, (const uint8_t *)open, n, ROLL(xx), ROLL(xx), ROLL(xx), ROLL(xx), LINE_AREA, OUT), 14, 0, untouched);
+    for (size_t n = 1; n <= sizeof open; n++)
+        open[n - 1] = n % 2 ? 'A' : '&';
+    lined("255 bytes", CALL(combine, (const uint8_t *)open, 255, ROLL(xx), NOT_SENT, NOT_SENT, NOT_SENT, LINE_AREA, OUT), xx);
+    refused_with("257 bytes", CALL(combine, (const uint8_t *)open, 257, ROLL(xx), NOT_SENT, NOT_SENT, NOT_SENT, LINE_AREA, OUT), 14, 0, untouched);
+    refused_with("no line", LINE_CALL("", ROLL(xx), ROLL(xx), ROLL(xx), ROLL(xx)), 14, 0, untouched);
+    refused_with("A|", LINE_CALL("A|", ROLL(xx), ROLL(xx), ROLL(xx), ROLL(xx)), 14, 0, untouched);
+    refused_with("A B", LINE_CALL("A B", ROLL(xx), ROLL(xx), ROLL(xx), ROLL(xx)), 14, 0, untouched);
+    refused_with("B not sent", LINE_CALL("A|B", ROLL(xx), NOT_SENT, ROLL(xx), ROLL(xx)), 14, 0, untouched);
+    refused_with("five deep", LINE_CALL("(((((D)))))", NOT_SENT, NOT_SENT, NOT_SENT, ROLL(z)), HOWHIRUKE_REFUSED_DEPTH, 0, untouched);
+    refused_with("14 before 15", LINE_CALL("(((((D)))))", ROLL(z), NOT_SENT, NOT_SENT, NOT_SENT), HOWHIRUKE_REFUSED_LINE, 0, untouched);
+    refused_with("14 before 1", LINE_CALL("A|", xx.b, 1, NOT_SENT, NOT_SENT, NOT_SENT), 14, 0, untouched);
+    refused_with("1 of a roll not named", LINE_CALL("A", ROLL(xx), xx.b, 1, NOT_SENT, NOT_SENT), 1, 0, untouched);
+    refused_with("line 9", CALL(combine, TEXT("A"), ROLL(xx), NOT_SENT, NOT_SENT, NOT_SENT, work, LINE - 1, OUT), 9, 0, untouched);
+    refused_with("line 1 before 9", CALL(combine, TEXT("A"), xx.b, 1, NOT_SENT, NOT_SENT, NOT_SENT, work, LINE - 1, OUT), 1, 0, untouched);
+    refused_with("line 2", LINE_CALL("(A|A)&C/B", ROLL(half), ROLL(z), ROLL(xx), NOT_SENT), 2, 0, line_used);
+    refused_with("line 11", LINE_CALL("C/B&(A|A)", ROLL(half), ROLL(z), ROLL(xx), NOT_SENT), 11, 0, line_used);
+    refused_with("line 12", CALL(combine, TEXT("A"), ROLL(xx), NOT_SENT, NOT_SENT, NOT_SENT, LINE_AREA, out, xx.n - 1), 12, 0, line_used);
+}
+
 /* What is told before the work. */
 static void sizes(void)
 {
@@ -398,6 +455,7 @@ int main(void)
     others();
     many_elements();
     centralizers();
+    lines();
     sizes();
     common_and_report();
     refusals();

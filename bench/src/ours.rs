@@ -66,12 +66,16 @@ fn memberships(answer: Result<Results, Refusal>) -> Told {
 
 impl Areas {
     pub fn new() -> Self {
-        Areas { work: vec![0; howhiruke::WORK_WORDS], out: vec![0; 1 << 18] }
+        Areas { work: vec![0; howhiruke::LINE_WORDS], out: vec![0; 1 << 18] }
     }
 
     pub fn call(&mut self, request: &Request) -> Told {
         let (left, right) = (&request.left[..], &request.right[..]);
-        let (work, out) = (&mut self.work[..], &mut self.out[..]);
+        let (area, out) = (&mut self.work[..], &mut self.out[..]);
+        if let Call::Combine(line) = request.call {
+            return roll(howhiruke::combine(line.as_bytes(), [left, right, &[], &[]], area, out));
+        }
+        let work = &mut area[..howhiruke::WORK_WORDS];
         match request.call {
             Call::CheckRoll => number(howhiruke::check_roll(left)),
             Call::Product => product(howhiruke::product(left, request.number, right, request.other, out)),
@@ -100,6 +104,7 @@ impl Areas {
             Call::TryQuotient => roll(howhiruke::try_quotient(left, right, NONE, NONE, work, out)),
             Call::Bitand => roll(howhiruke::bitand(left, right, NONE, NONE, work, out)),
             Call::ClosingReport => roll(howhiruke::closing_report(left, work, out)),
+            Call::Combine(_) => unreachable!("it has an area of its own"),
         }
     }
 }

@@ -31,6 +31,8 @@ pub enum Call {
     Modulo,
     TryQuotient,
     Bitand,
+    /// This line, on the left list as A and the right one as B.
+    Combine(&'static str),
     ClosingReport,
 }
 
@@ -90,7 +92,10 @@ impl Case {
 pub const PAGE_START: u32 = 1000;
 pub const MANY: &str = "indexed_factorizations_of";
 
-pub const CASES: [Case; 32] = [
+pub const JOINED: &str = "A|B";
+pub const QUOTIENT: &str = "(A|B)/A";
+
+pub const CASES: [Case; 34] = [
     case(Call::CheckRoll, "check_roll", "", Relation::None),
     case(Call::Product, "product", "", Relation::Apart),
     case(Call::Join, "join", "", Relation::Apart),
@@ -122,6 +127,8 @@ pub const CASES: [Case; 32] = [
     case(Call::TryQuotient, "try_quotient", "no subgroup", Relation::Apart),
     case(Call::Bitand, "bitand", "overlapping", Relation::Overlap),
     case(Call::Bitand, "bitand", "inside", Relation::Inside),
+    case(Call::Combine(JOINED), "combine", JOINED, Relation::Apart),
+    case(Call::Combine(QUOTIENT), "combine", QUOTIENT, Relation::Apart),
     case(Call::ClosingReport, "closing_report", "8 elements", Relation::None),
 ];
 
@@ -148,12 +155,12 @@ const MOST_QUBITS: usize = 128;
 const MOST_TOGETHER: usize = 63;
 const MOST_INPUT: usize = 65_536;
 
-/// The sizes in generators that a call is measured at; a listing has rank 16 at most.
+/// The sizes in generators that a call is measured at; a listing has rank 16 at most, and A|B and A have 128 Paulis together at most.
 pub fn generators_of(call: Call) -> &'static [usize] {
     match call {
         Call::Elements(0) => &[2, 10, 16],
         Call::Elements(_) | Call::PageSize(_) => &[10, 16],
-        Call::CentralizerOf | Call::CentralizerWithin => &[2, 10, 40],
+        Call::CentralizerOf | Call::CentralizerWithin | Call::Combine(QUOTIENT) => &[2, 10, 40],
         _ => &[2, 10, 40, 128],
     }
 }

@@ -2,7 +2,7 @@
 //! groups anew.
 use crate::lists;
 use crate::ours::REFUSED;
-use crate::requests::{Call, Request};
+use crate::requests::{self, Call, Request};
 use binar::Bitwise;
 use driver::answer::{group_of, to_plain, to_sparse};
 use driver::roll::{self, Plain};
@@ -66,6 +66,7 @@ fn on_two(request: &Request) -> Told {
             Some(quotient) => written(quotient.generators()),
             None => ([REFUSED, 11, 0], Vec::new()),
         },
+        Call::Combine(line) => combine(line, &group(left), &group(right)),
         _ => common(left, right),
     }
 }
@@ -145,6 +146,14 @@ fn common(left: &[u8], right: &[u8]) -> Told {
     let from = generators.iter().rposition(|pauli| !is_power(pauli)).map_or(0, |last| last + 1);
     generators[from..].sort_by_key(Pauli::xz_phase_exponent);
     written(&generators)
+}
+
+fn combine(line: &str, a: &PauliGroup, b: &PauliGroup) -> Told {
+    let joined = a | b;
+    match line {
+        requests::JOINED => written(joined.generators()),
+        _ => written(joined.try_quotient(a).expect("A is inside A|B").generators()),
+    }
 }
 
 fn report(input: &[u8]) -> Told {

@@ -11,6 +11,7 @@ use Rattle.pauli_group.specs.WorkArea.{area_after}
 use Rattle.pauli_group.specs.Calls.{told_member, member_left}
 use Rattle.factorizations.specs.Calls.{told_results}
 use Rattle.factorizations.specs.Records.{results_bytes}
+use Rattle.combined_lists.specs.Combining.{checked_line, combine_call, line_area_after}
 use Rattle.capi.specs.declared.answer.Answer.{Answer}
 use Rattle.capi.specs.Code.{code_number, code_product, code_body, code_member, code_results, code_form}
 
@@ -34,6 +35,12 @@ pub record Listing {A : Type 0} (result : Told (List ℕ)) (checked : Told A) (w
   pub told : r ≡ code_number (told_bytes result out)
   pub left : out' ≡ left_in result out
   pub area : work' ≡ area_after checked work
+
+-- the line l, with these rolls
+pub record Combining (l : List ℕ) (rolls : List (List ℕ)) (work out : List ℕ) (r : Answer) (work' out' : List ℕ) : Type 0 where
+  pub told : r ≡ code_number (told_bytes (combine_call l rolls (length work)) out)
+  pub left : out' ≡ left_in (combine_call l rolls (length work)) out
+  pub area : work' ≡ line_area_after (checked_line l rolls (length work)) work
 
 -- membership
 pub record Factoring {A : Type 0} (result : Told (Option Factorization)) (checked : Told A) (work out : List ℕ) (r : Answer) (work' out' : List ℕ) : Type 0 where

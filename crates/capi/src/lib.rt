@@ -10,6 +10,8 @@ pub mod roll_calls;
 pub mod group_calls;
 // The calls on two lists.
 pub mod pair_calls;
+// The call on a line that combines lists.
+pub mod line_calls;
 // The calls for what commutes with every Pauli of a list.
 pub mod centralizer_calls;
 // The calls that tell sizes before the work.

@@ -2,7 +2,6 @@
 ghost use Rattle.std.specs.Prelude.{◌≤◌, length};
 
 use pauli::refusal::Refusal;
-use pauli_group::area::WORK_WORDS;
 use std::io;
 use std::io::Write;
 
@@ -40,16 +39,13 @@ fn are_words(words: &[u64], value: u64) -> bool {
     words.iter().all(|word| *word == value)
 }
 
-// The state of the work area: as it was, its first 4,096 words zero, or anything else.
-fn print_work<W: Write>(to: &mut W, work: &[u64], f: u8) -> io::Result<()> {
+// The state of a work area of which a call uses so many words: as it was, these words zero, or anything else.
+fn print_work<W: Write>(to: &mut W, work: &[u64], used: usize, f: u8) -> io::Result<()> {
     let word = u64::from_le_bytes([f; 8]);
     if are_words(work, word) {
         return writeln!(to, "untouched");
     }
-    if work.len() >= WORK_WORDS
-        && are_words(&work[..WORK_WORDS], 0)
-        && are_words(&work[WORK_WORDS..], word)
-    {
+    if work.len() >= used && are_words(&work[..used], 0) && are_words(&work[used..], word) {
         return writeln!(to, "zeroed");
     }
     writeln!(to, "mixed")
@@ -61,10 +57,11 @@ pub(crate) fn end_work_line<W: Write>(
     out: &[u8],
     n: usize,
     work: &[u64],
+    used: usize,
     f: u8,
 ) -> io::Result<()> {
     print_output(to, out, n, f)?;
-    print_work(to, work, f)
+    print_work(to, work, used, f)
 }
 
 // What a call that writes a roll tells, and how many bytes it wrote.

@@ -50,6 +50,8 @@ pub(crate) enum Operation {
     Members,
     // the centralizer on a named support
     Within,
+    // a line that combines lists
+    Line,
 }
 
 // No operation has the number.
@@ -87,9 +89,46 @@ impl TryFrom<u8> for Operation {
             23 => Ok(Operation::Asked(Asked::Page)),
             24 => Ok(Operation::Written(Written::Centralizer)),
             25 => Ok(Operation::Within),
+            26 => Ok(Operation::Line),
             _ => Err(Unknown),
         }
     }
+}
+
+// The string behind its length of four bytes, and what follows it.
+fn string_at(b: &[u8]) -> Option<(&[u8], &[u8])> {
+    let (size, rest) = b.split_first_chunk::<4>()?;
+    rest.split_at_checked(u32::from_le_bytes(*size) as usize)
+}
+
+// The rolls of a line, A to D. A struct, since the check does not cover an `Option` of an array.
+#[derive(Clone, Copy)]
+pub(crate) struct Rolls<'a> {
+    pub(crate) each: [&'a [u8]; 4],
+}
+
+// Four strings, each behind its length, that nothing follows.
+fn four_strings(b: &[u8]) -> Option<Rolls<'_>> {
+    let (first, rest) = string_at(b)?;
+    let (second, rest) = string_at(rest)?;
+    let (third, rest) = string_at(rest)?;
+    let (fourth, rest) = string_at(rest)?;
+    if !rest.is_empty() {
+        return None;
+    }
+    Some(Rolls {
+        each: [first, second, third, fourth],
+    })
+}
+
+// The rolls of a line, which stand in the second string; none for another operation.
+pub(crate) fn rolls_of(operation: Operation, second: &[u8]) -> Option<Rolls<'_>> {
+    if matches!(operation, Operation::Line) {
+        return four_strings(second);
+    }
+    Some(Rolls {
+        each: [&second[..0]; 4],
+    })
 }
 
 // What a call is given beside the output and the work area.
@@ -102,10 +141,17 @@ pub(crate) struct Request<'a> {
     pub(crate) fill: u8,
     pub(crate) first: &'a [u8],
     pub(crate) second: &'a [u8],
+    // The rolls of a line.
+    pub(crate) rolls: Rolls<'a>,
 }
 
 impl<'a> Request<'a> {
-    pub(crate) fn new(head: &[u8; 28], first: &'a [u8], second: &'a [u8]) -> Self {
+    pub(crate) fn new(
+        head: &[u8; 28],
+        first: &'a [u8],
+        second: &'a [u8],
+        rolls: Rolls<'a>,
+    ) -> Self {
         Request {
             a: u32_at(head, 4),
             b: u32_at(head, 8),
@@ -116,6 +162,7 @@ impl<'a> Request<'a> {
             fill: head[3],
             first,
             second,
+            rolls,
         }
     }
 }

@@ -7,11 +7,13 @@ use crate::tells::{
 };
 use centralizer::calls::{centralizer_of, centralizer_within};
 use closing_report::report::closing_report;
+use combined_lists::combine::{LINE_WORDS, combine};
 use factorizations::calls::indexed_factorizations_of;
 use pauli::join::join;
 use pauli::lookup::{joined_body, joined_entry};
 use pauli::product::product;
 use pauli::roll::check_roll;
+use pauli_group::area::WORK_WORDS;
 use pauli_group::calls::{
     is_abelian, is_stabilizer_group, log2_size, phases, rank, standard_generators,
 };
@@ -154,6 +156,24 @@ fn run_within<W: Write>(
     )
 }
 
+// A line, and how many bytes it wrote.
+fn run_line<W: Write>(
+    to: &mut W,
+    request: Request,
+    work: &mut [u64],
+    out: &mut [u8],
+) -> io::Result<usize> {
+    print_wrote(to, combine(request.first, &request.rolls.each, work, out))
+}
+
+// How many words of the work area the call uses.
+fn used_by(operation: Operation) -> usize {
+    match operation {
+        Operation::Line => LINE_WORDS,
+        _ => WORK_WORDS,
+    }
+}
+
 // Fills what the call is lent, makes the call, and prints its line.
 pub(crate) fn run<W: Write>(
     to: &mut W,
@@ -165,34 +185,24 @@ pub(crate) fn run<W: Write>(
     let fill = request.fill;
     work.fill(u64::from_le_bytes([fill; 8]));
     out.fill(fill);
-    match operation {
+    let n = match operation {
         Operation::OnRolls(call) => {
             let n = run_rolls(to, call, request, out)?;
-            end_line(to, out, n, fill)
-        }
-        Operation::Asked(call) => {
-            run_asked(to, call, request, work)?;
-            end_work_line(to, out, 0, work, fill)
-        }
-        Operation::Written(call) => {
-            let n = run_written(to, call, request, work, out)?;
-            end_work_line(to, out, n, work, fill)
-        }
-        Operation::Member => {
-            let n = run_member(to, request, work, out)?;
-            end_work_line(to, out, n, work, fill)
+            return end_line(to, out, n, fill);
         }
         Operation::Report => {
             let n = print_wrote(to, closing_report(request.first, work, out))?;
-            end_line(to, out, n, fill)
+            return end_line(to, out, n, fill);
         }
-        Operation::Within => {
-            let n = run_within(to, request, work, out)?;
-            end_work_line(to, out, n, work, fill)
+        Operation::Asked(call) => {
+            run_asked(to, call, request, work)?;
+            0
         }
-        Operation::Members => {
-            let n = run_members(to, request, work, out)?;
-            end_work_line(to, out, n, work, fill)
-        }
-    }
+        Operation::Written(call) => run_written(to, call, request, work, out)?,
+        Operation::Member => run_member(to, request, work, out)?,
+        Operation::Members => run_members(to, request, work, out)?,
+        Operation::Within => run_within(to, request, work, out)?,
+        Operation::Line => run_line(to, request, work, out)?,
+    };
+    end_work_line(to, out, n, work, used_by(operation), fill)
 }

@@ -68,6 +68,10 @@ extern "C" {
         left: *const u8, nl: usize, right: *const u8, nr: usize, left_promise: u64, right_promise: u64, work: *mut u64, words: usize,
         out: *mut u8, room: usize,
     ) -> Answer;
+    pub fn howhiruke_combine(
+        line: *const u8, n: usize, a: *const u8, na: usize, b: *const u8, nb: usize, c: *const u8, nc: usize, d: *const u8, nd: usize,
+        work: *mut u64, words: usize, out: *mut u8, room: usize,
+    ) -> Answer;
     pub fn howhiruke_closing_report(
         input: *const u8, n: usize, work: *mut u64, words: usize, out: *mut u8, room: usize,
     ) -> Answer;

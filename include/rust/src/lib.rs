@@ -11,6 +11,9 @@ use core::fmt;
 /// The least length of a work area, in words. Its first `WORK_WORDS` words are zero after a call, but untouched at reasons 1 to 9; what is
 /// behind them is never touched.
 pub const WORK_WORDS: usize = 4096;
+/// The least length of the work area of a line, in words. These words are zero after [`combine`], but untouched where the line, a roll or
+/// the area itself is refused.
+pub const LINE_WORDS: usize = 32_768;
 /// Bytes of the longest roll that is accepted or written: an output of this length is never too short for a roll.
 pub const LARGEST_ROLL: usize = 132_354;
 /// Bytes of the longest roll of one Pauli, which [`product`] writes.
@@ -37,6 +40,10 @@ pub const DEFAULT_PAGE: u32 = 16;
 pub const LARGEST_PAGE: u32 = 128;
 /// Distinct qubits of a list and of the named support of its centralizer.
 pub const MOST_TOGETHER: usize = 63;
+/// Bytes of a line that combines lists.
+pub const LONGEST_LINE: usize = 256;
+/// Parentheses in parentheses of a line.
+pub const DEEPEST_LINE: usize = 4;
 
 /// Why a call is refused.
 #[derive(Clone, Copy, Debug, PartialEq, Eq)]
@@ -58,7 +65,7 @@ pub enum Reason {
     Qubits,
     /// 8: a generator or element number is past its list.
     Number,
-    /// 9: the work area is under 4,096 words.
+    /// 9: the work area is under 4,096 words, that of a line under 32,768.
     Work,
     /// 10: a listing with rank above 16.
     Listing,
@@ -68,6 +75,10 @@ pub enum Reason {
     Output,
     /// 13: the named support does not rise strictly, has a number above 65,535, or more than 63 qubits with the list's own.
     Support,
+    /// 14: a line is empty, too long, ill-formed, or names a roll that was not sent.
+    Line,
+    /// 15: a line's parentheses are deeper than 4.
+    Depth,
     /// A number that this crate does not know: the library is of another version.
     Unknown(u64),
 }
@@ -89,6 +100,8 @@ impl Reason {
             Reason::Subgroup => 11,
             Reason::Output => 12,
             Reason::Support => 13,
+            Reason::Line => 14,
+            Reason::Depth => 15,
             Reason::Unknown(number) => number,
         }
     }
@@ -108,6 +121,8 @@ impl Reason {
             11 => Reason::Subgroup,
             12 => Reason::Output,
             13 => Reason::Support,
+            14 => Reason::Line,
+            15 => Reason::Depth,
             _ => Reason::Unknown(number),
         }
     }
@@ -124,11 +139,13 @@ impl fmt::Display for Reason {
             Reason::Rising => "a set does not rise strictly",
             Reason::Qubits => "more than 128 distinct qubits",
             Reason::Number => "a generator or element number is past its list",
-            Reason::Work => "the work area is under 4096 words",
+            Reason::Work => "the work area is too short",
             Reason::Listing => "a listing with rank above 16",
             Reason::Subgroup => "the divisor is no subgroup",
             Reason::Output => "the output is shorter than the result",
             Reason::Support => "the named support does not rise, has a number above 65535, or is too large together with the list's own",
+            Reason::Line => "the line is empty, too long or ill-formed, or names a roll that was not sent",
+            Reason::Depth => "the line's parentheses are too deep",
             Reason::Unknown(_) => "a reason that this version does not know",
         })
     }
@@ -546,6 +563,31 @@ pub fn bitand(
     out: &mut [u8],
 ) -> Result<usize, Refusal> {
     on_two(calls::howhiruke_bitand, left, right, left_promise, right_promise, work, out)
+}
+
+/// Writes what a line such as `A|B&C/D` comes to, with the rolls A to D, of which the empty ones were not sent; the roll's length. `/` is the
+/// quotient, `&` the common part, `|` joining, each from the left; `/` binds before `&` and `&` before `|`, and parentheses come first. The
+/// work area has [`LINE_WORDS`] words. Reasons 14, 15; 1 to 7 of each roll sent; 9; 2, 7 and 11 of the operations, left operands first; 12.
+pub fn combine(line: &[u8], rolls: [&[u8]; 4], work: &mut [u64], out: &mut [u8]) -> Result<usize, Refusal> {
+    let [a, b, c, d] = rolls;
+    number(unsafe {
+        calls::howhiruke_combine(
+            line.as_ptr(),
+            line.len(),
+            a.as_ptr(),
+            a.len(),
+            b.as_ptr(),
+            b.len(),
+            c.as_ptr(),
+            c.len(),
+            d.as_ptr(),
+            d.len(),
+            work.as_mut_ptr(),
+            work.len(),
+            out.as_mut_ptr(),
+            out.len(),
+        )
+    })
 }
 
 /// Writes the closing listing of an input: a 4-byte length, a generator roll of that length, an element roll; the text's length. Reasons 9

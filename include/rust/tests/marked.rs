@@ -116,6 +116,27 @@ fn centralizers() {
 }
 
 #[test]
+fn lines() {
+    let (bell, xx, x1, raw) = (roll(&[XX, ZZ]), roll(&[XX]), roll(&[X1]), roll(&[(5, &[0], &[])]));
+    let line = |line: &[u8], rolls: [&[u8]; 4]| {
+        let (mut area, mut out) = (vec![u64::MAX; LINE_WORDS], vec![165; 4096]);
+        let n = combine(line, rolls, &mut area, &mut out)?;
+        assert!(area.iter().all(|w| *w == 0));
+        assert!(out[n..].iter().all(|b| *b == 165));
+        Ok(out[..n].to_vec())
+    };
+    assert_eq!(line(b"A", [&raw, &[], &[], &[]]), Ok(roll(&[(1, &[0], &[])])));
+    assert_eq!(line(b"A|B&C/D", [&x1, &bell, &bell, &xx]), Ok(roll(&[X1, I, ZZ])));
+    assert_eq!(line(b"(A|B)&C", [&x1, &bell, &xx, &[]]), Ok(xx.clone()));
+    assert_eq!(line(b"A|B", [&x1, &[], &xx, &xx]), refused(Reason::Line, 0));
+    assert_eq!(line(b"(((((A)))))", [&x1, &[], &[], &[]]), refused(Reason::Depth, 0));
+    assert_eq!(line(b"A", [&x1, &[], &[], &xx[..1]]), refused(Reason::Length, 0));
+    assert_eq!(line(b"A/B", [&x1, &xx, &[], &[]]), refused(Reason::Subgroup, 0));
+    let short = combine(b"A", [&x1, &[], &[], &[]], &mut vec![0; LINE_WORDS - 1], &mut [0; 64]);
+    assert_eq!(short, refused(Reason::Work, 0));
+}
+
+#[test]
 fn sizes() {
     let (none, bell, x1) = (Promise::None, roll(&[XX, ZZ]), roll(&[X1]));
     assert_eq!(joined_sizes(&bell, &x1), Ok(JoinedSizes { bytes: 52, paulis: 3, qubits: 2 }));
