@@ -23,13 +23,13 @@ use Rattle.pauli_theory.specs.Standard.{used_by, support_of, form_of, rank, phas
 use Rattle.pauli_theory.specs.Membership.{Factorization, outside, exponent_left, if_among, with_phase, factorization_of}
 use Rattle.pauli_theory.specs.Order.{Order, equal, less, greater, no_order, Ranks, ranks_of, and, same_ranks, no_more, first_of, partial_cmp}
 use Rattle.pauli_theory.specs.Modulo.{multiplied_by_all, modulo, if_below, try_quotient}
-use Rattle.pauli_theory.specs.Common.{common_rows, common_basis, if_both, with_exponent, common_phase_from, common_phase, cons_some, shared_of, phases_from, common_phases, common_part, lesser, bitand}
+use Rattle.pauli_theory.specs.Common.{common_rows, common_basis, if_both, with_exponent, common_phase_from, common_phase, phases_from, common_phases, lesser}
 use Rattle.pauli_theory.specs.WholeCommon.{kept_from, whole_part, whole_common}
 use Rattle.pauli_theory.proofs.Agree.{four, divisor_positive, divisor_le, agree_normal, agree_flip}
 use Rattle.pauli_theory.proofs.Group.{generated_subgroup, generators, inside_by}
 use Rattle.pauli_theory.proofs.StandardLaw.{standard_law}
 use Rattle.pauli_theory.proofs.Canonical.{canonical_law}
-use Rattle.pauli_theory.proofs.Common.{common_basis_law}
+use Rattle.pauli_theory.proofs.WholeCommonLaw.{whole_common_law}
 use Rattle.pauli_theory.proofs.ListingElements.{step_divisor}
 use Rattle.pauli_theory.proofs.ModuloPlaces.{modulo_count}
 
@@ -206,35 +206,9 @@ module _ (gs hs : List Pauli) where
     unfolding common_phase
     common_phase_value = fun_ext λ p. shared_value p 4 0
 
-    shared_of_value : (ps : List Pauli) → shared_of left right (map normal gs) (map normal hs) ps ≡ shared_of left right gs hs ps
-    unfolding shared_of
-    shared_of_value [] = refl
-    shared_of_value (p ∷ ps) = ap₂ cons_some (ap (λ (f : Pauli → Option Pauli). f p) common_phase_value) (shared_of_value ps)
-
     pub phases_of_value : common_phases left right (map normal gs) (map normal hs) ≡ common_phases left right gs hs
     unfolding common_phases
     phases_of_value = ap₂ (λ (a b : ℕ). phases_from a b 4 0) (step_value gs left) (step_value hs right)
-
-    pub part_value : common_part left right (map normal gs) (map normal hs) ≡ common_part left right gs hs
-    unfolding common_part
-    part_value =
-        ap₂ ◌++◌ (ap (shared_of left right (map normal gs) (map normal hs)) basis_value ∙ shared_of_value (common_basis gs hs)) phases_of_value
-
-    pub part_values : map normal (common_part left right gs hs) ≡ common_part left right gs hs
-    part_values = values_by (common_part left right gs hs) ((common_basis_law gs hs).part_values left right)
-
-    -- the lesser list as it is written, or the common part, which has values
-    pub common_value : bitand left right (map normal gs) (map normal hs) ≡ map normal (bitand left right gs hs)
-    unfolding bitand
-    common_value =
-        let lists : Order → List Pauli → List Pauli = λ o ps. lesser o (map normal gs) (map normal hs) ps in
-        ap₂ lists order_value (part_value ∙ sym part_values) ∙ lesser_map (map normal) (partial_cmp left right gs hs) gs hs (common_part left right gs hs)
-
-    pub common_values : map normal gs ≡ gs → map normal hs ≡ hs → map normal (bitand left right gs hs) ≡ bitand left right gs hs
-    common_values a b = sym common_value ∙ ap₂ (bitand left right) a b
-
-    pub common_few : length gs + length hs ≤ most_paulis → length (bitand left right gs hs) ≤ most_paulis
-    common_few = (common_basis_law gs hs).result_count left right
 
   pub modulo_values : (promise : Promise) → map normal (modulo promise gs hs) ≡ modulo promise gs hs
   unfolding modulo exponent_mod
@@ -293,3 +267,6 @@ module _ (gs hs : List Pauli) where
 
   pub whole_values : map normal gs ≡ gs → map normal hs ≡ hs → map normal (whole_common gs hs) ≡ whole_common gs hs
   whole_values a b = sym whole_value ∙ ap₂ whole_common a b
+
+  pub whole_few : length gs + length hs ≤ most_paulis → length (whole_common gs hs) ≤ most_paulis
+  whole_few = (whole_common_law gs hs).count

@@ -1,31 +1,29 @@
 -- The common part of two groups, with any promises: its basis spans what the rows of both lists have in common; the first shared phase;
--- how many elements there are, and on which qubits.
-use mathlib.Core.Path.{◌≡◌, refl, sym, ap, ◌∙◌, subst}
-use mathlib.Core.List.{List, [], ◌∷◌, ◌++◌, map, map-id, map-map}
+-- what is in both groups.
+use mathlib.Core.Path.{◌≡◌, refl, sym, ap, ◌∙◌}
+use mathlib.Core.List.{List, ◌∷◌, ◌++◌, map, map-id, map-map}
 use mathlib.Core.Option.{Option, some, none, some-injective}
 use Prim.Native.Nat.{ℕ, zero, suc, ◌+◌, ◌*◌, ◌/◌, ◌%◌, ◌^◌, ◌≤◌, ◌<◌, min, max}
 use native.Mathlib.Omega.{arith}
 use native.Mathlib.Decide.{ℕ_discrete}
-use lib.ListN.{length, length-append, length-map}
+use lib.ListN.{length, length-map}
 use Rattle.binar.specs.Space.{RowSpace}
-use Rattle.binar.proofs.Lists.{all_map, all_join, all_left, all_right, all_over, all_of, map_same}
+use Rattle.binar.proofs.Lists.{all_map, all_over, all_of, map_same}
 use Rattle.binar.proofs.echelon.Span.{below_subspace, space_rows, space_in}
-use Rattle.pauli.specs.Roll.{most_paulis}
 use Rattle.pauli.specs.Support.{All}
-use Rattle.pauli.specs.Pauli.{Pauli, I, phase}
+use Rattle.pauli.specs.Pauli.{Pauli, turned, phase}
 use Rattle.pauli.specs.Sets.{row_of, pauli_of_row}
 use Rattle.pauli.specs.PauliTheorems.{PauliOn}
 use Rattle.pauli.proofs.condense.Places.{expand_on}
-use Rattle.pauli.proofs.condense.Rows.{back_row, on-I}
-use Rattle.pauli_theory.specs.Group.{Promise}
+use Rattle.pauli.proofs.condense.Rows.{back_row}
+use Rattle.pauli_theory.specs.Group.{Generated, Promise, Honest}
 use Rattle.pauli_theory.specs.Standard.{support_of, if_zero, standard, phase_step}
 use Rattle.pauli_theory.specs.Membership.{Factorization, factorization_of}
-use Rattle.pauli_theory.specs.Order.{Order, equal, less, greater, no_order, partial_cmp}
-use Rattle.pauli_theory.specs.Common.{common_rows, common_basis, with_exponent, if_both, common_phase_from, common_phase, cons_some, shared_of, phases_from, common_phases, common_part, lesser, bitand}
-use Rattle.pauli_theory.specs.Theorems.{CommonRowsLaw, CommonBasisLaw}
-use Rattle.pauli_theory.proofs.Rows.{rows_narrow, inside_rows, support_rises, support_on}
+use Rattle.pauli_theory.specs.Common.{common_rows, common_basis, with_exponent, if_both, common_phase_from, common_phase, cons_some, phases_from, common_phases}
+use Rattle.pauli_theory.specs.Theorems.{CommonRowsLaw, CommonBasisLaw, CommonPhaseLaw}
+use Rattle.pauli_theory.proofs.Rows.{rows_narrow, inside_rows, support_rises}
 use Rattle.pauli_theory.proofs.Standard.{standard_inside, inside_standard}
-use Rattle.pauli_theory.proofs.StandardLaw.{standard_law}
+use Rattle.pauli_theory.proofs.Membership.{membership_law}
 use Rattle.pauli_theory.proofs.CommonRows.{common_rows_law}
 
 -- ---- the basis
@@ -59,7 +57,7 @@ module _ (gs hs : List Pauli) where
       let w = rows_law.there v (rw basis_rows at s) in
       (inside_rows qs (standard gs) gs (standard_inside gs) v w.0, inside_rows qs (standard hs) hs (standard_inside hs) v w.1)
 
-  pub basis_back : (v : ℕ) → RowSpace (rows_of gs) v → RowSpace (rows_of hs) v → RowSpace (rows_of (common_basis gs hs)) v
+  basis_back : (v : ℕ) → RowSpace (rows_of gs) v → RowSpace (rows_of hs) v → RowSpace (rows_of (common_basis gs hs)) v
   basis_back v s t =
       rw basis_rows
       (rows_law.back v (inside_rows qs gs (standard gs) (inside_standard gs) v s) (inside_rows qs hs (standard hs) (inside_standard hs) v t))
@@ -129,7 +127,7 @@ module _ (left right : Promise) (gs hs : List Pauli) (p : Pauli) where
   unfolding common_phase
   variant = found 4 0 (omega arith)
 
-  pub not_found : (n e : ℕ) → common_phase_from left right gs hs p n e ≡ none → (k : ℕ) → e ≤ k → k < e + n → (f g : Factorization)
+  not_found : (n e : ℕ) → common_phase_from left right gs hs p n e ≡ none → (k : ℕ) → e ≤ k → k < e + n → (f g : Factorization)
       → factorization_of left gs (with_exponent k p) ≡ some f → factorization_of right hs (with_exponent k p) ≡ some g → ⊥
   unfolding common_phase_from
   not_found zero e h k l u f g hf hg = omega arith
@@ -141,6 +139,32 @@ module _ (left right : Promise) (gs hs : List Pauli) (p : Pauli) where
         | no d ↦ not_found n (suc e) c.0 k (omega arith) (omega arith) f g hf hg
       ]
 
+pub variant_low : (left right : Promise) (gs hs : List Pauli) (p q : Pauli) → Variant left right gs hs p q → q.e < 4
+unfolding with_exponent
+variant_low left right gs hs p q v = omega (arith, v.low, ap (λ r. r.e) v.equals)
+
+-- with absent or true promises
+module _ (left right : Promise) (gs hs : List Pauli) (hl : Honest left gs) (hr : Honest right hs) where
+  shared : (p q : Pauli) → common_phase left right gs hs p ≡ some q → (q.x ≡ p.x) × (q.z ≡ p.z) × Generated gs q × Generated hs q
+  unfolding with_exponent
+  shared p q e =
+      let v = variant left right gs hs p q e in (
+        sym (ap (λ r. r.x) v.equals),
+        sym (ap (λ r. r.z) v.equals),
+        (membership_law left gs q hl).sound v.first v.in_first,
+        (membership_law right hs q hr).sound v.second v.in_second,
+      )
+
+  dropped : (p : Pauli) → common_phase left right gs hs p ≡ none → (k : ℕ) → Generated gs (turned k p) → Generated hs (turned k p) → ⊥
+  unfolding common_phase with_exponent turned
+  dropped p e k a b =
+      let f = (membership_law left gs (turned k p) hl).complete a in
+      let g = (membership_law right hs (turned k p) hr).complete b in
+      not_found left right gs hs p 4 0 e ((k + p.e) % 4) (omega arith) (omega arith) f.0 g.0 f.1 g.1
+
+  pub common_phase_law : CommonPhaseLaw left right gs hs
+  common_phase_law = record { shared = shared; dropped = dropped }
+
 -- ---- the elements that are kept
 pub cons_some_count : (o : Option Pauli) (ps : List Pauli) → length (cons_some o ps) ≤ suc (length ps)
 unfolding cons_some
@@ -151,29 +175,6 @@ pub cons_some_all : (Q : Pauli → Type 0) (o : Option Pauli) (ps : List Pauli) 
 unfolding cons_some
 cons_some_all Q none ps f h = h
 cons_some_all Q (some p) ps f h = (f p refl, h)
-
-module _ (left right : Promise) (gs hs : List Pauli) where
-  shared_count : (ps : List Pauli) → length (shared_of left right gs hs ps) ≤ length ps
-  unfolding shared_of
-  shared_count [] = omega arith
-  shared_count (p ∷ ps) = omega (arith, cons_some_count (common_phase left right gs hs p) (shared_of left right gs hs ps), shared_count ps)
-
-  -- what holds of the variants of Paulis holds of those that are kept
-  shared_by : (P Q : Pauli → Type 0) → ((p q : Pauli) → P p → Variant left right gs hs p q → Q q) → (ps : List Pauli) → All P ps
-      → All Q (shared_of left right gs hs ps)
-  unfolding shared_of
-  shared_by P Q f [] h = tt
-  shared_by P Q f (p ∷ ps) h =
-      cons_some_all Q (common_phase left right gs hs p) (shared_of left right gs hs ps) (λ q e. f p q h.0 (variant left right gs hs p q e))
-      (shared_by P Q f ps h.1)
-
-variant_on : (ks : List ℕ) (left right : Promise) (gs hs : List Pauli) (p q : Pauli) → PauliOn ks p → Variant left right gs hs p q → PauliOn ks q
-unfolding with_exponent
-variant_on ks left right gs hs p q on v = subst (PauliOn ks) v.equals (record { x = on.x; z = on.z })
-
-pub variant_low : (left right : Promise) (gs hs : List Pauli) (p q : Pauli) → Variant left right gs hs p q → q.e < 4
-unfolding with_exponent
-variant_low left right gs hs p q v = omega (arith, v.low, ap (λ r. r.e) v.equals)
 
 -- ---- the shared phases
 module _ (Q : Pauli → Type 0) where
@@ -210,14 +211,16 @@ module _ (a b : ℕ) where
   phases_count : (n e : ℕ) → length (phases_from a b n e) ≤ n
   unfolding phases_from
   phases_count zero e = omega arith
-  phases_count (suc n) e = omega (arith, if_count (max (e % a) (e % b)) (phase e) (phases_from a b n (suc e)), phases_count n (suc e))
+  phases_count (suc n) e =
+      let one : length (phases_from a b (suc n) e) ≤ suc (length (phases_from a b n (suc e))) = if_count _ (phase e) (phases_from a b n (suc e)) in
+      omega (arith, one, phases_count n (suc e))
 
   module _ (Q : Pauli → Type 0) where
     phases_by : (n e : ℕ) → ((k : ℕ) → k < e + n → k % a ≡ 0 → k % b ≡ 0 → Q (phase k)) → All Q (phases_from a b n e)
     unfolding phases_from
     phases_by zero e f = tt
     phases_by (suc n) e f =
-        if_all Q (max (e % a) (e % b)) (phase e) (phases_from a b n (suc e))
+        if_all Q _ (phase e) (phases_from a b n (suc e))
         (λ z. f e (omega arith) (max_left (e % a) (e % b) z) (max_right (e % a) (e % b) z)) (phases_by n (suc e) (λ k l. f k (omega arith)))
 
     pub phases_have : (n e : ℕ) → All Q (phases_from a b n e) → (k : ℕ) → e ≤ k → k < e + n → k % a ≡ 0 → k % b ≡ 0 → Q (phase k)
@@ -231,7 +234,6 @@ module _ (a b : ℕ) where
           | no d ↦ phases_have n (suc e) (if_tail Q w (phase e) more h) k (omega arith) (omega arith) ha hb
         ]
 
--- ---- the common part, with any promises
 module _ (gs hs : List Pauli) (left right : Promise) where
   pub phases_few : length (common_phases left right gs hs) ≤ 4
   unfolding common_phases
@@ -242,53 +244,6 @@ module _ (gs hs : List Pauli) (left right : Promise) where
   unfolding common_phases
   phases_all Q f = phases_by _ _ Q 4 0 f
 
-  part_count : length (common_part left right gs hs) ≤ length (common_basis gs hs) + 4
-  unfolding common_part
-  part_count =
-      let B = common_basis gs hs in
-      omega (arith, length-append (shared_of left right gs hs B) (common_phases left right gs hs), shared_count left right gs hs B, phases_few)
-
-  -- what holds of the basis elements' variants and of the shared phases
-  pub part_by : (P Q : Pauli → Type 0) → ((p q : Pauli) → P p → Variant left right gs hs p q → Q q) → All P (common_basis gs hs)
-      → ((k : ℕ) → k < 4 → k % phase_step left gs ≡ 0 → k % phase_step right hs ≡ 0 → Q (phase k)) → All Q (common_part left right gs hs)
-  unfolding common_part
-  part_by P Q f h k =
-      all_join Q (shared_of left right gs hs (common_basis gs hs)) (common_phases left right gs hs)
-      (shared_by left right gs hs P Q f (common_basis gs hs) h) (phases_all Q k)
-
-  part_on : All (PauliOn (support_of (gs ++ hs))) (common_part left right gs hs)
-  unfolding phase I
-  part_on =
-      let ks = support_of (gs ++ hs) in
-      part_by (PauliOn ks) (PauliOn ks) (variant_on ks left right gs hs) (basis_on gs hs)
-      (λ k l u v. record { x = (on-I ks).x; z = (on-I ks).z })
-
-  part_values : All (λ p. p.e < 4) (common_part left right gs hs)
-  unfolding phase
-  part_values =
-      part_by (λ p. Unit {0}) (λ p. p.e < 4) (λ p q t. variant_low left right gs hs p q) (all_of (λ p. tt) (common_basis gs hs)) (λ k l u v. l)
-
-  -- what is returned, whichever it is
-  lesser_by : (P : List Pauli → Type 0) → P gs → P hs → P (common_part left right gs hs) → (o : Order) → P (lesser o gs hs (common_part left right gs hs))
-  unfolding lesser
-  lesser_by P g h c equal = g
-  lesser_by P g h c less = g
-  lesser_by P g h c greater = h
-  lesser_by P g h c no_order = c
-
-  result_on : All (PauliOn (support_of (gs ++ hs))) (bitand left right gs hs)
-  unfolding bitand
-  result_on =
-      let P = PauliOn (support_of (gs ++ hs)) in
-      let on = support_on (gs ++ hs) in
-      lesser_by (All P) (all_left P gs hs on) (all_right P gs hs on) part_on (partial_cmp left right gs hs)
-
-  result_count : length gs + length hs ≤ most_paulis → length (bitand left right gs hs) ≤ most_paulis
-  unfolding bitand most_paulis
-  result_count l =
-      lesser_by (λ ps. length ps ≤ 128) (omega arith) (omega arith)
-      (omega (arith, part_count, basis_count gs hs, (standard_law gs).count, (standard_law hs).count)) (partial_cmp left right gs hs)
-
 pub common_basis_law : (gs hs : List Pauli) → CommonBasisLaw gs hs
 common_basis_law gs hs = record {
   there = basis_there gs hs;
@@ -296,9 +251,4 @@ common_basis_law gs hs = record {
   independent = rw (basis_rows gs hs) (rows_law gs hs).independent;
   count = basis_count gs hs;
   on_support = basis_on gs hs;
-  part_count = part_count gs hs;
-  part_on = part_on gs hs;
-  part_values = part_values gs hs;
-  result_on = result_on gs hs;
-  result_count = result_count gs hs;
 }

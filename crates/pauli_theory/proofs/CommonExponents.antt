@@ -1,11 +1,10 @@
--- The shared phase of a basis element, by the exponents of two products: the element has its qubits in either list's support and is
--- solved for by its form, whatever the exponent.
-use mathlib.Core.Path.{◌≡◌, refl, sym, ap, ap₂, ◌∙◌}
+-- A basis element has its qubits in either list's support and is solved for by its form, whatever the exponent; and its factorization
+-- with each exponent.
+use mathlib.Core.Path.{◌≡◌, sym, ap, ◌∙◌}
 use mathlib.Core.List.{List, ◌++◌, map}
 use mathlib.Core.Option.{Option, some, none}
-use Prim.Native.Nat.{ℕ, zero, suc, ◌+◌, ◌-◌, ◌*◌, ◌%◌, ◌≤◌, ◌<◌, max}
+use Prim.Native.Nat.{ℕ, ◌+◌, ◌-◌, ◌*◌, ◌%◌, ◌<◌}
 use native.Mathlib.Nat.{mod-eq_of_lt}
-use native.Mathlib.Omega.{arith}
 use lib.ListN.{length}
 use Rattle.binar.specs.Solve.{transpose_solve}
 use Rattle.binar.specs.Space.{RowSpace}
@@ -18,10 +17,9 @@ use Rattle.pauli.specs.PauliTheorems.{PauliOn}
 use Rattle.pauli_theory.specs.Group.{Inside, Promise}
 use Rattle.pauli_theory.specs.Standard.{support_of, form_of, if_zero, phase_step}
 use Rattle.pauli_theory.specs.Membership.{Factorization, outside, exponent_left, with_phase, factorization_of}
-use Rattle.pauli_theory.specs.Common.{common_basis, with_exponent, if_both, common_phase_from, common_phase}
-use Rattle.pauli_theory.specs.Inner.CommonPlaces.{shared_exponent_from, shared_exponent, with_some}
+use Rattle.pauli_theory.specs.Common.{common_basis, with_exponent}
 use Rattle.pauli_theory.proofs.Phases.{with_phase_lem}
-use Rattle.pauli_theory.proofs.IfZero.{if_zero_zero, if_zero_more, if_zero_map}
+use Rattle.pauli_theory.proofs.IfZero.{if_zero_zero}
 use Rattle.pauli_theory.proofs.Agree.{Agree, agree_flip}
 use Rattle.pauli_theory.proofs.Group.{generated_indexed, joined_law}
 use Rattle.pauli_theory.proofs.Rows.{row_agree, row_indexed, row_sets, on_subgroup, support_rises, indexed_on, generated_on}
@@ -81,39 +79,3 @@ solved_factorization promise gs p w e l =
     let told : ℕ → Option Factorization = λ d. if_zero (d % phase_step promise gs) (some (record { indexes = w.set; exponent = d })) none in
     if_zero_zero (with_phase promise gs r (solve gs p)) none (on_outside gs p w.on) ∙ ap (with_phase promise gs r) w.solution
     ∙ with_phase_lem promise gs r w.set ∙ ap (λ (n : ℕ). told ((n + 4 - u) % 4)) (mod-eq_of_lt l)
-
-if_both_if_zero {ℓ} : {X : Type ℓ} (m n : ℕ) (f g : Factorization) (x y : X)
-    → if_both (if_zero m (some f) none) (if_zero n (some g) none) x y ≡ if_zero (max m n) x y
-unfolding if_both if_zero
-if_both_if_zero zero zero f g x y = refl
-if_both_if_zero zero (suc n) f g x y = sym (if_zero_more (max 0 (suc n)) x y (omega arith))
-if_both_if_zero (suc m) n f g x y = sym (if_zero_more (max (suc m) n) x y (omega arith))
-
-module _ (left right : Promise) (gs hs : List Pauli) (p : Pauli) (v : Solved gs p) (w : Solved hs p) where
-  abbrev a : ℕ
-  a = (indexed_product v.set gs).e
-
-  abbrev b : ℕ
-  b = (indexed_product w.set hs).e
-
-  shared_from : (n e : ℕ) → e + n ≤ 4
-      → common_phase_from left right gs hs p n e ≡ with_some (shared_exponent_from (phase_step left gs) (phase_step right hs) a b n e) p
-  unfolding common_phase_from shared_exponent_from with_some
-  shared_from zero e l = refl
-  shared_from (suc n) e l =
-      let r = with_exponent e p in
-      let s = phase_step left gs in
-      let t = phase_step right hs in
-      let d = (e + 4 - a) % 4 in
-      let c = (e + 4 - b) % 4 in
-      let later = shared_exponent_from s t a b n (suc e) in
-      let step : Option Factorization → Option Factorization → Option Pauli = λ f g. if_both f g (some r) (common_phase_from left right gs hs p n (suc e)) in
-      ap₂ step (solved_factorization left gs p v e (omega arith)) (solved_factorization right hs p w e (omega arith))
-      ∙ if_both_if_zero (d % s) (c % t) (record { indexes = v.set; exponent = d }) (record { indexes = w.set; exponent = c }) (some r)
-      (common_phase_from left right gs hs p n (suc e))
-      ∙ ap (if_zero (max (d % s) (c % t)) (some r)) (shared_from n (suc e) (omega arith))
-      ∙ sym (if_zero_map (λ o. with_some o p) (max (d % s) (c % t)) (some e) later)
-
-  pub phase_by_exponents : common_phase left right gs hs p ≡ with_some (shared_exponent (phase_step left gs) (phase_step right hs) a b) p
-  unfolding common_phase shared_exponent
-  phase_by_exponents = shared_from 4 0 (omega arith)

@@ -28,7 +28,6 @@ pub mod Quotient
 pub mod Symplectic
 pub mod CommonRows
 pub mod Common
-pub mod CommonPart
 pub mod WholeCommon
 pub mod Theorems
 pub mod Marked

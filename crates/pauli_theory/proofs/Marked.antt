@@ -11,7 +11,7 @@ use Rattle.pauli_theory.specs.Membership.{outside, exponent_left, if_among, with
 use Rattle.pauli_theory.specs.Order.{ranks_of, same_ranks, no_more, first_of, partial_cmp}
 use Rattle.pauli_theory.specs.Modulo.{supports_other, multiplied, multiplied_by_all, modulo}
 use Rattle.pauli_theory.specs.Symplectic.{position, swap_remove, times_if, cleared, on_position, paired_from, symplectic_form}
-use Rattle.pauli_theory.specs.Common.{dependencies, common_sums, common_rows, common_basis, with_exponent, if_both, common_phase_from, common_phase, cons_some, shared_of, phases_from, common_phases, common_part, lesser, bitand}
+use Rattle.pauli_theory.specs.Common.{dependencies, common_sums, common_rows, common_basis, with_exponent, if_both, common_phase_from, common_phase}
 use Rattle.pauli_theory.specs.Marked.{Marked}
 
 pub marked : Marked
@@ -21,8 +21,7 @@ unfolding ones ◌⊕◌ bit dot if_bit in_column by_columns pivot_of swap_rows 
     row_generators some_order_four anticommutes_with_some some_anticommute phase appended exponent_mod standard nonabelian bare some_imaginary some_minus
     phases_of step_of phase_step log2_size outside exponent_left if_among with_phase factorization_of ranks_of same_ranks no_more first_of partial_cmp
     supports_other multiplied multiplied_by_all modulo position swap_remove times_if cleared on_position paired_from symplectic_form
-    row_sum dependencies common_sums common_rows common_basis with_exponent if_both common_phase_from common_phase cons_some shared_of phases_from common_phases
-    common_part lesser bitand
+    row_sum dependencies common_sums common_rows common_basis with_exponent if_both common_phase_from common_phase
 marked = record {
   empty_standard = refl;
   empty_phases = refl;
@@ -38,18 +37,10 @@ marked = record {
   no_order = refl;
   remainder = refl;
   symplectic = refl;
-  apart_common = refl;
-  right_inside = refl;
-  left_inside = refl;
-  overlap_common = refl;
-  phases_common = refl;
   dropped_basis = refl;
   dropped_phase = refl;
-  dropped_common = refl;
-  smaller_common = refl;
   first_has = refl;
   second_has = refl;
-  smaller_signs = refl;
   first_has_both = refl;
   second_has_both = refl;
 }

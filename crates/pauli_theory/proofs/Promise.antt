@@ -1,8 +1,8 @@
 -- A true promise changes no answer; and abelian and stabilizer groups are what the definitions find.
 use mathlib.Core.Path.{◌≡◌, refl, sym, ap, ap₂, ◌∙◌}
-use mathlib.Core.List.{List, [], ◌∷◌, ◌++◌}
+use mathlib.Core.List.{List}
 use mathlib.Core.Option.{Option, some, none}
-use Prim.Native.Nat.{ℕ, zero, suc, ◌+◌, ◌-◌, ◌*◌, ◌/◌}
+use Prim.Native.Nat.{ℕ, ◌+◌, ◌-◌, ◌*◌, ◌/◌}
 use lib.ListN.{length}
 use Rattle.binar.specs.Solve.{transpose_solve}
 use Rattle.pauli.specs.Pauli.{Pauli}
@@ -13,7 +13,6 @@ use Rattle.pauli_theory.specs.Membership.{with_phase, factorization_of}
 use Rattle.pauli_theory.specs.Order.{Order, ranks_of, partial_cmp}
 use Rattle.pauli_theory.specs.Listing.{elements_of}
 use Rattle.pauli_theory.specs.Modulo.{modulo, try_quotient, if_below}
-use Rattle.pauli_theory.specs.Common.{common_basis, with_exponent, common_phase_from, common_phase, cons_some, shared_of, common_phases, common_part, lesser, bitand}
 use Rattle.pauli_theory.specs.Theorems.{PromiseLaw, PromisesLaw}
 use Rattle.pauli_theory.proofs.Abelian.{promise_nonabelian}
 use Rattle.pauli_theory.proofs.Phases.{phase_step_grade}
@@ -64,26 +63,10 @@ module _ (left right : Promise) (gs hs : List Pauli) (h : Honest left gs) (k : H
   unfolding modulo
   same_remainder = rw (same_step right hs k)
 
-  same_phase_from : (p : Pauli) (n e : ℕ) → common_phase_from left right gs hs p n e ≡ common_phase_from Promise.none Promise.none gs hs p n e
-  unfolding common_phase_from
-  same_phase_from p zero e = refl
-  same_phase_from p (suc n) e =
-      rw (same_factorization left gs h (with_exponent e p), same_factorization right hs k (with_exponent e p), same_phase_from p n (suc e))
-
-  same_shared : (ps : List Pauli) → shared_of left right gs hs ps ≡ shared_of Promise.none Promise.none gs hs ps
-  unfolding shared_of common_phase
-  same_shared [] = refl
-  same_shared (p ∷ ps) = ap₂ (λ (o : Option Pauli) (qs : List Pauli). cons_some o qs) (same_phase_from p 4 0) (same_shared ps)
-
-  same_part : common_part left right gs hs ≡ common_part Promise.none Promise.none gs hs
-  unfolding common_part common_phases
-  same_part = ap₂ ◌++◌ (same_shared (common_basis gs hs)) (rw (same_step left gs h, same_step right hs k))
-
 pub promises_law : (left right : Promise) (gs hs : List Pauli) → Honest left gs → Honest right hs → PromisesLaw left right gs hs
-unfolding try_quotient bitand
+unfolding try_quotient
 promises_law left right gs hs h k = record {
   same_order = same_order left right gs hs h k;
   same_remainder = same_remainder left right gs hs h k;
   same_quotient = ap₂ (λ (o : Order) (ps : List Pauli). if_below o ps) (same_order right left hs gs k h) (same_remainder left right gs hs h k);
-  same_common = ap₂ (λ (o : Order) (ps : List Pauli). lesser o gs hs ps) (same_order left right gs hs h k) (same_part left right gs hs h k);
 }

@@ -14,8 +14,8 @@ use Rattle.pauli_theory.proofs.Modulo.{modulo_law}
 use Rattle.pauli_theory.proofs.Quotient.{quotient_law}
 use Rattle.pauli_theory.proofs.Symplectic.{symplectic_law}
 use Rattle.pauli_theory.proofs.CommonRows.{common_rows_law}
-use Rattle.pauli_theory.proofs.Common.{common_basis_law}
-use Rattle.pauli_theory.proofs.CommonPart.{common_law}
+use Rattle.pauli_theory.proofs.Common.{common_basis_law, common_phase_law}
+use Rattle.pauli_theory.proofs.WholeCommonLaw.{whole_common_law}
 
 pub group_laws : GroupLaws
 group_laws = record {
@@ -37,5 +37,6 @@ group_laws = record {
   symplectic_law = symplectic_law;
   common_rows_law = common_rows_law;
   common_basis_law = common_basis_law;
-  common_law = common_law;
+  common_phase_law = common_phase_law;
+  whole_common_law = whole_common_law;
 }

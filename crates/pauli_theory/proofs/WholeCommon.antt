@@ -20,7 +20,7 @@ use Rattle.pauli_theory.specs.Group.{Generated, Inside, Promise, Honest}
 use Rattle.pauli_theory.specs.Standard.{support_of, phase_step}
 use Rattle.pauli_theory.specs.Membership.{exponent_left}
 use Rattle.pauli_theory.specs.Common.{common_basis, common_phase, cons_some, phases_from, common_phases}
-use Rattle.pauli_theory.specs.Theorems.{CommonLaw}
+use Rattle.pauli_theory.specs.Theorems.{CommonPhaseLaw}
 use Rattle.pauli_theory.specs.WholeCommon.{or_else, if_none, paired, kept_from, whole_part}
 use Rattle.pauli_theory.proofs.Agree.{Divisor, one, two, four, Agree, agree_path, agree_flip, agree_join, agree_times, agree_turned, agree_sets, same_agree, left_same, left_agree, Subgroup, indexed_in}
 use Rattle.pauli_theory.proofs.Group.{generated_subgroup, generated_indexed, generators, inside_by, joined_law}
@@ -30,8 +30,7 @@ use Rattle.pauli_theory.proofs.Grade.{grade, grade_divisor, grade_power}
 use Rattle.pauli_theory.proofs.Elements.{same_sets}
 use Rattle.pauli_theory.proofs.Standard.{phase_in, in_phase}
 use Rattle.pauli_theory.proofs.Phases.{power_divided, step_in, step_only}
-use Rattle.pauli_theory.proofs.Common.{cons_some_all, phases_have, phases_all, common_basis_law}
-use Rattle.pauli_theory.proofs.CommonPart.{common_law}
+use Rattle.pauli_theory.proofs.Common.{cons_some_all, phases_have, phases_all, common_basis_law, common_phase_law}
 
 turned_product : (j k : ℕ) (p q : Pauli) → times (turned j p) (turned k q) ≡ turned (j + k) (times p q)
 turned_product j k p q = turned_times_l j p (turned k q) ∙ ap (turned j) (turned_times_r k p q) ∙ turned_turned j k (times p q)
@@ -43,7 +42,7 @@ pub record Near (ks : List Pauli) (p : Pauli) : Type 0 where
   pub generated : Generated ks (turned exponent p)
 
 module _ (ks : List Pauli) where
-  pub near_by : (p q : Pauli) → Agree 1 q p → Generated ks q → Near ks p
+  near_by : (p q : Pauli) → Agree 1 q p → Generated ks q → Near ks p
   unfolding turned
   near_by p q h a = record {
     exponent = q.e + 3 * p.e;
@@ -155,9 +154,9 @@ module _ (gs hs : List Pauli) where
   abbrev shared : Pauli → Option Pauli
   shared = common_phase Promise.none Promise.none gs hs
 
-  pub law : CommonLaw Promise.none Promise.none gs hs
+  law : CommonPhaseLaw Promise.none Promise.none gs hs
   unfolding Honest
-  law = common_law Promise.none Promise.none gs hs tt tt
+  law = common_phase_law Promise.none Promise.none gs hs tt tt
 
   -- both groups contain p, with some exponents
   pub record InBoth (p : Pauli) : Type 0 where

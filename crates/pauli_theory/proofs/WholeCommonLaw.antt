@@ -1,5 +1,5 @@
 -- The law of the whole common part: whichever list is returned, it generates what both groups have.
-use mathlib.Core.Path.{◌≡◌, sym, ◌∙◌}
+use mathlib.Core.Path.{◌≡◌, refl, sym, ◌∙◌}
 use mathlib.Core.List.{List, [], ◌∷◌, ◌++◌}
 use mathlib.Core.Option.{Option, none}
 use Prim.Native.Nat.{◌+◌, ◌≤◌, min}
@@ -14,18 +14,17 @@ use Rattle.pauli_theory.specs.Order.{Order, equal, less, greater, no_order, part
 use Rattle.pauli_theory.specs.Common.{common_basis, common_phase, common_phases, lesser}
 use Rattle.pauli_theory.specs.WholeCommon.{or_else, if_none, paired, kept_from, whole_part, whole_common}
 use Rattle.pauli_theory.specs.WholeCommonTheorems.{Apart, WholeCommonLaw}
-use Rattle.pauli_theory.proofs.Group.{generators, all_inside, inside_join, joined_law}
+use Rattle.pauli_theory.proofs.Group.{all_inside, inside_join, joined_law}
 use Rattle.pauli_theory.proofs.Rows.{generated_on}
 use Rattle.pauli_theory.proofs.StandardLaw.{standard_law}
 use Rattle.pauli_theory.proofs.Canonical.{canonical_law}
 use Rattle.pauli_theory.proofs.Rank.{rank_le}
 use Rattle.pauli_theory.proofs.Order.{Outcome, compared}
 use Rattle.pauli_theory.proofs.Common.{cons_some_count, phases_few, common_basis_law}
-use Rattle.pauli_theory.proofs.CommonPart.{lesser_first, lesser_second, lesser_neither}
 use Rattle.pauli_theory.proofs.CommonCount.{standard_fit}
 use Rattle.pauli_theory.proofs.WholeCommon.{part_in_left, part_in_right, part_whole}
 
-pub kept_count : (f : Pauli → Option Pauli) (mul : Pauli → Pauli → Pauli) (first : Option Pauli) (ps : List Pauli)
+kept_count : (f : Pauli → Option Pauli) (mul : Pauli → Pauli → Pauli) (first : Option Pauli) (ps : List Pauli)
     → length (kept_from f mul first ps) ≤ length ps
 unfolding kept_from
 kept_count f mul first [] = omega arith
@@ -35,6 +34,28 @@ kept_count f mul first (p ∷ ps) =
 
 -- ---- the list that is returned
 module _ (gs hs : List Pauli) where
+  module _ {X : Type 0} (x y z : X) where
+    lesser_first : (o : Order) → Outcome gs hs o → Inside gs hs → lesser o x y z ≡ x
+    unfolding lesser
+    lesser_first equal c f = refl
+    lesser_first less c f = refl
+    lesser_first greater c f = absurd (c.1 f)
+    lesser_first no_order c f = absurd (c.0 f)
+
+    lesser_second : (o : Order) → Outcome gs hs o → Inside hs gs → (Inside gs hs → ⊥) → lesser o x y z ≡ y
+    unfolding lesser
+    lesser_second equal c f n = absurd (n c.there)
+    lesser_second less c f n = absurd (n c.0)
+    lesser_second greater c f n = refl
+    lesser_second no_order c f n = absurd (c.1 f)
+
+    lesser_neither : (o : Order) → Outcome gs hs o → (Inside gs hs → ⊥) → (Inside hs gs → ⊥) → lesser o x y z ≡ z
+    unfolding lesser
+    lesser_neither equal c m n = absurd (m c.there)
+    lesser_neither less c m n = absurd (m c.0)
+    lesser_neither greater c m n = absurd (n c.0)
+    lesser_neither no_order c m n = refl
+
   abbrev part : List Pauli
   part = standard (whole_part gs hs)
 
@@ -87,16 +108,16 @@ module _ (gs hs : List Pauli) where
   whole = lesser_whole _
 
   inside_left : Inside gs hs → whole_common gs hs ≡ gs
-  unfolding whole_common Honest
-  inside_left = lesser_first Promise.none Promise.none gs hs tt tt gs hs part _ outcome
+  unfolding whole_common
+  inside_left = lesser_first gs hs part _ outcome
 
   inside_right : Inside hs gs → (Inside gs hs → ⊥) → whole_common gs hs ≡ hs
-  unfolding whole_common Honest
-  inside_right = lesser_second Promise.none Promise.none gs hs tt tt gs hs part _ outcome
+  unfolding whole_common
+  inside_right = lesser_second gs hs part _ outcome
 
   else_standard : Apart gs hs → whole_common gs hs ≡ part
-  unfolding whole_common Honest
-  else_standard a = lesser_neither Promise.none Promise.none gs hs tt tt gs hs part _ outcome a.left a.right
+  unfolding whole_common
+  else_standard a = lesser_neither gs hs part _ outcome a.left a.right
 
   own_standard : Apart gs hs → standard (whole_common gs hs) ≡ whole_common gs hs
   own_standard a = rw (else_standard a) ((canonical_law part (whole_part gs hs)).same_standard (standard_law (whole_part gs hs)).generates)

@@ -8,13 +8,12 @@ use native.Mathlib.Omega.{arith}
 use lib.ListN.{length}
 use Rattle.binar.specs.Row.{◌⊕◌, dot}
 use Rattle.binar.proofs.Lists.{all_map, all_zip, all_join, all_of, map_same}
-use Rattle.pauli.specs.Roll.{write}
 use Rattle.pauli.specs.Support.{All, Rising}
 use Rattle.pauli.specs.Pauli.{Pauli, times, turned, indexed_product, phase}
-use Rattle.pauli.specs.Sets.{condense, sparse_of}
+use Rattle.pauli.specs.Sets.{condense}
 use Rattle.pauli.specs.PauliTheorems.{PauliOn}
 use Rattle.pauli.specs.Condense.{condensed}
-use Rattle.pauli.specs.Writing.{roll_over, OnPlaces}
+use Rattle.pauli.specs.Writing.{OnPlaces}
 use Rattle.pauli.proofs.condense.Places.{condense_sum, condense_dot}
 use Rattle.pauli.proofs.condense.Rows.{on_times}
 use Rattle.pauli_theory.specs.Group.{Generated, Promise, Honest}
@@ -38,7 +37,6 @@ use Rattle.pauli_theory.proofs.Phases.{phase_step_grade}
 use Rattle.pauli_theory.proofs.Membership.{membership_law}
 use Rattle.pauli_theory.proofs.Common.{variant, variant_low, phases_all, common_basis_law}
 use Rattle.pauli_theory.proofs.Placed.{condensed_on}
-use Rattle.pauli_theory.proofs.Written.{written_over}
 use Rattle.pauli_theory.proofs.ModuloPlaces.{joined}
 use Rattle.pauli_theory.proofs.CommonPlaces.{basis_places, places_basis}
 use Rattle.pauli_theory.proofs.CommonExponents.{Solved, basis_left, basis_right, solved_factorization}
@@ -116,7 +114,7 @@ module _ (gs hs : List Pauli) (p : Pauli) (u v : ℕ) (lu : u < 4) (lv : v < 4) 
       ∙ sym (if_zero_map (λ o. with_some o p) m (some e) (shared_exponent_from s t u v n (suc e)))
 
   -- the shared phase of an element, by any two exponents with which the groups contain it
-  pub phase_by_members : common_phase Promise.none Promise.none gs hs p ≡ with_some (shared_exponent s t u v) p
+  phase_by_members : common_phase Promise.none Promise.none gs hs p ≡ with_some (shared_exponent s t u v) p
   unfolding common_phase shared_exponent
   phase_by_members = member_from 4 0 (omega arith)
 
@@ -259,7 +257,7 @@ module _ (gs hs : List Pauli) (qs : List ℕ) (rises : Rising 0 qs) where
 module _ (gs hs : List Pauli) where
   -- an element over the places of the joined support, with the exponents that the two lists' solutions have
   abbrev pub noted_at : Pauli → Pauli
-  noted_at q = noted_both (exponent_in Promise.none Promise.none gs hs gs q) (exponent_in Promise.none Promise.none gs hs hs q) q
+  noted_at q = noted_both (exponent_in gs hs gs q) (exponent_in gs hs hs q) q
 
   noted_at_lem : (p : Pauli) → PauliOn (joined gs hs) p → Solved gs p → Solved hs p
       → Noted gs hs (joined gs hs) (support_rises (gs ++ hs)) (noted_at (condensed (joined gs hs) p)) p
@@ -268,7 +266,7 @@ module _ (gs hs : List Pauli) where
       let u = (indexed_product v.set gs).e in
       let t = (indexed_product w.set hs).e in
       let e = parts u t (indexed_lt v.set gs) (indexed_lt w.set hs) in
-      rw (exponent_at Promise.none Promise.none gs hs gs p on v, exponent_at Promise.none Promise.none gs hs hs p on w)
+      rw (exponent_at gs hs gs p on v, exponent_at gs hs hs p on w)
       (record {
         x = refl;
         z = refl;
@@ -317,7 +315,7 @@ module _ (gs hs : List Pauli) where
       let ks = whole_part gs hs in
       all_map (generated_on (gs ++ hs)) ks (all_inside ks (gs ++ hs) (inside_join ks gs (gs ++ hs) (part_in_left gs hs) (joined_law gs hs).left))
 
-  pub part_low : All (λ p. p.e < 4) (whole_part gs hs)
+  part_low : All (λ p. p.e < 4) (whole_part gs hs)
   unfolding whole_part phase
   part_low =
       let f = common_phase Promise.none Promise.none gs hs in
@@ -334,16 +332,8 @@ module _ (gs hs : List Pauli) where
       let qs = joined gs hs in
       ap (standard_places (length qs)) places_part ∙ standard_places_lem qs (support_rises (gs ++ hs)) (whole_part gs hs) part_on part_low
 
-  standard_on : All (PauliOn (joined gs hs)) (standard (whole_part gs hs))
+  pub standard_on : All (PauliOn (joined gs hs)) (standard (whole_part gs hs))
   standard_on =
       let ks = whole_part gs hs in
       let inside = inside_join ks gs (gs ++ hs) (part_in_left gs hs) (joined_law gs hs).left in
       all_map (generated_on (gs ++ hs)) (standard ks) (all_inside (standard ks) (gs ++ hs) (inside_join (standard ks) ks (gs ++ hs) (standard_law ks).generates.there inside))
-
-  pub places_whole_on : OnPlaces (length (joined gs hs)) (standard_places (length (joined gs hs)) whole_places)
-  places_whole_on = rw places_whole (condensed_on (joined gs hs) (standard (whole_part gs hs)))
-
-  pub written_whole : roll_over (joined gs hs) (standard_places (length (joined gs hs)) whole_places) ≡ write (map sparse_of (standard (whole_part gs hs)))
-  written_whole =
-      ap (roll_over (joined gs hs)) places_whole
-      ∙ written_over (joined gs hs) (support_rises (gs ++ hs)) (standard (whole_part gs hs)) standard_on

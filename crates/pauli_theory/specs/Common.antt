@@ -1,4 +1,4 @@
--- The common part of two groups: `bitand`, by the steps of the source.
+-- What the common part of two groups is made from, by the steps of the source. The common part itself is in WholeCommon.
 use Rattle.std.specs.Prelude.{List, [], ◌∷◌, ◌++◌, map, ℕ, zero, suc, ◌*◌, ◌%◌, ◌^◌, max, length}
 use Rattle.std.proofs.Math.Option.{Option, some, none}
 use Rattle.binar.specs.Row.{row_sum}
@@ -8,7 +8,7 @@ use Rattle.pauli.specs.Sets.{row_of, pauli_of_row}
 use Rattle.pauli_theory.specs.Group.{Promise}
 use Rattle.pauli_theory.specs.Standard.{support_of, if_zero, zero_rows, nonzero_rows, standard, phase_step}
 use Rattle.pauli_theory.specs.Membership.{Factorization, factorization_of}
-use Rattle.pauli_theory.specs.Order.{Order, equal, less, greater, no_order, partial_cmp}
+use Rattle.pauli_theory.specs.Order.{Order, equal, less, greater, no_order}
 
 -- ---- `row_space_intersection_with` of the matrices A and B, of c columns
 
@@ -61,11 +61,6 @@ unfoldable pub cons_some {ℓ} : {X : Type ℓ} → Option X → List X → List
 cons_some none xs = xs
 cons_some (some x) xs = x ∷ xs
 
--- "basis elements with no shared phase are dropped"
-unfoldable pub shared_of : Promise → Promise → List Pauli → List Pauli → List Pauli → List Pauli
-shared_of left right gs hs [] = []
-shared_of left right gs hs (p ∷ ps) = cons_some (common_phase left right gs hs p) (shared_of left right gs hs ps)
-
 -- "Its phase generators come from a hash set; ours rise": of the n exponents e, e + 1, .. those in both lists of phases, which are
 -- the multiples of a and of b
 unfoldable pub phases_from : ℕ → ℕ → ℕ → ℕ → List Pauli
@@ -75,16 +70,9 @@ phases_from a b (suc n) e = if_zero (max (e % a) (e % b)) (phase e ∷ phases_fr
 unfoldable pub common_phases : Promise → Promise → List Pauli → List Pauli → List Pauli
 common_phases left right gs hs = phases_from (phase_step left gs) (phase_step right hs) 4 0
 
-unfoldable pub common_part : Promise → Promise → List Pauli → List Pauli → List Pauli
-common_part left right gs hs = shared_of left right gs hs (common_basis gs hs) ++ common_phases left right gs hs
-
 -- `match self.partial_cmp(other)`: the lesser of the two, where they compare
 unfoldable pub lesser {ℓ} : {X : Type ℓ} → Order → X → X → X → X
 lesser equal self other x = self
 lesser less self other x = self
 lesser greater self other x = other
 lesser no_order self other x = x
-
--- "`bitand` is the common part in the crate's reading"
-unfoldable pub bitand : Promise → Promise → List Pauli → List Pauli → List Pauli
-bitand left right gs hs = lesser (partial_cmp left right gs hs) gs hs (common_part left right gs hs)

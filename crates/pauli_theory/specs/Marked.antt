@@ -9,7 +9,7 @@ use Rattle.pauli_theory.specs.Membership.{Factorization, factorization_of}
 use Rattle.pauli_theory.specs.Order.{no_order, partial_cmp}
 use Rattle.pauli_theory.specs.Modulo.{modulo}
 use Rattle.pauli_theory.specs.Symplectic.{symplectic_form}
-use Rattle.pauli_theory.specs.Common.{common_basis, common_phase, bitand}
+use Rattle.pauli_theory.specs.Common.{common_basis, common_phase}
 
 -- (e,{0},{}), (e,{},{0}) and (e,{0},{0})
 abbrev pub on_x : ℕ → Pauli
@@ -72,25 +72,12 @@ pub record Marked : Type 0 where
   pub remainder : modulo none (both_x ∷ both_z ∷ []) (both_x ∷ []) ≡ I ∷ both_z ∷ []
   -- "symplectic [X0,Z0,X1]: Z0, X0, X1"
   pub symplectic : symplectic_form (on_x 0 ∷ on_z 0 ∷ next_x ∷ []) ≡ on_z 0 ∷ on_x 0 ∷ next_x ∷ []
-  -- Document 01 marks no row of `bitand`; these show its reading.
-  -- <X> and <Z>: I
-  pub apart_common : bitand none none (on_x 0 ∷ []) (on_z 0 ∷ []) ≡ I ∷ []
-  -- <XX,ZZ> and <XX>: the lesser list as it stands
-  pub right_inside : bitand none none (both_x ∷ both_z ∷ []) (both_x ∷ []) ≡ both_x ∷ []
-  pub left_inside : bitand none none (both_x ∷ []) (both_x ∷ both_z ∷ []) ≡ both_x ∷ []
-  -- <XX,ZZ> and <XX,X1>: XX, and the phase 0
-  pub overlap_common : bitand none none (both_x ∷ both_z ∷ []) (both_x ∷ next_x ∷ []) ≡ both_x ∷ I ∷ []
-  -- <X,Z> and <-X,iI>: X, and the phases 0 and 2
-  pub phases_common : bitand none none (on_x 0 ∷ on_z 0 ∷ []) (on_x 2 ∷ phase 1 ∷ []) ≡ on_x 0 ∷ I ∷ phase 2 ∷ []
-  -- "basis elements with no shared phase are dropped": X of <X> and <-X>
+  -- Document 01 marks no row of the common part; these show what the rows of WholeMarked come of.
+  -- <X> and <-X>: the common basis is X, which has no shared phase
   pub dropped_basis : common_basis (on_x 0 ∷ []) (on_x 2 ∷ []) ≡ on_x 0 ∷ []
   pub dropped_phase : common_phase none none (on_x 0 ∷ []) (on_x 2 ∷ []) (on_x 0) ≡ Option.none
-  pub dropped_common : bitand none none (on_x 0 ∷ []) (on_x 2 ∷ []) ≡ I ∷ []
-  -- "so it may be smaller than the true one": of <X,Z> and <iX,iZ>, X and Z are dropped, but both groups have their product XZ
-  pub smaller_common : bitand none none (on_x 0 ∷ on_z 0 ∷ []) (on_x 1 ∷ on_z 1 ∷ []) ≡ I ∷ phase 2 ∷ []
+  -- XZ is in <X,Z> and in <iX,iZ>, X0X1 in <X0,X1> and in <-X0,-X1>
   pub first_has : membership_of none (on_x 0 ∷ on_z 0 ∷ []) (on_xz 0) ≡ some (record { indexes = 0 ∷ 1 ∷ []; exponent = 0 })
   pub second_has : membership_of none (on_x 1 ∷ on_z 1 ∷ []) (on_xz 0) ≡ some (record { indexes = 0 ∷ 1 ∷ []; exponent = 2 })
-  -- and of <X0,X1> and <-X0,-X1> both have XX
-  pub smaller_signs : bitand none none (on_x 0 ∷ next_x ∷ []) (on_x 2 ∷ minus_next_x ∷ []) ≡ I ∷ []
   pub first_has_both : membership_of none (on_x 0 ∷ next_x ∷ []) both_x ≡ some (record { indexes = 0 ∷ 1 ∷ []; exponent = 0 })
   pub second_has_both : membership_of none (on_x 2 ∷ minus_next_x ∷ []) both_x ≡ some (record { indexes = 0 ∷ 1 ∷ []; exponent = 0 })

@@ -3,7 +3,6 @@ use Rattle.std.specs.Prelude.{◌≡◌, ℕ, ◌+◌, ◌-◌, ◌*◌, ◌%◌
 use mathlib.Core.List.{List, ◌++◌, map, Memᴰ as Mem}
 use Rattle.std.proofs.Math.Option.{some, none}
 use Rattle.binar.specs.Space.{RowSpace, Independent, Dimension}
-use Rattle.pauli.specs.Roll.{most_paulis}
 use Rattle.pauli.specs.Support.{All}
 use Rattle.pauli.specs.Pauli.{Pauli, I, Same, times, turned, anticommute, indexed_product}
 use Rattle.pauli.specs.Sets.{row_of}
@@ -15,7 +14,8 @@ use Rattle.pauli_theory.specs.Order.{equal, less, greater, no_order, partial_cmp
 use Rattle.pauli_theory.specs.Listing.{elements_of}
 use Rattle.pauli_theory.specs.Modulo.{supports_other, modulo, try_quotient}
 use Rattle.pauli_theory.specs.Symplectic.{symplectic_form}
-use Rattle.pauli_theory.specs.Common.{common_rows, common_basis, common_phase, common_part, bitand}
+use Rattle.pauli_theory.specs.Common.{common_rows, common_basis, common_phase}
+use Rattle.pauli_theory.specs.WholeCommonTheorems.{WholeCommonLaw}
 
 -- What a list generates: the identity, its generators, products, and an inverse of each element
 pub record GeneratedLaw (gs : List Pauli) : Type 0 where
@@ -109,7 +109,6 @@ pub record PromisesLaw (left right : Promise) (gs hs : List Pauli) : Type 0 wher
   pub same_order : partial_cmp left right gs hs ≡ partial_cmp Promise.none Promise.none gs hs
   pub same_remainder : modulo right gs hs ≡ modulo Promise.none gs hs
   pub same_quotient : try_quotient left right gs hs ≡ try_quotient Promise.none Promise.none gs hs
-  pub same_common : bitand left right gs hs ≡ bitand Promise.none Promise.none gs hs
 
 -- 10. Modulo: p is g times an element of the group of hs
 pub record Coset (hs : List Pauli) (g p : Pauli) : Type 0 where
@@ -162,7 +161,7 @@ pub record CommonRowsLaw (c : ℕ) (A B : List ℕ) : Type 0 where
   pub independent : Independent (common_rows c A B)
   pub count : length (common_rows c A B) ≤ min (length A) (length B)
 
--- so do the rows of the common basis for the rows of the two lists, with any promises or none
+-- so do the rows of the common basis for the rows of the two lists
 pub record CommonBasisLaw (gs hs : List Pauli) : Type 0 where
   pub there : let rows = map (row_of (support_of (gs ++ hs))) in
       (v : ℕ) → RowSpace (rows (common_basis gs hs)) v → RowSpace (rows gs) v × RowSpace (rows hs) v
@@ -171,31 +170,14 @@ pub record CommonBasisLaw (gs hs : List Pauli) : Type 0 where
   pub independent : Independent (map (row_of (support_of (gs ++ hs))) (common_basis gs hs))
   pub count : length (common_basis gs hs) ≤ min (length (standard gs)) (length (standard hs))
   pub on_support : All (PauliOn (support_of (gs ++ hs))) (common_basis gs hs)
-  -- the common part has at most that many elements and four phases, on the same qubits, with exponents 0 to 3
-  pub part_count : (left right : Promise) → length (common_part left right gs hs) ≤ length (common_basis gs hs) + 4
-  pub part_on : (left right : Promise) → All (PauliOn (support_of (gs ++ hs))) (common_part left right gs hs)
-  pub part_values : (left right : Promise) → All (λ p. p.e < 4) (common_part left right gs hs)
-  -- what is returned keeps within the limits of a roll, if the two lists joined do
-  pub result_on : (left right : Promise) → All (PauliOn (support_of (gs ++ hs))) (bitand left right gs hs)
-  pub result_count : (left right : Promise) → length gs + length hs ≤ most_paulis → length (bitand left right gs hs) ≤ most_paulis
 
--- 14. Common part, with absent or true promises: what is returned generates a subgroup of both. It may be smaller than the true
--- common part: a Pauli is dropped exactly when no power of i times it is in both groups
-pub record CommonLaw (left right : Promise) (gs hs : List Pauli) : Type 0 where
-  pub in_left : Inside (bitand left right gs hs) gs
-  pub in_right : Inside (bitand left right gs hs) hs
-  -- of two groups of which one is inside the other it is the lesser
-  pub inside_left : Inside gs hs → bitand left right gs hs ≡ gs
-  pub inside_right : Inside hs gs → (Inside gs hs → ⊥) → bitand left right gs hs ≡ hs
-  pub else_part : (Inside gs hs → ⊥) → (Inside hs gs → ⊥) → bitand left right gs hs ≡ common_part left right gs hs
-  -- a shared phase is one in both groups
+-- the shared phase of a Pauli, with absent or true promises: it is one in both groups; and there is none exactly when no power of i
+-- times the Pauli is in both
+pub record CommonPhaseLaw (left right : Promise) (gs hs : List Pauli) : Type 0 where
   pub shared : (p q : Pauli) → common_phase left right gs hs p ≡ some q → (q.x ≡ p.x) × (q.z ≡ p.z) × Generated gs q × Generated hs q
   pub dropped : (p : Pauli) → common_phase left right gs hs p ≡ none → (k : ℕ) → Generated gs (turned k p) → Generated hs (turned k p) → ⊥
-  -- every power of i in both groups is in what is returned
-  pub phases : (k : ℕ) → Generated gs (turned k I) → Generated hs (turned k I) → Generated (bitand left right gs hs) (turned k I)
-  -- and where no basis element is dropped, it is the true common part
-  pub whole : All (λ p. common_phase left right gs hs p ≡ none → ⊥) (common_basis gs hs)
-      → (p : Pauli) → Generated gs p → Generated hs p → Generated (bitand left right gs hs) p
+
+-- 14. The common part: WholeCommonLaw, of WholeCommonTheorems
 
 -- all of these
 pub record GroupLaws : Type 0 where
@@ -218,4 +200,5 @@ pub record GroupLaws : Type 0 where
   pub symplectic_law : (gs : List Pauli) → SymplecticLaw gs
   pub common_rows_law : (c : ℕ) (A B : List ℕ) → All (λ v. v < 2 ^ c) A → All (λ v. v < 2 ^ c) B → CommonRowsLaw c A B
   pub common_basis_law : (gs hs : List Pauli) → CommonBasisLaw gs hs
-  pub common_law : (left right : Promise) (gs hs : List Pauli) → Honest left gs → Honest right hs → CommonLaw left right gs hs
+  pub common_phase_law : (left right : Promise) (gs hs : List Pauli) → Honest left gs → Honest right hs → CommonPhaseLaw left right gs hs
+  pub whole_common_law : (gs hs : List Pauli) → WholeCommonLaw gs hs

@@ -39,8 +39,8 @@ pub record WholeCommonLaw (gs hs : List Pauli) : Type 0 where
   pub part_values : All (λ p. p.e < 4) (standard (whole_part gs hs))
   pub part_few : length gs + length hs ≤ most_paulis → length (whole_part gs hs) ≤ 68
 
--- "Two crews measured X0, X1 with opposite signs on both. Their product X0X1 belongs to both groups, and the report left it out." The
--- rows that specs/Marked.antt has of `bitand`, and others
+-- "Two crews measured X0, X1 with opposite signs on both. Their product X0X1 belongs to both groups, and the report left it out." And
+-- other pairs of lists
 pub record WholeMarked : Type 0 where
   pub crews : whole_common (on_x 0 ∷ next_x ∷ []) (on_x 2 ∷ minus_next_x ∷ []) ≡ both_x ∷ []
   pub crews_have : factorization_of none (whole_common (on_x 0 ∷ next_x ∷ []) (on_x 2 ∷ minus_next_x ∷ [])) both_x ≡ some (record { indexes = 1; exponent = 0 })

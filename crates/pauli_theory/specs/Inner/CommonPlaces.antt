@@ -1,11 +1,11 @@
--- `bitand` over places: the common basis by products of Paulis over s places, and the shared phase by exponents.
-use Rattle.std.specs.Prelude.{List, [], ◌∷◌, ◌++◌, map, ℕ, zero, suc, ◌+◌, ◌-◌, ◌*◌, ◌%◌, ◌^◌, max, take, drop}
+-- The common part over places: the common basis by products of Paulis over s places, and the shared phase by exponents.
+use Rattle.std.specs.Prelude.{List, ◌++◌, map, ℕ, zero, suc, ◌+◌, ◌-◌, ◌*◌, ◌%◌, ◌^◌, max, take, drop}
 use Rattle.std.proofs.Math.Option.{Option, some, none}
 use Rattle.binar.specs.Echelon.{EchelonForm, echelon, rank}
 use Rattle.binar.specs.Solve.{transpose_solve}
 use Rattle.pauli.specs.Pauli.{Pauli, indexed_product}
 use Rattle.pauli_theory.specs.Standard.{if_zero}
-use Rattle.pauli_theory.specs.Common.{with_exponent, cons_some}
+use Rattle.pauli_theory.specs.Common.{with_exponent}
 
 -- the echelon form of Paulis over s places
 abbrev pub form_of_places : ℕ → List Pauli → EchelonForm
@@ -40,11 +40,6 @@ shared_exponent a b u v = shared_exponent_from a b u v 4 0
 unfoldable pub with_some : Option ℕ → Pauli → Option Pauli
 with_some none p = none
 with_some (some e) p = some (with_exponent e p)
-
--- each with its shared exponent, those that have none dropped
-unfoldable pub shared_with : (Pauli → Option ℕ) → List Pauli → List Pauli
-shared_with f [] = []
-shared_with f (p ∷ ps) = cons_some (with_some (f p) p) (shared_with f ps)
 
 -- the exponent of the product of the Paulis ps that a solution names
 unfoldable pub exponent_by : List Pauli → Option ℕ → ℕ
