@@ -213,9 +213,8 @@ howhiruke_answer howhiruke_try_quotient(const uint8_t *left, size_t left_len, co
                                         uint64_t left_promise, uint64_t right_promise, uint64_t *work, size_t work_len,
                                         uint8_t *out, size_t out_len);
 
-/* Writes the common part of the two groups: the smaller list where one group holds the other; else a basis of the rows that both
- * span, each with the least phase that both groups have (an element without one is dropped, so the list may be smaller than the true
- * common part), then the shared powers of i, rising. first: the roll's length. Also 12. */
+/* Writes the common part of the two groups, which is every element in both: the smaller list where one group holds the other (left's
+ * where they are equal), else its standard generators. The promises are not read. first: the roll's length. Also 12. */
 howhiruke_answer howhiruke_bitand(const uint8_t *left, size_t left_len, const uint8_t *right, size_t right_len,
                                   uint64_t left_promise, uint64_t right_promise, uint64_t *work, size_t work_len,
                                   uint8_t *out, size_t out_len);

@@ -348,6 +348,10 @@ static void common_and_report(void)
     roll bell = LIST(XX, ZZ), xx = LIST(XX), x = LIST(X), z = LIST(Z);
     listed("common part of one inside", CALL(bitand, ROLL(bell), ROLL(xx), 0, 0, WORK, OUT), LIST(XX));
     listed("common part of two apart", CALL(bitand, ROLL(x), ROLL(z), 0, 0, WORK, OUT), LIST(I));
+    pauli minus_x1 = {2, {1, E}, {E}};
+    roll crew = LIST(X, X1), other = LIST(MINUS_X, minus_x1);
+    listed("common part of two crews", CALL(bitand, ROLL(crew), ROLL(other), 0, 0, WORK, OUT), xx);
+    listed("common part, promises", CALL(bitand, ROLL(crew), ROLL(other), 2, 1, WORK, OUT), xx);
     pauli both = {0, {0, 1, E}, {0, 1, E}}, minus = {2, {0, 1, E}, {0, 1, E}}, outside = {0, {E}, {2, E}};
     roll elements = LIST(both, minus, outside);
     const char *text = "rank 2 phases 0 abelian yes\n0 member 0 1 phase 0\n1 not member\n2 not member\n";

@@ -72,7 +72,7 @@ pub extern "C" fn howhiruke_try_quotient(
     code_number(wrote)
 }
 
-// Writes the common part of the groups of two lists.
+// Writes the common part of the groups of two lists. The promises are not read.
 #[unsafe(no_mangle)]
 pub extern "C" fn howhiruke_bitand(
     left: &[u8],
@@ -82,7 +82,7 @@ pub extern "C" fn howhiruke_bitand(
     work: &mut [u64],
     out: &mut [u8],
 ) -> Answer
-    ensures { Listing (common_call (promise_numbered left_promise) (promise_numbered right_promise) left.now right.now (length work.old)) (two_lists left.now right.now (length work.old)) work.old out.old result work.new out.new }
+    ensures { Listing (common_call left.now right.now (length work.old)) (two_lists left.now right.now (length work.old)) work.old out.old result work.new out.new }
 {
     let promises = promises_of(left_promise, right_promise);
     let wrote = bitand(left, right, promises, work, out);

@@ -50,7 +50,7 @@ pub record Meeting (l r : List ℕ) (o : Told (List ℕ)) : Type 0 where
   pub wrote : Result ℕ Refusal
   pub work' : List ℕ
   pub out' : List ℕ
-  pub promised : CommonCall none none l r work out wrote work' out'
+  pub promised : CommonCall l r work out wrote work' out'
   pub area : work_words ≤ length work
   pub room : largest_roll ≤ length out
   pub told : o ≡ bytes_told wrote out'

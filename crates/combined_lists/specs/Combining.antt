@@ -33,7 +33,7 @@ checked_line l rolls words =
 -- what each single call tells of two rolls: "The rolls of a line carry no abelian promise"
 unfoldable pub single_call : Sign → List ℕ → List ℕ → Told (List ℕ)
 single_call quotient l r = quotient_call none none l r work_words
-single_call common l r = common_call none none l r work_words
+single_call common l r = common_call l r work_words
 single_call joined l r = join_of l r
 
 -- "the roll itself as a written one"; what a call has written is this already

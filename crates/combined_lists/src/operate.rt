@@ -16,12 +16,6 @@ use pauli_group::promise::{Promise, Promises};
 use pauli_group::quotient::quotient_of;
 use pauli_group::source::{Source, SourcePair};
 
-// Nothing is promised of lists that are worked out.
-const NO_PROMISES: Promises = Promises {
-    left: Promise::None,
-    right: Promise::None,
-};
-
 // Keeps the n Paulis of the further list, which are over the places of joint, in slot at.
 fn keep_further(
     n: usize,
@@ -106,7 +100,7 @@ pub(crate) fn common_slots(
     let numbers = both_numbers(slots, left);
     let pair = pair_of(slots, left, &numbers)?;
     let mut joint = Support::new();
-    match common_of(pair, NO_PROMISES, &mut joint, w) {
+    match common_of(pair, &mut joint, w) {
         Common::Left => {}
         Common::Right => slots[left] = slots[left + 1],
         Common::Further(n) => keep_further(n, &joint, w, slots, left),
@@ -126,7 +120,11 @@ pub(crate) fn quotient_slots(
     let numbers = both_numbers(slots, left);
     let pair = pair_of(slots, left, &numbers)?;
     let mut joint = Support::new();
-    let n = quotient_of(pair, NO_PROMISES, &mut joint, w)?;
+    let promises = Promises {
+        left: Promise::None,
+        right: Promise::None,
+    };
+    let n = quotient_of(pair, promises, &mut joint, w)?;
     keep_further(n, &joint, w, slots, left);
     Ok(())
 }

@@ -71,6 +71,25 @@ module _ (A B : Generators) where
       (rw (get_or-map pauli_of B.held i nothing) at
       (all_get (Generated (list A)) (list B) (pauli_of nothing) (all_inside (list B) (list A) f) i l))
 
+-- ---- comparison
+
+module _ (A B : Generators) where
+  abbrev order : Order
+  order = partial_cmp A.promise B.promise (list A) (list B)
+
+  order_is : (words : ℕ) → order_call A.promise B.promise A.roll B.roll words
+      ≡ refuse_if (ltb 128 (length A.held + length B.held)) 2 0
+      (refuse_if (ltb 128 (length (support (A.held ++ B.held)))) 7 0 (refuse_if (ltb words 4096) 9 0 (answer order)))
+  unfolding order_call two_lists read_both and_then few_qubits enough most_paulis most_qubits map_told
+  order_is words = rw (A.accepted, B.accepted) (simp map_test)
+
+  pub told_order : (c : Comparing A B) (o : Order) → told_by order_of c.found ≡ answer o → order ≡ o
+  told_order c o e =
+      let (a, h) = test_passed _ 2 0 _ o (sym (order_is (length c.work)) ∙ sym c.promised.told ∙ e) in
+      let (b, k) = test_passed _ 7 0 _ o h in
+      let (d, l) = test_passed _ 9 0 _ o k in
+      cc
+
 -- ---- the joined list
 
 module _ (A B J : Generators) (j : JoinedList A B J) where
@@ -104,33 +123,17 @@ module _ (A B J : Generators) (j : JoinedList A B J) where
   law : OrderLaw A.promise J.promise (list A) (list J)
   law = group_laws.order_law A.promise J.promise (list A) (list J) A.honest J.honest
 
-  abbrev order : Order
-  order = partial_cmp A.promise J.promise (list A) (list J)
-
-  order_is : (words : ℕ) → order_call A.promise J.promise A.roll J.roll words
-      ≡ refuse_if (ltb 128 (length A.held + length J.held)) 2 0
-      (refuse_if (ltb 128 (length (support (A.held ++ J.held)))) 7 0 (refuse_if (ltb words 4096) 9 0 (answer order)))
-  unfolding order_call two_lists read_both and_then few_qubits enough most_paulis most_qubits map_told
-  order_is words = rw (A.accepted, J.accepted) (simp map_test)
-
   module _ (c : Comparing A J) (o : Order) (e : told_by order_of c.found ≡ answer o) where
-    told_order_lem : order ≡ o
-    told_order_lem =
-        let (a, h) = test_passed _ 2 0 _ o (sym (order_is (length c.work)) ∙ sym c.promised.told ∙ e) in
-        let (b, k) = test_passed _ 7 0 _ o h in
-        let (d, l) = test_passed _ 9 0 _ o k in
-        cc
-
     pub equal_when : AllMembers A B → o ≡ equal
-    equal_when m = sym told_order_lem ∙ law.equal_only (record { there = left_inside; back = inside_left (all_members A B m) })
+    equal_when m = sym (told_order A J c o e) ∙ law.equal_only (record { there = left_inside; back = inside_left (all_members A B m) })
 
     pub equal_only : o ≡ equal → AllMembers A B
     equal_only s =
-        members_all A B (inside_join (list B) (list J) (list A) right_inside (law.equal_right (told_order_lem ∙ s)).back)
+        members_all A B (inside_join (list B) (list J) (list A) right_inside (law.equal_right (told_order A J c o e ∙ s)).back)
 
     pub else_less : (AllMembers A B → ⊥) → o ≡ less
     else_less n =
-        sym told_order_lem
+        sym (told_order A J c o e)
         ∙ law.less_only left_inside (λ f. n (members_all A B (inside_join (list B) (list J) (list A) right_inside f)))
 
   -- within the limits of demand 3, A and the joined list are within those of a comparison
@@ -152,8 +155,8 @@ module _ (A B J : Generators) (j : JoinedList A B J) where
     pub comparing_told : (o : Order) × ((c : Comparing A J) → told_by order_of c.found ≡ if_area c.work (answer o))
     unfolding if_area
     comparing_told = (
-      order,
-      λ c. c.promised.told ∙ order_is (length c.work)
+      order A J,
+      λ c. c.promised.told ∙ order_is A J (length c.work)
           ∙ test_pass _ 2 0 _ (le-ltb 128 (length A.held + length J.held) count_few)
           ∙ test_pass _ 7 0 _ (le-ltb 128 (length (support (A.held ++ J.held))) qubits_few),
     )

@@ -27,7 +27,7 @@ roll_of A = map sparse_of (standard (list A))
 
 -- ---- the calls
 
-told_test : (t : Bool) (bs out : List ℕ)
+pub told_test : (t : Bool) (bs out : List ℕ)
     → told_bytes (refuse_if t 9 0 (answer bs)) out ≡ refuse_if t 9 0 (if_room out (length bs) (length bs))
 unfolding told_bytes refuse_if if_room
 told_test true bs out = refl
@@ -46,7 +46,7 @@ module _ (A : Generators) where
         ∙ told_test (ltb (length c.work) 4096) (write (roll_of A)) c.out,
   )
 
-  bytes_are : (c : Standardized A) (n : ℕ) → told_of c.wrote ≡ answer n → take n c.out' ≡ write (roll_of A)
+  pub bytes_are : (c : Standardized A) (n : ℕ) → told_of c.wrote ≡ answer n → take n c.out' ≡ write (roll_of A)
   bytes_are c n e =
       let (bs, s, front) = told_bytes_lem (standard_generators A.roll (length c.work)) c.out n (sym c.promised.told ∙ e) in
       let (area, h) = test_passed _ 9 0 _ bs (sym (call_is (length c.work)) ∙ s) in

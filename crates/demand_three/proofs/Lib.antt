@@ -4,5 +4,6 @@ pub mod DemandJoined
 pub mod DemandStandard
 pub mod DemandThree
 pub mod ReadBack
+pub mod CommonDemand
 pub mod ManyElements
 pub mod Sizes

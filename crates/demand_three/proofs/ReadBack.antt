@@ -20,7 +20,7 @@ use Rattle.pauli_theory.specs.Standard.{support_of, standard}
 use Rattle.pauli_theory.specs.Listing.{largest_page, page_size, elements_of, page}
 use Rattle.pauli_theory.specs.Symplectic.{symplectic_form}
 use Rattle.pauli_theory.specs.Modulo.{modulo, try_quotient}
-use Rattle.pauli_theory.specs.Common.{bitand}
+use Rattle.pauli_theory.specs.WholeCommon.{whole_common}
 use Rattle.pauli_theory.proofs.ListingTheorems.{listing_laws}
 use Rattle.pauli_theory.proofs.Theorems.{group_laws}
 use Rattle.pauli_group.specs.WorkArea.{enough}
@@ -123,12 +123,12 @@ read_back = record {
       subst (λ (b : List ℕ). Holds b (modulo right (paulis ps) (paulis qs))) (ap (modulo_bytes right) (sym B.is) ∙ made)
       (modulo_holds l r ps qs el er B.fit right);
   try_quotient = quotient_back;
-  bitand = λ left right l r work out wrote work' out' ps qs c el er n t.
-      call_holds (common_call left right l r (length work)) out wrote out' n c.told c.written t (bitand left right (paulis ps) (paulis qs)) λ bs s.
-      let (given, two, made) = map_answer (common_bytes left right) (two_lists l r (length work)) bs s in
+  bitand = λ l r work out wrote work' out' ps qs c el er n t.
+      call_holds (common_call l r (length work)) out wrote out' n c.told c.written t (whole_common (paulis ps) (paulis qs)) λ bs s.
+      let (given, two, made) = map_answer common_bytes (two_lists l r (length work)) bs s in
       let B = both_are l r ps qs el er (length work) given two in
-      subst (λ (b : List ℕ). Holds b (bitand left right (paulis ps) (paulis qs))) (ap (common_bytes left right) (sym B.is) ∙ made)
-      (common_holds l r ps qs el er B.fit left right);
+      subst (λ (b : List ℕ). Holds b (whole_common (paulis ps) (paulis qs))) (ap common_bytes (sym B.is) ∙ made)
+      (common_holds l r ps qs el er B.fit);
   joining = joining_read_back;
   product = product_read_back;
 }

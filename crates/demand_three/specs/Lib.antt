@@ -1,4 +1,5 @@
 pub mod DemandThree
 pub mod ReadBack
+pub mod CommonDemand
 pub mod ManyElements
 pub mod Sizes

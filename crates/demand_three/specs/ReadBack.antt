@@ -12,7 +12,7 @@ use Rattle.pauli_theory.specs.Standard.{standard}
 use Rattle.pauli_theory.specs.Listing.{elements_of, page}
 use Rattle.pauli_theory.specs.Symplectic.{symplectic_form}
 use Rattle.pauli_theory.specs.Modulo.{modulo, try_quotient}
-use Rattle.pauli_theory.specs.Common.{bitand}
+use Rattle.pauli_theory.specs.WholeCommon.{whole_common}
 use Rattle.pauli_group.specs.Calls.{paulis}
 use Rattle.pauli_group.specs.CallContracts.{StandardCall, SymplecticCall, ElementsCall, ModuloCall, QuotientCall, CommonCall}
 use Rattle.pauli.specs.declared.refusal.Refusal.{Refusal}
@@ -39,8 +39,8 @@ pub record ReadBack : Type 0 where
       → QuotientCall left right l r work out wrote work' out' → read l ≡ answer ps → read r ≡ answer qs
       → (n : ℕ) → told_of wrote ≡ answer n
       → (rs : List Pauli) × (try_quotient left right (paulis ps) (paulis qs) ≡ some rs) × Holds (take n out') rs
-  pub bitand : (left right : Promise) (l r work out : List ℕ) (wrote : Result ℕ Refusal) (work' out' : List ℕ) (ps qs : List Sparse)
-      → CommonCall left right l r work out wrote work' out' → read l ≡ answer ps → read r ≡ answer qs
-      → WroteHolds wrote out' (bitand left right (paulis ps) (paulis qs))
+  pub bitand : (l r work out : List ℕ) (wrote : Result ℕ Refusal) (work' out' : List ℕ) (ps qs : List Sparse)
+      → CommonCall l r work out wrote work' out' → read l ≡ answer ps → read r ≡ answer qs
+      → WroteHolds wrote out' (whole_common (paulis ps) (paulis qs))
   pub joining : JoiningReadBack
   pub product : ProductReadBack

@@ -66,7 +66,8 @@ pub record QuotientCall (left right : Promise) (l r work out : List ℕ) (wrote 
   pub written : out' ≡ left_in (quotient_call left right l r (length work)) out
   pub area : work' ≡ area_after (two_lists l r (length work)) work
 
-pub record CommonCall (left right : Promise) (l r work out : List ℕ) (wrote : Result ℕ Refusal) (work' out' : List ℕ) : Type 0 where
-  pub told : told_of wrote ≡ told_bytes (common_call left right l r (length work)) out
-  pub written : out' ≡ left_in (common_call left right l r (length work)) out
+-- promises are not read
+pub record CommonCall (l r work out : List ℕ) (wrote : Result ℕ Refusal) (work' out' : List ℕ) : Type 0 where
+  pub told : told_of wrote ≡ told_bytes (common_call l r (length work)) out
+  pub written : out' ≡ left_in (common_call l r (length work)) out
   pub area : work' ≡ area_after (two_lists l r (length work)) work

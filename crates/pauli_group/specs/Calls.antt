@@ -18,7 +18,7 @@ use Rattle.pauli_theory.specs.Symplectic.{symplectic_form}
 use Rattle.pauli_group.specs.WorkArea.{enough}
 use Rattle.pauli_theory.specs.Modulo.{modulo, try_quotient}
 use Rattle.pauli_theory.specs.Order.{Order, partial_cmp}
-use Rattle.pauli_theory.specs.Common.{bitand}
+use Rattle.pauli_theory.specs.WholeCommon.{whole_common}
 
 -- "A list is the Paulis of a roll in its order"
 unfoldable pub paulis : List Sparse → List Pauli
@@ -171,9 +171,10 @@ quotient_bytes none = refused 11 0
 unfoldable pub quotient_call : Promise → Promise → List ℕ → List ℕ → ℕ → Told (List ℕ)
 quotient_call left right l r words = and_then (two_lists l r words) λ b. quotient_bytes (try_quotient left right b.left b.right)
 
--- "`bitand` is the common part in the crate's reading"
-unfoldable pub common_bytes : Promise → Promise → Pair → List ℕ
-common_bytes left right b = list_bytes (bitand left right b.left b.right)
+-- "the common part is every element that is a member of both, and nothing else"
+unfoldable pub common_bytes : Pair → List ℕ
+common_bytes b = list_bytes (whole_common b.left b.right)
 
-unfoldable pub common_call : Promise → Promise → List ℕ → List ℕ → ℕ → Told (List ℕ)
-common_call left right l r words = map_told (common_bytes left right) (two_lists l r words)
+-- "Abelian promises of both lists are set aside in this operation"
+unfoldable pub common_call : List ℕ → List ℕ → ℕ → Told (List ℕ)
+common_call l r words = map_told common_bytes (two_lists l r words)

@@ -11,3 +11,4 @@ pub mod Shared
 pub mod Kept
 pub mod Sources
 pub mod Further
+pub mod Whole

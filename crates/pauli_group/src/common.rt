@@ -1,54 +1,51 @@
 // The call for the common part.
-ghost use Rattle.std.specs.Prelude.{◌≡◌, ℕ, IfSome, List, ◌+◌, ◌*◌, ◌^◌, ◌<◌, ◌≤◌, ◌++◌, length, slice_index};
+ghost use Rattle.std.specs.Prelude.{◌≡◌, ℕ, IfSome, List, ◌+◌, ◌*◌, ◌^◌, ◌<◌, ◌≤◌, ◌++◌, length};
 ghost use Rattle.std.specs.List.{AllWithin};
 ghost use Rattle.pauli.specs.Support.{All};
 ghost use Rattle.pauli.specs.Told.{answer};
 ghost use Rattle.pauli.specs.Condense.{list_of};
 ghost use Rattle.pauli.specs.Signed.{held, pauli_in, list_in};
 ghost use Rattle.pauli.specs.Writing.{OnPlaces, told_bytes, left_in};
-ghost use Rattle.pauli_theory.specs.Standard.{support_of, phase_step};
-ghost use Rattle.pauli_theory.specs.Common.{with_exponent, phases_from, common_part, bitand};
+ghost use Rattle.pauli_theory.specs.Group.{none};
+ghost use Rattle.pauli_theory.specs.Standard.{support_of, standard, phase_step};
+ghost use Rattle.pauli_theory.specs.Common.{phases_from};
+ghost use Rattle.pauli_theory.specs.WholeCommon.{whole_part, whole_common};
 ghost use Rattle.pauli_theory.specs.Inner.CommonPlaces.{shared_exponent};
-ghost use Rattle.pauli_group.specs.Inner.Area.{target_at, further_at, stride_of, Outside};
+ghost use Rattle.pauli_group.specs.Inner.Area.{target_at, list_at, further_at, stride_of, Outside};
 ghost use Rattle.pauli_group.specs.WorkArea.{cleared};
 ghost use Rattle.pauli_group.specs.Inner.Lists.{step_told, found};
 ghost use Rattle.pauli_group.specs.Calls.{paulis, list_bytes, common_bytes};
-ghost use Rattle.pauli_group.specs.Promises.{promise_of};
 ghost use Rattle.pauli_group.specs.CallContracts.{CommonCall};
 ghost use Rattle.pauli_group.specs.Inner.Further.{FurtherHas, CommonIs, SomeCommon};
 ghost use Rattle.pauli_group.specs.Inner.Sources.{listed};
 ghost use Rattle.pauli_group.specs.Inner.Moved.{MovablePauli};
-ghost use Rattle.pauli_group.specs.Inner.Shared.{Solving, exponent_over, exponent_for, NotedBy, shared_at};
+ghost use Rattle.pauli_group.specs.Inner.Shared.{Joint, Solving, exponent_over, exponent_for, NotedBy};
+ghost use Rattle.pauli_group.specs.Inner.Whole.{whole_over};
 ghost use Rattle.pauli.specs.Refusals.{told_of};
 
 use crate::answers::Phases;
-use crate::area::{FURTHER, Span, WORK_WORDS, area_of, clear};
+use crate::area::{FURTHER, LIST, Span, WORK_WORDS, area_of, clear};
 use crate::basis::common_basis;
 use crate::checks::check_pair;
 use crate::further::write_further;
-use crate::group::{Group, group_of};
+use crate::group::{Group, build, group_of};
+use crate::list::copy_list;
 use crate::member::solve;
 use crate::moved::move_pauli;
+use crate::noted::Exponents;
 use crate::order::order_of;
 use crate::promise::{Promise, Promises};
 use crate::scan::put_phase;
 use crate::source::{Source, SourcePair};
 use crate::standard::signs_of;
+use crate::whole::keep_whole;
 use pauli::joined::Pair;
 use pauli::refusal::Refusal;
 use pauli::roll::MOST_PAULIS;
-use pauli::signed::{Pauli, indexed_product, load, store};
+use pauli::signed::{indexed_product, load};
 use pauli::support::Support;
 use pauli::write::write_roll;
 use std::cmp::Ordering;
-
-// The phases of a group, and for each Pauli of the further list the exponent of the product of generators that solves for it.
-#[derive(Drop)]
-struct Exponents {
-    phases: Phases,
-    by: [u8; MOST_PAULIS],
-    ghost low: { AllWithin (λ e. e < 4) by 0 128 },
-}
 
 // The exponent of the product of those generators of a group that solve for the Pauli at word at; the group is over the places of
 // own, the Pauli over those of joint.
@@ -89,21 +86,15 @@ fn note_exponents(
 }
 
 // Notes for each of the m Paulis of the further list the exponent by the group of a list; tells its phases too.
-fn note_by(
-    source: Source,
-    promise: Promise,
-    joint: &[u32],
-    w: &mut [u64; WORK_WORDS],
-    m: usize,
-) -> Exponents
+fn note_by(source: Source, joint: &[u32], w: &mut [u64; WORK_WORDS], m: usize) -> Exponents
     requires { (m ≤ 128) × OnPlaces (length joint.now) (list_in w.old further_at m) × All (MovablePauli joint.now (support_of (listed source))) (list_in w.old further_at m) }
-    ensures step { step_told result.phases ≡ phase_step (promise_of promise) (listed source.entry) }
+    ensures step { step_told result.phases ≡ phase_step none (listed source.entry) }
     ensures by { NotedBy (exponent_for joint.now (listed source.entry)) result.by m w.old }
     ensures rest { Outside 0 further_at w.old w.new }
 {
     let mut known = Support::new();
     let group = group_of(source, &mut known, w);
-    let signs = signs_of(group.standards().paulis(w), promise);
+    let signs = signs_of(group.standards().paulis(w), Promise::None);
     let by = note_exponents(w, m, group, known.qubits(), joint);
     Exponents {
         phases: signs.phases,
@@ -112,7 +103,7 @@ fn note_by(
 }
 
 // The first exponent that is, less u, a phase of the first group and, less v, of the second.
-fn shared_exponent(first: Phases, second: Phases, u: u8, v: u8) -> Option<u8>
+pub(crate) fn shared_exponent(first: Phases, second: Phases, u: u8, v: u8) -> Option<u8>
     requires { (u < 4) × (v < 4) }
     ensures below { IfSome result (λ e. e < 4) }
     ensures first { found result ≡ shared_exponent (step_told first) (step_told second) u v }
@@ -122,35 +113,6 @@ fn shared_exponent(first: Phases, second: Phases, u: u8, v: u8) -> Option<u8>
     (0u8..4).find(|e| {
         (e.wrapping_sub(u) % 4) as u64 % a + (e.wrapping_sub(v) % 4) as u64 % b == 0
     })
-}
-
-// p with this exponent.
-fn with_exponent(e: u8, p: Pauli) -> Pauli
-    ensures { held result ≡ with_exponent e (held p) }
-{
-    Pauli { exponent: e, ..p }
-}
-
-// Keeps those Paulis of a list whose exponents by the two groups have a shared one, with it, at its front; tells how many.
-fn keep_shared(
-    w: &mut [u64; WORK_WORDS],
-    list: Span,
-    first: &Exponents,
-    second: &Exponents,
-) -> usize
-    requires { list.count ≤ 128 }
-    ensures few { result ≤ list.count }
-    ensures list { list_in w.new list.base result ≡ shared_at (λ i. shared_exponent (step_told first.now.phases) (step_told second.now.phases) (slice_index first.now.by i) (slice_index second.now.by i)) w.old list.base list.count }
-{
-    let mut kept = 0;
-    for i in 0..list.count {
-        if let Some(e) = shared_exponent(first.phases, second.phases, first.by[i], second.by[i]) {
-            let p = load(w, list.base + 5 * i);
-            store(w, list.base + 5 * kept, with_exponent(e, p));
-            kept += 1;
-        }
-    }
-    kept
 }
 
 // Appends to the Paulis of a list the powers of i that are phases of both groups; tells how many there are then.
@@ -179,42 +141,48 @@ pub enum Common {
     Further(usize),
 }
 
-// Leaves the common part of the groups of two lists, neither inside the other, in the further list, over the places of their joint
-// support, which it leaves in known; tells how many Paulis it has.
-fn part_of(
-    pair: SourcePair,
-    promises: Promises,
-    known: &mut Support,
-    w: &mut [u64; WORK_WORDS],
-) -> usize
-    ensures { FurtherHas known.new (common_part (promise_of promises.left) (promise_of promises.right) (listed pair.entry.left) (listed pair.entry.right)) w.new result }
+// Puts at the generators' place, over the places of their joint support, generators of the common part of the groups of two lists;
+// tells how many there are.
+fn put_part(pair: SourcePair, joint: &[u32], w: &mut [u64; WORK_WORDS]) -> usize
+    requires { Joint (listed pair.left) (listed pair.right) joint.now }
+    ensures few { result ≤ 68 }
+    ensures list { list_in w.new list_at result ≡ whole_over (listed pair.entry.left) (listed pair.entry.right) }
+{
+    let m = common_basis(pair, joint, w);
+    let first = note_by(pair.left, joint, w, m);
+    let second = note_by(pair.right, joint, w, m);
+    let kept = Span::at(LIST, keep_whole(w, m, &first, &second));
+    append_phases(w, kept, first.phases, second.phases)
+}
+
+// Leaves the standard generators of the common part of the groups of two lists in the further list, over the places of their joint
+// support, which it leaves in known; tells how many there are.
+fn part_of(pair: SourcePair, known: &mut Support, w: &mut [u64; WORK_WORDS]) -> usize
+    ensures { FurtherHas known.new (standard (whole_part (listed pair.entry.left) (listed pair.entry.right))) w.new result }
 {
     *known = pair.support();
     let joint = known.qubits();
-    let m = common_basis(pair, joint, w);
-    let first = note_by(pair.left, promises.left, joint, w, m);
-    let second = note_by(pair.right, promises.right, joint, w, m);
-    let basis = Span::at(FURTHER, m);
-    let shared = Span::at(FURTHER, keep_shared(w, basis, &first, &second));
-    append_phases(w, shared, first.phases, second.phases)
+    let n = put_part(pair, joint, w);
+    let group = build(w, n, joint.len());
+    copy_list(w, group.standards(), FURTHER);
+    group.total
 }
 
 // The common part of the groups of two lists: the lesser of the two, where they compare. Else it is left in the further list, over
 // the places of their joint support, which is left in known.
-pub fn common_of(
-    pair: SourcePair,
-    promises: Promises,
-    known: &mut Support,
-    w: &mut [u64; WORK_WORDS],
-) -> Common
-    ensures { CommonIs (listed pair.entry.left) (listed pair.entry.right) (bitand (promise_of promises.left) (promise_of promises.right) (listed pair.entry.left) (listed pair.entry.right)) known.new w.new result }
+pub fn common_of(pair: SourcePair, known: &mut Support, w: &mut [u64; WORK_WORDS]) -> Common
+    ensures { CommonIs (listed pair.entry.left) (listed pair.entry.right) (whole_common (listed pair.entry.left) (listed pair.entry.right)) known.new w.new result }
 {
+    let promises = Promises {
+        left: Promise::None,
+        right: Promise::None,
+    };
     match order_of(pair, promises, w) {
         Some(lesser) => match lesser {
             Ordering::Equal | Ordering::Less => Common::Left,
             Ordering::Greater => Common::Right,
         },
-        None => Common::Further(part_of(pair, promises, known, w)),
+        None => Common::Further(part_of(pair, known, w)),
     }
 }
 
@@ -252,23 +220,18 @@ fn write_part(
 }
 
 // Writes the common part of two rolls that can be joined, and clears the work area.
-fn write_common(
-    pair: Pair,
-    promises: Promises,
-    w: &mut [u64; WORK_WORDS],
-    out: &mut [u8],
-) -> Result<usize, Refusal>
-    ensures told { told_of result ≡ told_bytes (answer (common_bytes (promise_of promises.left) (promise_of promises.right) (record { left = paulis (list_of pair.entry.left.bytes.now); right = paulis (list_of pair.entry.right.bytes.now) }))) out.old }
-    ensures left { out.new ≡ left_in (answer (common_bytes (promise_of promises.left) (promise_of promises.right) (record { left = paulis (list_of pair.entry.left.bytes.now); right = paulis (list_of pair.entry.right.bytes.now) }))) out.old }
+fn write_common(pair: Pair, w: &mut [u64; WORK_WORDS], out: &mut [u8]) -> Result<usize, Refusal>
+    ensures told { told_of result ≡ told_bytes (answer (common_bytes (record { left = paulis (list_of pair.entry.left.bytes.now); right = paulis (list_of pair.entry.right.bytes.now) }))) out.old }
+    ensures left { out.new ≡ left_in (answer (common_bytes (record { left = paulis (list_of pair.entry.left.bytes.now); right = paulis (list_of pair.entry.right.bytes.now) }))) out.old }
     ensures area { w.new ≡ cleared w.old }
 {
     let lists = SourcePair::rolled(pair);
     let mut joint = Support::new();
-    let part = common_of(lists, promises, &mut joint, w);
+    let part = common_of(lists, &mut joint, w);
     write_part(part, lists, joint.qubits(), w, out)
 }
 
-// Writes the common part of the groups of two lists as a roll: each may have a promise, and the two joined have none.
+// Writes the common part of the groups of two lists as a roll. Each may have a promise, which is not read.
 pub fn bitand(
     left: &[u8],
     right: &[u8],
@@ -276,8 +239,8 @@ pub fn bitand(
     work: &mut [u64],
     out: &mut [u8],
 ) -> Result<usize, Refusal>
-    ensures { CommonCall (promise_of promises.left) (promise_of promises.right) left.now right.now work.old out.old result work.new out.new }
+    ensures { CommonCall left.now right.now work.old out.old result work.new out.new }
 {
     let pair = check_pair(left, right, work.len())?;
-    write_common(pair, promises, area_of(work), out)
+    write_common(pair, area_of(work), out)
 }

@@ -56,7 +56,7 @@ pub struct Description {
 
 // Makes the form and the standard generators of the n generators over s places.
 // `OnPlaces` is a fact of the words in the area, which the next store may change: no value carries it.
-fn build(w: &mut [u64; WORK_WORDS], n: usize, s: usize) -> Group
+pub(crate) fn build(w: &mut [u64; WORK_WORDS], n: usize, s: usize) -> Group
     requires { (n ≤ 128) × (s ≤ 128) × OnPlaces s (list_in w.old list_at n) }
     ensures built { Built w.old n s w.new result.rank result.total }
     ensures count { result.count ≡ n }

@@ -6,7 +6,7 @@
 pub mod promise;
 // Where the work area holds what, the words of it that a call uses, the lists in it, and how it is cleared.
 pub mod area;
-// Lists of Paulis read into the area.
+// Lists of Paulis read into the area, and copied in it.
 pub mod list;
 // Lists of Paulis kept in words.
 pub mod kept;
@@ -48,5 +48,9 @@ pub mod modulo;
 pub mod quotient;
 // The common basis of two groups.
 pub(crate) mod basis;
+// Exponents noted for the elements of the common basis.
+pub(crate) mod noted;
+// The elements of the common basis that the common part is made of.
+pub(crate) mod whole;
 // The call for the common part.
 pub mod common;

@@ -16,7 +16,7 @@ ghost use Rattle.pauli.specs.Refusals.{told_of};
 
 use crate::area::{FURTHER, LIST, STANDARD, Span, WORK_WORDS, area_of, clear};
 use crate::checks::check_list;
-use crate::list::read_list;
+use crate::list::{copy_list, read_list};
 use pauli::refusal::Refusal;
 use pauli::roll::Roll;
 use pauli::signed::{Pauli, load, store};
@@ -99,19 +99,6 @@ fn pair_last(w: &mut [u64; WORK_WORDS], p: Pairing) -> Pairing
         left: m - 1,
         conjugate: p.conjugate + 2,
         commuting: p.commuting,
-    }
-}
-
-// Copies the Paulis of a list to word to, each by its value: a copy of the words would keep their exponents as they stand.
-// A loop of its own: one over a closure would tell what the closure's relation says, to be turned back into this equation.
-fn copy_list(w: &mut [u64; WORK_WORDS], from: Span, to: usize)
-    requires { to + 5 * from.count ≤ from.base }
-    ensures list { list_in w.new to from.count ≡ map normal (list_in w.old from.base from.count) }
-    ensures rest { Outside to (5 * from.count) w.old w.new }
-{
-    for i in 0..from.count {
-        let p = load(w, from.base + 5 * i);
-        store(w, to + 5 * i, p);
     }
 }
 

@@ -552,8 +552,8 @@ pub fn try_quotient(
     on_two(calls::howhiruke_try_quotient, left, right, left_promise, right_promise, work, out)
 }
 
-/// Writes the common part of the groups of `left` and `right`, which may come out smaller than it is (docs/REFERENCE.md says when); the roll's
-/// length. Reasons 1 to 7, 9, 12; 2 and 7 also joined.
+/// Writes the common part of the groups of `left` and `right`, every element in both: the smaller list where one group holds the other, else
+/// its standard generators; the roll's length. The promises are not read. Reasons 1 to 7, 9, 12; 2 and 7 also joined.
 pub fn bitand(
     left: &[u8],
     right: &[u8],

@@ -170,6 +170,8 @@ fn common_part() {
     let common = |l: &[u8], r: &[u8]| written(|w, o| bitand(l, r, none, none, w, o));
     assert_eq!(common(&roll(&[XX, ZZ]), &roll(&[XX])), Ok(roll(&[XX])));
     assert_eq!(common(&roll(&[X]), &roll(&[Z])), Ok(roll(&[I])));
+    let crews = (roll(&[X, X1]), roll(&[MINUS_X, (2, &[1], &[])]));
+    assert_eq!(common(&crews.0, &crews.1), Ok(roll(&[XX])));
 }
 
 #[test]

@@ -19,11 +19,11 @@ use Rattle.pauli.proofs.join.ReadBack.{paulis_by_value}
 use Rattle.pauli.proofs.roll.Checks.{AllowedSets}
 use Rattle.pauli.proofs.roll.RollLaws.{answer_parts}
 use Rattle.pauli.proofs.roll.Told.{refused_none, test_passed, map_test}
-use Rattle.pauli_theory.specs.Common.{bitand}
 use Rattle.pauli_theory.specs.Group.{none}
 use Rattle.pauli_theory.specs.Modulo.{try_quotient}
 use Rattle.pauli_theory.specs.Standard.{support_of}
-use Rattle.pauli_theory.proofs.ByValue.{values_twice, support_value, common_value, quotient_value, quotient_values}
+use Rattle.pauli_theory.specs.WholeCommon.{whole_common}
+use Rattle.pauli_theory.proofs.ByValue.{values_twice, support_value, quotient_value, quotient_values, whole_value}
 use Rattle.pauli_theory.proofs.Written.{support_of_lem}
 use Rattle.pauli_group.specs.Calls.{paulis, list_bytes, Pair, two_lists, quotient_bytes, quotient_call, common_bytes, common_call}
 use Rattle.pauli_group.specs.Inner.Sources.{joinable}
@@ -167,9 +167,9 @@ module _ (b c : List ℕ) (ps qs : List Sparse) (eb : read b ≡ answer ps) (ec 
       ∙ ap (limited many wide) (subgroup_told (try_quotient none none gs hs) ∙ ap (λ o. map_told list_bytes (if_subgroup o)) (sym (quotient_value none none gs hs)))
       ∙ sym (ap (map_told list_bytes) (joinable_is (if_subgroup (try_quotient none none x y))) ∙ map_limited many wide list_bytes (if_subgroup (try_quotient none none x y)))
   lists_told common =
-      ap (map_told (common_bytes none none)) two_limited ∙ map_limited many wide (common_bytes none none) (answer (record { left = gs; right = hs }))
-      ∙ ap (λ (us : List ℕ). limited many wide (answer us)) (sym (ap list_bytes (common_value gs hs none none) ∙ written_twice (bitand none none gs hs)))
-      ∙ sym (ap (map_told list_bytes) (joinable_is (answer (bitand none none x y))) ∙ map_limited many wide list_bytes (answer (bitand none none x y)))
+      ap (map_told common_bytes) two_limited ∙ map_limited many wide common_bytes (answer (record { left = gs; right = hs }))
+      ∙ ap (λ (us : List ℕ). limited many wide (answer us)) (sym (ap list_bytes (whole_value gs hs) ∙ written_twice (whole_common gs hs)))
+      ∙ sym (ap (map_told list_bytes) (joinable_is (answer (whole_common x y))) ∙ map_limited many wide list_bytes (answer (whole_common x y)))
   lists_told joined =
       join_is b c ps qs eb ec ∙ ap (λ (us : List ℕ). limited many wide (answer us)) (sym joined_written)
       ∙ sym (ap (map_told list_bytes) (joinable_is (answer (x ++ y))) ∙ map_limited many wide list_bytes (answer (x ++ y)))
@@ -194,11 +194,11 @@ module _ (b c : List ℕ) (ps qs : List Sparse) (eb : read b ≡ answer ps) (ec 
       let same : try_quotient none none gs hs ≡ some z = sym (quotient_value none none gs hs) ∙ subgroup_some (try_quotient none none x y) z f in
       subst (Reads (list_bytes z)) (quotient_values none none gs hs z same) (reads_held (list_bytes z) z (quotient_holds b c ps qs eb ec fit none none z same))
   result_reads common z e =
-      let (fit, f) = limits_met (answer (bitand none none x y)) z e in
-      let same : map normal (bitand none none gs hs) ≡ z = sym (common_value gs hs none none) ∙ cc in
+      let (fit, f) = limits_met (answer (whole_common x y)) z e in
+      let same : map normal (whole_common gs hs) ≡ z = sym (whole_value gs hs) ∙ cc in
       subst (λ us. Reads (list_bytes us) us) same
-      (subst (λ us. Reads us (map normal (bitand none none gs hs))) (sym (written_twice (bitand none none gs hs)))
-      (reads_held (list_bytes (bitand none none gs hs)) (bitand none none gs hs) (common_holds b c ps qs eb ec fit none none)))
+      (subst (λ us. Reads us (map normal (whole_common gs hs))) (sym (written_twice (whole_common gs hs)))
+      (reads_held (list_bytes (whole_common gs hs)) (whole_common gs hs) (common_holds b c ps qs eb ec fit)))
   result_reads joined z e =
       let (fit, f) = limits_met (answer (x ++ y)) z e in
       let same : x ++ y ≡ z = cc in

@@ -90,7 +90,7 @@ two_read l r words given e = both_read l r _ given e
 single_read : (s : Sign) (l r bs : List ℕ) → single_call s l r ≡ answer bs → BothRead l r
 unfolding single_call quotient_call common_call join_of joined_of
 single_read quotient l r bs e = let (given, two, next) = answered (two_lists l r work_words) _ bs e in two_read l r work_words given two
-single_read common l r bs e = let (given, two, made) = map_answer (common_bytes none none) (two_lists l r work_words) bs e in two_read l r work_words given two
+single_read common l r bs e = let (given, two, made) = map_answer common_bytes (two_lists l r work_words) bs e in two_read l r work_words given two
 single_read joined l r bs e = let (ps, joins, made) = map_answer write (joined_of l r) bs e in both_read l r _ ps joins
 
 single_short : (s : Sign) (l r bs : List ℕ) → single_call s l r ≡ answer bs → length bs ≤ largest_roll
@@ -113,7 +113,7 @@ single_told quotient l r o c =
     ∙ bytes_told_is (single_call quotient l r) c.wrote c.out c.out' (c.promised.told ∙ ap (λ t. told_bytes t c.out) same) (c.promised.written ∙ ap (λ t. left_in t c.out) same)
     c.room (single_short quotient l r)
 single_told common l r o c =
-    let same = ap (map_told (common_bytes none none)) (two_same l r (length c.work) c.area) in
+    let same = ap (map_told common_bytes) (two_same l r (length c.work) c.area) in
     c.told
     ∙ bytes_told_is (single_call common l r) c.wrote c.out c.out' (c.promised.told ∙ ap (λ t. told_bytes t c.out) same) (c.promised.written ∙ ap (λ t. left_in t c.out) same)
     c.room (single_short common l r)

@@ -13,10 +13,10 @@ use Rattle.pauli.specs.Told.{Told, answer, refused, refuse_if}
 use Rattle.pauli.specs.declared.refusal.Refusal.{Refusal}
 use Rattle.pauli.specs.declared.roll.Roll.{Roll}
 use Rattle.pauli.proofs.signed.SignedLaws.{length_paulis}
-use Rattle.pauli_theory.specs.Common.{bitand}
+use Rattle.pauli_theory.specs.WholeCommon.{whole_common}
 use Rattle.pauli_theory.specs.Group.{none}
 use Rattle.pauli_theory.specs.Modulo.{modulo, try_quotient}
-use Rattle.pauli_theory.proofs.ByValue.{values_twice, common_few, common_values, modulo_few, modulo_values}
+use Rattle.pauli_theory.proofs.ByValue.{values_twice, whole_few, whole_values, modulo_few, modulo_values}
 use Rattle.pauli_group.specs.Inner.Area.{further_at}
 use Rattle.pauli_group.specs.Inner.Further.{FurtherHas}
 use Rattle.pauli_group.specs.Inner.Sources.{listed, joinable}
@@ -151,9 +151,9 @@ module _ {pair : SourcePair} {x y : List Pauli} (j : Joins pair x y) where
   at_lists : (P : List Pauli → List Pauli → Type 0) → P (listed pair.left) (listed pair.right) → P x y
   at_lists P p = rw (← j.left, ← j.right) p
 
-  common_told : on_lists common x y ≡ answer (bitand none none x y)
+  common_told : on_lists common x y ≡ answer (whole_common x y)
   unfolding on_lists
-  common_told = j.within (answer (bitand none none x y))
+  common_told = j.within (answer (whole_common x y))
 
   quotient_is : on_lists quotient x y ≡ if_subgroup (try_quotient none none x y)
   unfolding on_lists
@@ -183,15 +183,15 @@ module _ {pair : SourcePair} (left : ℕ) (slots : List (List ℕ))
           };
     }
 
-    pub common_works : FurtherHas qs (bitand none none gs hs) w n → Works common left slots qs w n
+    pub common_works : FurtherHas qs (whole_common gs hs) w n → Works common left slots qs w n
     unfolding most_paulis
     common_works f = record {
-      result = bitand none none;
+      result = whole_common;
       told = λ x y h k. common_told (joins x y h k);
       keeps = λ x y h k. record {
-        has = at_lists (joins x y h k) (λ a b. FurtherHas qs (bitand none none a b) w n) f;
-        few = common_few x y none none (few_both (joins x y h k));
-        values = common_values x y none none h.values k.values;
+        has = at_lists (joins x y h k) (λ a b. FurtherHas qs (whole_common a b) w n) f;
+        few = whole_few x y (few_both (joins x y h k));
+        values = whole_values x y h.values k.values;
       };
     }
 
@@ -210,26 +210,26 @@ module _ {pair : SourcePair} (left : ℕ) (slots : List (List ℕ))
     }
 
   -- the common part is one of the lists, which is in slot left
-  common_there : (new : List (List ℕ)) → ((x y : List Pauli) → SlotHolds slots left x → SlotHolds slots (left + 1) y → SlotHolds new left (bitand none none x y))
+  common_there : (new : List (List ℕ)) → ((x y : List Pauli) → SlotHolds slots left x → SlotHolds slots (left + 1) y → SlotHolds new left (whole_common x y))
       → Kept SlotHolds left slots new → Operates common left slots (Ok tt) new
   common_there new holds kept = record {
-    answered = λ x y h k. record { value = bitand none none x y; told = common_told (joins x y h k); holds = holds x y h k; kept = kept };
+    answered = λ x y h k. record { value = whole_common x y; told = common_told (joins x y h k); holds = holds x y h k; kept = kept };
     refused = tt;
   }
 
-  pub common_left : bitand none none gs hs ≡ gs → Operates common left slots (Ok tt) slots
+  pub common_left : whole_common gs hs ≡ gs → Operates common left slots (Ok tt) slots
   common_left e =
       common_there slots
-      (λ x y h k. subst (λ (ps : List Pauli). SlotHolds slots left ps) (sym (at_lists (joins x y h k) (λ a b. bitand none none a b ≡ a) e)) h)
+      (λ x y h k. subst (λ (ps : List Pauli). SlotHolds slots left ps) (sym (at_lists (joins x y h k) (λ a b. whole_common a b ≡ a) e)) h)
       (λ i ps l h. h)
 
-  pub common_right : left < length slots → bitand none none gs hs ≡ hs → Operates common left slots (Ok tt) (set slots left (get_or slots (left + 1) []))
+  pub common_right : left < length slots → whole_common gs hs ≡ hs → Operates common left slots (Ok tt) (set slots left (get_or slots (left + 1) []))
   common_right room e =
       let next = get_or slots (left + 1) [] in
       common_there (set slots left next)
       (λ x y h k.
-      put_holds slots left next room (bitand none none x y)
-      (subst (SlotHas next) (sym (at_lists (joins x y h k) (λ a b. bitand none none a b ≡ b) e)) k))
+      put_holds slots left next room (whole_common x y)
+      (subst (SlotHas next) (sym (at_lists (joins x y h k) (λ a b. whole_common a b ≡ b) e)) k))
       (put_kept slots left next room)
 
   -- the right group is not inside the left one

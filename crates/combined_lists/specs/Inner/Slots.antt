@@ -10,10 +10,10 @@ use Rattle.pauli.specs.Support.{All, Rising}
 use Rattle.pauli.specs.Told.{Told, answer, refused}
 use Rattle.pauli.specs.declared.refusal.Refusal.{Refusal}
 use Rattle.pauli.specs.declared.roll.Roll.{Roll}
-use Rattle.pauli_theory.specs.Common.{bitand}
 use Rattle.pauli_theory.specs.Group.{none}
 use Rattle.pauli_theory.specs.Modulo.{try_quotient}
 use Rattle.pauli_theory.specs.Standard.{support_of}
+use Rattle.pauli_theory.specs.WholeCommon.{whole_common}
 use Rattle.pauli_group.specs.Calls.{paulis}
 use Rattle.pauli_group.specs.Inner.Further.{FurtherHas}
 use Rattle.pauli_group.specs.Inner.Sources.{joinable, listed}
@@ -29,7 +29,7 @@ if_subgroup nothing = refused 11 0
 
 unfoldable pub on_lists : Sign → List Pauli → List Pauli → Told (List Pauli)
 on_lists quotient x y = joinable x y (if_subgroup (try_quotient none none x y))
-on_lists common x y = joinable x y (answer (bitand none none x y))
+on_lists common x y = joinable x y (answer (whole_common x y))
 on_lists joined x y = joinable x y (answer (x ++ y))
 
 -- ---- the rolls of a line

@@ -21,9 +21,9 @@ use Rattle.pauli.proofs.roll.Told.{test_passed}
 use Rattle.pauli_theory.specs.Group.{Promise}
 use Rattle.pauli_theory.specs.Standard.{support_of}
 use Rattle.pauli_theory.specs.Modulo.{modulo, try_quotient}
-use Rattle.pauli_theory.specs.Common.{bitand}
-use Rattle.pauli_theory.proofs.ByValue.{common_few, modulo_few, quotient_is}
-use Rattle.pauli_theory.proofs.Common.{common_basis_law}
+use Rattle.pauli_theory.specs.WholeCommon.{whole_common}
+use Rattle.pauli_theory.proofs.ByValue.{modulo_few, quotient_is, whole_few}
+use Rattle.pauli_theory.proofs.WholeCommonLaw.{whole_common_law}
 use Rattle.pauli_theory.proofs.ModuloPlaces.{modulo_on}
 use Rattle.pauli_theory.proofs.Written.{support_of_lem}
 use Rattle.pauli_group.specs.WorkArea.{work_words, enough}
@@ -104,6 +104,5 @@ module _ (l r : List ℕ) (ps qs : List Sparse) (el : read l ≡ answer ps) (er 
     pub quotient_holds : (left right : Promise) (rs : List Pauli) → try_quotient left right gs hs ≡ some rs → Holds (write (map sparse_of rs)) rs
     quotient_holds left right rs e = subst (λ (us : List Pauli). Holds (write (map sparse_of us)) us) (quotient_is left right gs hs rs e) (modulo_holds right)
 
-    pub common_holds : (left right : Promise) → Holds (write (map sparse_of (bitand left right gs hs))) (bitand left right gs hs)
-    common_holds left right =
-        both_holds (bitand left right gs hs) ((common_basis_law gs hs).result_on left right) (common_few gs hs left right few_paulis)
+    pub common_holds : Holds (write (map sparse_of (whole_common gs hs))) (whole_common gs hs)
+    common_holds = both_holds (whole_common gs hs) (whole_common_law gs hs).on_joined (whole_few gs hs few_paulis)

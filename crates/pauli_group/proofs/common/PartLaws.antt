@@ -1,38 +1,45 @@
--- Laws of the common part in the work area: from the common basis and the exponents noted of it to the Paulis that are written.
-use Rattle.std.proofs.Common.{◌≡◌, ℕ, ◌+◌, ◌*◌, ◌^◌, ◌<◌, ◌≤◌, List, ◌++◌, map, length, get_or, sym, ap, ◌∙◌, ap₂, arith}
+-- Laws of the common part in the work area: from the common basis and the exponents noted of it to its standard generators.
+use Rattle.std.proofs.Common.{◌≡◌, ℕ, ◌+◌, ◌*◌, ◌^◌, ◌<◌, ◌≤◌, List, ◌++◌, map, length, get_or, sym, refl, ap, ◌∙◌, ap₂, arith}
+use mathlib.Core.List.{map-map}
 use mathlib.Core.Option.{Option}
-use Rattle.binar.proofs.Lists.{all_map, all_over, all_under}
-use Rattle.pauli.specs.Roll.{Sparse}
+use lib.ListN.{length-map}
+use Rattle.binar.proofs.Lists.{all_map, all_over, all_under, map_same}
+use Rattle.pauli.specs.Roll.{Sparse, most_paulis}
 use Rattle.pauli.specs.Support.{All, Rising}
 use Rattle.pauli.specs.Condense.{condensed}
-use Rattle.pauli.specs.Pauli.{Pauli}
+use Rattle.pauli.specs.Pauli.{Pauli, normal}
 use Rattle.pauli.specs.PauliTheorems.{On, PauliOn}
 use Rattle.pauli.specs.Sets.{condense}
-use Rattle.pauli.specs.Signed.{pauli_in, list_in}
+use Rattle.pauli.specs.Signed.{list_in}
 use Rattle.pauli.specs.Writing.{OnPlaces}
 use Rattle.pauli.proofs.condense.Places.{condense_bit}
-use Rattle.pauli_theory.specs.Group.{Promise}
-use Rattle.pauli_theory.specs.Standard.{support_of, phase_step}
-use Rattle.pauli_theory.specs.Common.{common_basis, with_exponent, phases_from, common_phases, common_part, lesser, bitand}
-use Rattle.pauli_theory.specs.Inner.CommonPlaces.{shared_exponent, shared_with}
+use Rattle.pauli.proofs.signed.Algebra.{normal_lt}
+use Rattle.pauli.proofs.write.Writers.{length_list}
+use Rattle.pauli_theory.specs.Group.{none}
+use Rattle.pauli_theory.specs.Standard.{support_of, standard, phase_step}
+use Rattle.pauli_theory.specs.Common.{common_basis, with_exponent, phases_from, common_phases, lesser}
 use Rattle.pauli_theory.specs.Order.{Order, partial_cmp}
+use Rattle.pauli_theory.specs.WholeCommon.{kept_from, whole_part, whole_common}
+use Rattle.pauli_theory.specs.Inner.WholePlaces.{noted_both, shared_pauli, times_noted, standard_of_products, standard_places}
 use Rattle.pauli_theory.proofs.CommonExponents.{Solved, basis_left, basis_right}
 use Rattle.pauli_theory.proofs.CommonPlaces.{places_basis}
-use Rattle.pauli_theory.proofs.Common.{common_basis_law}
-use Rattle.pauli_theory.proofs.CommonWritten.{part_places, places_part}
 use Rattle.pauli_theory.proofs.ModuloPlaces.{joined}
 use Rattle.pauli_theory.proofs.Placed.{condensed_on}
 use Rattle.pauli_theory.proofs.Rows.{support_rises}
-use Rattle.pauli_group.specs.Inner.Area.{further_at, Outside}
+use Rattle.pauli_theory.proofs.WholeCommonLaw.{whole_common_law}
+use Rattle.pauli_theory.proofs.WholePlaces.{whole_places, places_part, places_part_on, places_whole, standard_on}
+use Rattle.pauli_group.specs.Inner.Area.{list_at, standard_at, further_at, Outside}
 use Rattle.pauli_group.proofs.source.SourceLaws.{Counted}
-use Rattle.pauli_group.specs.Inner.Groups.{over_support}
+use Rattle.pauli_group.specs.Inner.Groups.{over_support, products_named, Built}
+use Rattle.pauli_group.specs.Inner.Lists.{row_over, form_over, from_products}
 use Rattle.pauli_group.specs.Calls.{paulis}
 use Rattle.pauli_group.proofs.group.GroupedLaws.{list_length}
 use Rattle.pauli_group.specs.Inner.Further.{FurtherHas}
 use Rattle.pauli_group.specs.Inner.Moved.{Movable, MovablePauli}
-use Rattle.pauli_group.specs.Inner.Shared.{Joint, standard_over, basis_over, exponent_for, NotedBy, shared_at}
-use Rattle.pauli_group.proofs.common.SharedLaws.{shared_all}
+use Rattle.pauli_group.specs.Inner.Shared.{Joint, standard_over, basis_over, exponent_for, NotedBy}
+use Rattle.pauli_group.specs.Inner.Whole.{noted_list, whole_over}
 use Rattle.pauli_group.proofs.list.ListLaws.{list_kept_after, pauli_kept_after}
+use Rattle.pauli_group.proofs.whole.WholeLaws.{noted_all}
 
 pub lists_few : (l r : List Sparse) (nl nr : ℕ) → Counted l nl → Counted r nr → nl + nr ≤ 128
     → length (paulis l) + length (paulis r) ≤ 128
@@ -100,41 +107,82 @@ module _ (gs hs : List Pauli) (joint : List ℕ) (J : Joint gs hs joint) (m : �
 
     module _ (z : List ℕ) (kept_again : Outside 0 further_at y z)
         (us vs : List ℕ) (by_left : NotedBy (exponent_for joint gs) us m x) (by_right : NotedBy (exponent_for joint hs) vs m y)
-        (left right : Promise) (a b : ℕ) (ea : a ≡ phase_step left gs) (eb : b ≡ phase_step right hs) (u : List ℕ) (kept : ℕ)
-        (shared : list_in u further_at kept ≡ shared_at (λ i. shared_exponent a b (get_or us i 0) (get_or vs i 0)) z further_at m) (v : List ℕ) (total : ℕ)
-        (phases : list_in v further_at total ≡ list_in u further_at kept ++ phases_from a b 4 0) where
-      abbrev by_groups : List ℕ → ℕ → ℕ → Pauli → Option ℕ
-      by_groups qs i j p = shared_exponent i j (exponent_for qs gs p) (exponent_for qs hs p)
+        (a b : ℕ) (ea : a ≡ phase_step none gs) (eb : b ≡ phase_step none hs) (u : List ℕ) (kept : ℕ)
+        (whole : list_in u list_at kept ≡ kept_from (shared_pauli a b) times_noted Option.none (noted_list us vs z m)) (v : List ℕ) (total : ℕ)
+        (phases : list_in v list_at total ≡ list_in u list_at kept ++ phases_from a b 4 0) where
+      elements : noted_list us vs z m ≡ map (λ p. noted_both (exponent_for joint gs p) (exponent_for joint hs p) p) (list_in z further_at m)
+      elements =
+          noted_all (exponent_for joint gs) (exponent_for joint hs) us vs z m
+          (λ i h.
+          by_left i h
+          ∙ ap (exponent_for joint gs)
+          (sym (pauli_kept_after kept_again (further_at + 5 * i) (omega arith) ∙ pauli_kept_after kept_once (further_at + 5 * i) (omega arith))))
+          (λ i h. by_right i h ∙ ap (exponent_for joint hs) (sym (pauli_kept_after kept_again (further_at + 5 * i) (omega arith))))
 
-      both : (i : ℕ) → i < m → shared_exponent a b (get_or us i 0) (get_or vs i 0) ≡ by_groups joint a b (pauli_in z (further_at + 5 * i))
-      both i h =
-          let second = pauli_kept_after kept_again (further_at + 5 * i) (omega arith) in
-          let first = second ∙ pauli_kept_after kept_once (further_at + 5 * i) (omega arith) in
-          ap₂ (shared_exponent a b) (by_left i h ∙ ap (exponent_for joint gs) (sym first)) (by_right i h ∙ ap (exponent_for joint hs) (sym second))
-
-      part_list : list_in v further_at total ≡ part_places left right gs hs
-      unfolding common_phases exponent_for over_support basis_over standard_over
+      pub part_list : list_in v list_at total ≡ whole_over gs hs
+      unfolding whole_over
       part_list =
           phases
           ∙ ap₂ ◌++◌
-          (shared ∙ shared_all _ (by_groups joint a b) z further_at m both
-          ∙ ap (shared_with (by_groups joint a b)) (list_kept_after kept_again further_at m (omega arith) ∙ once ∙ basis)
-          ∙ ap (λ (ks : List ℕ). shared_with (by_groups ks a b) (basis_over gs hs)) J.support
-          ∙ ap₂ (λ (i : ℕ) (j : ℕ). shared_with (by_groups (joined gs hs) i j) (basis_over gs hs)) ea eb)
+          (whole
+          ∙ ap (kept_from (shared_pauli a b) times_noted Option.none)
+          (elements
+          ∙ ap (map (λ p. noted_both (exponent_for joint gs p) (exponent_for joint hs p) p)) (list_kept_after kept_again further_at m (omega arith) ∙ once ∙ basis)
+          ∙ ap (λ (ks : List ℕ). map (λ p. noted_both (exponent_for ks gs p) (exponent_for ks hs p) p) (basis_over gs hs)) J.support)
+          ∙ ap₂ (λ (i j : ℕ). kept_from (shared_pauli i j) times_noted Option.none (map (λ p. noted_both (exponent_for (joined gs hs) gs p) (exponent_for (joined gs hs) hs p) p) (basis_over gs hs))) ea eb)
           (ap₂ (λ (i : ℕ) (j : ℕ). phases_from i j 4 0) ea eb)
 
-      pub part_further : total ≤ 132 → FurtherHas joint (common_part left right gs hs) v total
-      part_further few = record {
+-- ---- its standard generators
+
+module _ (gs hs : List Pauli) where
+  over_places : whole_over gs hs ≡ whole_places gs hs
+  unfolding whole_over basis_over standard_over over_support exponent_for common_phases
+  over_places = refl
+
+  pub part_few : length gs + length hs ≤ 128 → (w : List ℕ) (n : ℕ) → list_in w list_at n ≡ whole_over gs hs → n ≤ 68
+  unfolding most_paulis
+  part_few few w n list =
+      omega (
+        arith,
+        length_list w list_at n,
+        ap length (list ∙ over_places ∙ places_part gs hs),
+        length-map (whole_part gs hs) (condensed (joined gs hs)),
+        (whole_common_law gs hs).part_few few,
+      )
+
+  module _ (joint : List ℕ) (J : Joint gs hs joint) (w : List ℕ) (n : ℕ) (list : list_in w list_at n ≡ whole_over gs hs) where
+    pub list_on : OnPlaces (length joint) (list_in w list_at n)
+    list_on = rw (list, over_places, J.count) (places_part_on gs hs)
+
+    module _ (x : List ℕ) (r total : ℕ) (B : Built w n (length joint) x r total) where
+      made : from_products r (products_named (form_over (length joint) (list_in w list_at n)) (list_in w list_at n))
+          ≡ standard_places (length (joined gs hs)) (whole_places gs hs)
+      unfolding from_products products_named form_over row_over standard_places standard_of_products
+      made = rw (B.rank_is, list, over_places, J.count)
+
+      standards_are : list_in x standard_at total ≡ map (condensed (joined gs hs)) (standard (whole_part gs hs))
+      standards_are = B.standards ∙ made ∙ places_whole gs hs
+
+      values : map normal (map (condensed (joined gs hs)) (standard (whole_part gs hs))) ≡ map (condensed (joined gs hs)) (standard (whole_part gs hs))
+      unfolding condensed
+      values =
+          let qs = joined gs hs in
+          let ks = standard (whole_part gs hs) in
+          map-map normal (condensed qs) ks
+          ∙ map_same (λ p. normal (condensed qs p)) (condensed qs) ks (all_map (λ p l. normal_lt (condensed qs p) l) ks (whole_common_law gs hs).part_values)
+
+      pub part_further : total ≤ 132 → (y : List ℕ) → list_in y further_at total ≡ map normal (list_in x standard_at total)
+          → FurtherHas joint (standard (whole_part gs hs)) y total
+      part_further few y copied = record {
         rises = rw J.support (support_rises (gs ++ hs));
         places = J.few;
         few = few;
-        on = rw J.support ((common_basis_law gs hs).part_on left right);
-        list = rw J.support (part_list ∙ places_part left right gs hs);
+        on = rw J.support (standard_on gs hs);
+        list = rw J.support (copied ∙ ap (map normal) standards_are ∙ values);
       }
 
 -- ---- the call
 
-pub bitand_is : (left right : Promise) (gs hs : List Pauli) (o : Order) → o ≡ partial_cmp left right gs hs
-    → bitand left right gs hs ≡ lesser o gs hs (common_part left right gs hs)
-unfolding bitand
-bitand_is left right gs hs o e = sym (ap (λ p. lesser p gs hs (common_part left right gs hs)) e)
+pub common_is : (gs hs : List Pauli) (o : Order) → o ≡ partial_cmp none none gs hs → whole_common gs hs ≡ lesser o gs hs (standard (whole_part gs hs))
+unfolding whole_common
+common_is gs hs o e = sym (ap (λ p. lesser p gs hs (standard (whole_part gs hs))) e)

@@ -1,7 +1,6 @@
--- Laws of the common part in the work area: exponents noted for the elements of a basis, the shared ones, and the phases.
-use Rattle.std.proofs.Common.{◌≡◌, Option as CodeOption, Some, None, MatchOption, ℕ, zero, suc, ◌+◌, ◌-◌, ◌*◌, ◌%◌, ◌^◌, ◌<◌, ◌≤◌, max, List, [], ◌∷◌, ◌++◌, length, sym, refl, ap, ◌∙◌, subst, ap₂, append_assoc, append-nil, mod-eq_of_lt, add-one, arith}
+-- Laws of the common part in the work area: exponents noted for the elements of a basis, the shared one of two, and the phases.
+use Rattle.std.proofs.Common.{◌≡◌, Option as CodeOption, Some, None, MatchOption, ℕ, zero, suc, ◌+◌, ◌-◌, ◌*◌, ◌%◌, ◌^◌, ◌<◌, ◌≤◌, max, List, [], ◌∷◌, ◌++◌, length, sym, refl, ap, ◌∙◌, subst, ap₂, append_assoc, append-nil, add-one, arith}
 use mathlib.Core.Option.{Option, some, none}
-use lib.Seq.{sets}
 use Rattle.binar.specs.Layout.{form_in}
 use Rattle.binar.specs.Solve.{transpose_solve}
 use Rattle.pauli.specs.declared.signed.Pauli.{Pauli as Held}
@@ -11,16 +10,15 @@ use Rattle.pauli.specs.Roll.{Sparse}
 use Rattle.pauli.proofs.write.Writers.{length_list}
 use Rattle.pauli.specs.Support.{All}
 use Rattle.binar.proofs.Lists.{all_get}
-use Rattle.pauli.specs.Signed.{held, pauli_in, pauli_words, list_in}
-use Rattle.pauli.proofs.signed.Algebra.{pauli_path}
+use Rattle.pauli.specs.Signed.{held, pauli_in, list_in}
 use Rattle.pauli.proofs.condense.Places.{condense_lt}
 use Rattle.pauli_theory.specs.Standard.{support_of, if_zero}
 use Rattle.pauli_theory.proofs.OverPlaces.{places_on, places_echelon}
 use Rattle.pauli_theory.proofs.SymplecticPlaces.{written_placed}
-use Rattle.pauli_theory.specs.Common.{with_exponent, cons_some, phases_from}
-use Rattle.pauli_theory.specs.Inner.CommonPlaces.{form_of_places, shared_exponent_from, shared_exponent, with_some, shared_with, exponent_by, solved_exponent}
+use Rattle.pauli_theory.specs.Common.{phases_from}
+use Rattle.pauli_theory.specs.Inner.CommonPlaces.{form_of_places, shared_exponent_from, shared_exponent, exponent_by, solved_exponent}
 use Rattle.pauli_theory.specs.Inner.ModuloPlaces.{moved_set, moved_pauli}
-use Rattle.pauli_theory.proofs.CommonWritten.{shared_append, phases_next}
+use Rattle.pauli_theory.proofs.CommonWritten.{phases_next}
 use Rattle.pauli_theory.proofs.IfZero.{if_zero_zero, if_zero_more}
 use Rattle.pauli_group.specs.Inner.Area.{target_at, list_at, further_at, row_words, stride_of, Outside}
 use Rattle.pauli_group.proofs.source.SourceLaws.{Counted}
@@ -30,10 +28,10 @@ use Rattle.pauli_group.specs.Inner.Lists.{row_over, found}
 use Rattle.pauli_group.proofs.member.FactorLaws.{grouped_solvable}
 use Rattle.pauli_group.proofs.group.GroupedLaws.{list_length, list_few, group_places}
 use Rattle.pauli_group.proofs.area.AreaLaws.{form_room}
-use Rattle.pauli_group.proofs.list.ListLaws.{list_at_lem, on_places_at, list_append, list_snoc, list_kept, list_kept_after, pauli_kept_after, outside_refl, list_store, store_further}
+use Rattle.pauli_group.proofs.list.ListLaws.{list_at_lem, on_places_at, list_append, list_kept, list_kept_after, pauli_kept_after}
 use Rattle.pauli_group.proofs.member.SolveLaws.{solvable_kept, form_kept}
 use Rattle.pauli_group.specs.Inner.Moved.{MovablePauli}
-use Rattle.pauli_group.specs.Inner.Shared.{Solving, exponent_over, exponent_for, NotedBy, shared_at}
+use Rattle.pauli_group.specs.Inner.Shared.{Solving, exponent_over, exponent_for, NotedBy}
 
 some_more : (i j : ℕ) → (i + j ≡ 0 → ⊥) → 0 < max i j
 some_more zero zero d = absurd (d refl)
@@ -91,69 +89,6 @@ module _ (a b u v : ℕ) where
   unfolding shared_exponent_from
   shared_found None f = reached 4 (omega arith) f
   shared_found (Some i) (least, low, h, f) = shared_hit i low (reached i (omega arith) f) h
-
--- ---- the elements that have one, with it
-
--- by what the exponents are of
-pub shared_all : (f : ℕ → Option ℕ) (g : Pauli → Option ℕ) (x : List ℕ) (base n : ℕ)
-    → ((i : ℕ) → i < n → f i ≡ g (pauli_in x (base + 5 * i))) → shared_at f x base n ≡ shared_with g (list_in x base n)
-unfolding shared_at shared_with list_in
-shared_all f g x base zero h = refl
-shared_all f g x base (suc n) h =
-    let p = pauli_in x (base + 5 * n) in
-    ap₂ (λ (ps : List Pauli) (o : Option ℕ). ps ++ cons_some (with_some o p) []) (shared_all f g x base n (λ i l. h i (omega arith))) (h n (omega arith))
-    ∙ sym (ap (λ (k : ℕ). shared_with g (list_in x base k)) (sym (add-one n)) ∙ ap (shared_with g) (list_snoc x base n) ∙ shared_append g (list_in x base n) (p ∷ []))
-
--- of the Paulis from word base of the slice first on, the first i were looked at, and those kept stand in the slice w
-pub record KeptUpTo (base m : ℕ) (f : ℕ → Option ℕ) (first : List ℕ) (i kept : ℕ) (w : List ℕ) : Type 0 where
-  pub low : kept ≤ i
-  pub within : i ≤ m
-  pub list : list_in w base kept ≡ shared_at f first base i
-  pub rest : Outside base (5 * kept) first w
-
-module _ (base m : ℕ) (f : ℕ → Option ℕ) (first : List ℕ) where
-  pub kept_none : KeptUpTo base m f first 0 0 first
-  unfolding list_in shared_at
-  kept_none = record { low = omega arith; within = omega arith; list = refl; rest = outside_refl base 0 first }
-
-  module _ (i kept : ℕ) (w : List ℕ) (K : KeptUpTo base m f first i kept w) (h : i < m) where
-    abbrev p : Pauli
-    p = pauli_in first (base + 5 * i)
-
-    more : (o : Option ℕ) → o ≡ f i → shared_at f first base (i + 1) ≡ shared_at f first base i ++ cons_some (with_some o p) []
-    unfolding shared_at
-    more o e = ap (shared_at f first base) (add-one i) ∙ ap (λ o. shared_at f first base i ++ cons_some (with_some o p) []) (sym e)
-
-    pub kept_dropped : none ≡ f i → KeptUpTo base m f first (i + 1) kept w
-    unfolding with_some cons_some
-    kept_dropped n = record {
-      low = let k = K.low in omega arith;
-      within = omega arith;
-      list = K.list ∙ sym (more none n ∙ append-nil (shared_at f first base i));
-      rest = K.rest;
-    }
-
-    module _ (e : ℕ) (s : some e ≡ f i) (l : e < 4) (room : base + 5 * m ≤ length first) (q r : Held) (loaded : normal (held q) ≡ normal (pauli_in w (base + 5 * i)))
-        (made : held r ≡ with_exponent e (held q)) where
-      same : normal (held q) ≡ normal p
-      same = loaded ∙ ap normal (pauli_kept_after K.rest (base + 5 * i) (let l = K.low in omega arith))
-
-      element : normal (held r) ≡ with_exponent e p
-      unfolding normal with_exponent
-      element = ap normal made ∙ pauli_path (mod-eq_of_lt l) (ap (λ (t : Pauli). t.x) same) (ap (λ (t : Pauli). t.z) same)
-
-      pub kept_more : (u : List ℕ) → u ≡ sets w (base + 5 * kept) (pauli_words r) → KeptUpTo base m f first (i + 1) (kept + 1) u
-      unfolding with_some cons_some
-      kept_more u g = record {
-        low = let k = K.low in omega arith;
-        within = omega arith;
-        list =
-            ap (λ (x : List ℕ). list_in x base (kept + 1)) g
-            ∙ list_store w base kept r (let k = K.low in omega (arith, K.rest.size))
-            ∙ ap₂ (λ (ps : List Pauli) (t : Pauli). ps ++ (t ∷ [])) K.list element
-            ∙ sym (more (some e) s);
-        rest = store_further first w base kept r K.rest u g;
-      }
 
 -- ---- phases behind them
 

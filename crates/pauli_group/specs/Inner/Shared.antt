@@ -1,12 +1,10 @@
 -- The common part of two groups, in the work area.
-use Rattle.std.specs.Prelude.{◌≡◌, ℕ, zero, suc, ◌+◌, ◌*◌, ◌<◌, ◌≤◌, List, [], ◌++◌, map, length, slice_index}
-use Rattle.std.proofs.Math.Option.{Option}
+use Rattle.std.specs.Prelude.{◌≡◌, ℕ, ◌+◌, ◌*◌, ◌<◌, ◌≤◌, List, ◌++◌, map, length, slice_index}
 use Rattle.binar.specs.Layout.{form_in, FormLeft}
 use Rattle.pauli.specs.Pauli.{Pauli}
 use Rattle.pauli.specs.Signed.{pauli_in, list_in}
 use Rattle.pauli_theory.specs.Standard.{support_of, standard}
-use Rattle.pauli_theory.specs.Common.{cons_some}
-use Rattle.pauli_theory.specs.Inner.CommonPlaces.{form_of_places, common_products, with_some, solved_exponent}
+use Rattle.pauli_theory.specs.Inner.CommonPlaces.{form_of_places, common_products, solved_exponent}
 use Rattle.pauli_theory.specs.Inner.ModuloPlaces.{moved_pauli}
 use Rattle.pauli_group.specs.Inner.Area.{target_at, list_at, further_at, row_words, stride_of}
 use Rattle.pauli_group.specs.Inner.Groups.{over_support}
@@ -54,8 +52,3 @@ exponent_for qs ks p = solved_exponent (length (support_of ks)) (over_support ks
 -- byte i is the exponent that f tells of Pauli i of the m of the further list in the area x
 abbrev pub NotedBy : (Pauli → ℕ) → List ℕ → ℕ → List ℕ → Type 0
 NotedBy f by m x = (i : ℕ) → i < m → slice_index by i ≡ f (pauli_in x (further_at + 5 * i))
-
--- of the n Paulis from word base on those that have a shared exponent, with it: f tells that of Pauli i
-unfoldable pub shared_at : (ℕ → Option ℕ) → List ℕ → ℕ → ℕ → List Pauli
-shared_at f x base zero = []
-shared_at f x base (suc n) = shared_at f x base n ++ cons_some (with_some (f n) (pauli_in x (base + 5 * n))) []
