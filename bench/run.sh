@@ -12,7 +12,8 @@
 # repeats; a ratio is the Rust's time / ours of one repeat: the median of them, and their quartiles. Both sides go from the same rolls to
 # the same answer bytes; reading, making the groups and writing are timed, and no group is reused. The Rust's rolls are read and written by
 # the oracle's driver, its sets, their merging and single bits are stand-ins (compare/oracle/README.md); joined Paulis and qubits are not
-# counted there. Every answer is compared before it is timed, and a difference ends the run.
+# counted there. Every answer is compared before it is timed, and a difference ends the run;
+# but of common parts only those that the Rust gives whole.
 #
 # Lists: sparse are commuting checks X Z Z X on a ring, dense are random, commuting are random products of the checks. Calls on two lists
 # have at most 64 generators in either. A non-member's bits do not solve where such an element is found; else it is a member times i; else

@@ -1,11 +1,14 @@
 #!/usr/bin/env python3
 """brute.py REPLAY [--seed S] [--count N]
 
-Compares what the program replay writes for operations 24 and 25, the centralizers, with all Paulis on four qubits: the roll must be
-accepted, and the group that it generates, found by multiplying, must hold exactly the Paulis on the named support, of any phase, that
-commute with every Pauli of the list. Two Paulis commute where both products are the same; nothing here uses the oracle.
+Compares what the program replay writes for operations 17, 24 and 25 with all Paulis on four qubits; nothing here uses the oracle.
 
-The lists are all of at most two Paulis on three qubits, of any phase, and N random ones of three or four. Operation 24 has each list;
+The common part: the roll must be accepted, and the group that it generates, found by multiplying, must hold exactly the Paulis that are in
+both groups; where neither group holds the other, standard generators of the roll (operation 1) must be the roll again. The pairs are
+all of lists of at most one Pauli on two qubits, of any phase, and 4 N random ones of up to four Paulis on three qubits, with any promises.
+
+The centralizers: the group that the roll generates must hold exactly the Paulis on the named support, of any phase, that
+commute with every Pauli of the list. Two Paulis commute where both products are the same. The lists are all of at most two Paulis on three qubits, of any phase, and N random ones of three or four. Operation 24 has each list;
 operation 25 each list with every support on its three qubits, and with supports that have a fourth qubit too: all of these where the
 list has at most one Pauli, else a random one. REPLAY is the program (target/bin/replay after `sh tools/make.sh replay`).
 
@@ -62,6 +65,7 @@ COMMUTING = {g: bits(k for k in range(len(ALL)) if PRODUCT[g][k] == PRODUCT[k][g
 ON = {named: bits(on(named)) for named in part_of(QUBITS)}
 
 
+@functools.cache
 def generated(generators):
     """The group: the identity times generators until nothing new comes."""
     group = fresh = {PLACE[Pauli(0, (), ())]}
@@ -77,7 +81,7 @@ def group_of(written):
     paulis = roll.read(written)
     if not isinstance(paulis, list) or any(pauli not in PLACE for pauli in paulis):
         return None
-    return generated([PLACE[pauli] for pauli in paulis])
+    return generated(tuple(PLACE[pauli] for pauli in paulis))
 
 
 @functools.cache
@@ -87,6 +91,68 @@ def wanted(gs, named):
     for g in gs:
         found &= COMMUTING[g]
     return found
+
+
+# ---- the common part
+
+def pairs(rng, count):
+    """Two lists, and the promises that are not to be read."""
+    few = [()] + [(g,) for g in on(OWN[:2])]
+    yield from ((gs, hs, 0, 0) for gs in few for hs in few)
+    own = on(OWN)
+    for _ in range(count):
+        gs = tuple(rng.choice(own) for _ in range(rng.randrange(1, 5)))
+        hs = tuple(rng.choice(own) for _ in range(rng.randrange(1, 5)))
+        if rng.randrange(2):  # some products of the one, with any phase, in the other
+            hs = tuple(product_of(rng, gs) for _ in hs[1:]) + hs[:1]
+        yield gs, hs, rng.randrange(3), rng.randrange(3)
+
+
+def product_of(rng, gs):
+    found = rng.choice(on(()))
+    for g in gs:
+        found = PRODUCT[found][g] if rng.randrange(2) else found
+    return found
+
+
+def run(replay, requests):
+    data = b"".join(request.raw() for request in requests)
+    lines = subprocess.run([replay], input=data, stdout=subprocess.PIPE, check=True).stdout.decode().split("\n")
+    if len(lines) != len(requests) + 1:
+        sys.exit(f"{len(lines) - 1} lines for {len(requests)} requests: {lines[-2:]}")
+    return lines[:-1]
+
+
+def written_in(line):
+    words = line.split()
+    written = calls.unhex(words[3]) if words[0] == "wrote" else b""
+    return written if line == f"wrote {len(written)}; out {written.hex()} kept; work zeroed" else None
+
+
+def compare_common(replay, block):
+    """How many of the pairs are such that neither group holds the other."""
+    lines = run(replay, [Request(17, p, q, 90, 0, 0, OUTPUT, calls.WORK_WORDS, roll_of(gs), roll_of(hs)) for gs, hs, p, q in block])
+    apart = []
+    for (gs, hs, p, q), line in zip(block, lines):
+        left, right = generated(gs), generated(hs)
+        written = written_in(line)
+        if written is None or group_of(written) != left & right:
+            sys.exit(f"not the common part\n  left  {[ALL[g] for g in gs]}\n  right {[ALL[h] for h in hs]}\n  got   {line}")
+        if left & right not in (left, right):
+            apart.append(written)
+    again = run(replay, [Request(1, 0, 0, 90, 0, 0, OUTPUT, calls.WORK_WORDS, written, b"") for written in apart])
+    for written, line in zip(apart, again):
+        if written_in(line) != written:
+            sys.exit(f"not standard generators: {written.hex()}\n  {line}")
+    return len(apart)
+
+
+def compare_commons(replay, rng, count):
+    made, total, apart = pairs(rng, count), 0, 0
+    while block := list(itertools.islice(made, BLOCK)):
+        apart += compare_common(replay, block)
+        total += len(block)
+    print(f"common: {total} requests agree, in {apart} of them neither group holds the other", flush=True)
 
 
 # ---- requests
@@ -147,6 +213,7 @@ def main():
     args = parser.parse_args()
     if not os.access(args.replay, os.X_OK):
         sys.exit(f"{args.replay} is missing: `sh tools/make.sh replay` makes target/bin/replay")
+    compare_commons(args.replay, random.Random(f"{args.seed} common"), 4 * args.count)
     made = requests(random.Random(args.seed), args.count)
     counts = {24: 0, 25: 0}
     while block := list(itertools.islice(made, BLOCK)):

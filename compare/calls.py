@@ -7,6 +7,7 @@ import struct
 import subprocess
 from typing import NamedTuple
 
+import common
 import roll
 from roll import Refusal
 
@@ -45,7 +46,7 @@ CALLS = {
     14: Call("compare", "compare", 2, (2, 7), True),
     15: Call("modulo", "modulo", 2, (2, 7), True),
     16: Call("quotient", "quotient", 2, (2, 7), True),
-    17: Call("common", "commongens", 2, (2, 7), True),
+    17: Call("common", "common", 2, (2, 7), True),
     18: Call("report", "report", 2, (), False),
     19: Call("members", "members", 2, (), True),
     20: Call("multiply", "product", 2, (7,), False),
@@ -180,6 +181,8 @@ def questions(r):
         return [f"{kind} {first} {second}"]
     if r.op == 19:
         return [f"{kind} {p} {first} {second}"]
+    if r.op == 17:  # no promise is read
+        return [f"{kind} n {first} n {second}"]
     return [f"{kind} {p} {first} {q} {second}"]
 
 
@@ -188,7 +191,16 @@ def ask(oracle, requests):
     asked = [questions(r) for r in requests]
     text = "".join(line + "\n" for lines in asked for line in lines)
     answers = iter(subprocess.run([oracle], input=text.encode(), stdout=subprocess.PIPE, check=True).stdout.decode().split("\n"))
-    return [[next(answers) for _ in lines] for lines in asked]
+    found = [[next(answers) for _ in lines] for lines in asked]
+    with_parts(oracle, requests, found)
+    return found
+
+
+def with_parts(oracle, requests, found):
+    """Behind the Rust's own answer on a common part: the part as it is worked out here, and whether the two groups are the same."""
+    parts = [(answers, r) for answers, r in zip(found, requests) if r.op == 17 and answers[0] not in ("bad", "panic")]
+    for (answers, _), (written, same) in zip(parts, common.parts(oracle, [(r.first, r.second) for _, r in parts])):
+        answers += [written.hex(), same]
 
 
 # ---- answers
@@ -300,6 +312,8 @@ def result(r, answers):
         return Refusal(11, 0)
     if r.op == 20 and answers[0] not in ("bad", "panic"):
         return product_result(answers)
+    if r.op == 17 and answers[0] not in ("bad", "panic"):
+        return wrote(unhex(answers[1]))
     return answered(r, answers[0])
 
 

@@ -104,10 +104,12 @@ def few_more(rng, size):
 
 # ---- lines
 
-def expected(rng, requests, oracle, output):
-    """Each request as it is sent, and its line."""
+def expected(rng, requests, oracle, output, heard=None):
+    """Each request as it is sent, and its line. What the oracle answered is put behind what was heard."""
     pairs = []
     for r, answers in zip(requests, calls.ask(oracle, requests)):
+        if heard is not None:
+            heard.append(answers)
         found = calls.result(r, answers)
         if "panic" in answers or (answers[0] == "bad") != calls.is_bad(r, found, answers):
             stop(r, "the oracle and the table part", str(found), str(answers))
@@ -180,13 +182,16 @@ def compare_kind(op, args, programs):
     name = CALLS[op].name
     rng = random.Random(f"{args.seed} {name}")
     sizes = args.generators, args.qubits
-    large = 0
+    large = same = 0
     for n in in_blocks(args.count):
         requests = made(op, gen, rng, n, *sizes)
         large += sum(generators(r) >= 40 for r in requests)
-        compare(expected(rng, requests, oracle, few_more), args.replay)
+        heard = []
+        compare(expected(rng, requests, oracle, few_more, heard), args.replay)
+        same += sum(op == 17 and len(answers) > 1 and answers[2] for answers in heard)
     if args.count:
-        print(f"{name}: {args.count} lines equal, {large} of them with 40 or more generators", flush=True)
+        rust = f", {same} of them the group of the Rust's own common part" if op == 17 else ""
+        print(f"{name}: {args.count} lines equal, {large} of them with 40 or more generators{rust}", flush=True)
     counts = collections.Counter()
     for n in in_blocks(args.damaged):
         requests = [damage.damaged(rng, r) for r in made(op, gen, rng, n, *sizes)]

@@ -23,6 +23,7 @@ import sys
 from typing import NamedTuple
 
 import calls
+import common
 import compare
 import damage
 import roll
@@ -105,12 +106,17 @@ def refused_early(line):
 
 # ---- the single calls
 
-WORDS = {"/": "quotient n {} n {}", "&": "commongens n {} n {}", "|": "join {} {}"}
+WORDS = {"/": "quotient n {} n {}", "&": "common n {} n {}", "|": "join {} {}"}
 
 
-def ask(oracle, questions):
-    text = "".join(line + "\n" for line in questions)
-    return compare.run([oracle], text.encode()).decode().split("\n")
+def answers_of(oracle, asked):
+    """What each single call tells: bytes or a refusal. The common part is worked out by common.py."""
+    answers = common.asked(oracle, [WORDS[sign].format(hexed(left), hexed(right)) for sign, left, right in asked])
+    told = [answer_of(left, right, answer) for (_, left, right), answer in zip(asked, answers)]
+    parts = [k for k, (sign, _, _) in enumerate(asked) if sign == "&" and isinstance(told[k], bytes)]
+    for k, (written, _) in zip(parts, common.parts(oracle, [asked[k][1:] for k in parts])):
+        told[k] = written
+    return told
 
 
 def answer_of(left, right, answer):
@@ -143,13 +149,8 @@ def worked_out(oracle, jobs):
         asked = [one for ready, _ in states for one in ready]
         if not asked:
             return [value for _, value in states]
-        answers = ask(oracle, [WORDS[tree.sign].format(hexed(left), hexed(right)) for tree, left, right in asked])
-        for (tree, left, right), answer in zip(asked, answers):
-            found[id(tree)] = answer_of(left, right, answer)
-
-
-def as_written(b):
-    return roll.write([pauli._replace(e=pauli.e % 4) for pauli in roll.read(b)])
+        told = answers_of(oracle, [(tree.sign, left, right) for tree, left, right in asked])
+        found.update((id(tree), value) for (tree, _, _), value in zip(asked, told))
 
 
 def results(oracle, lines):
@@ -158,7 +159,7 @@ def results(oracle, lines):
     jobs = [(tree_of(line.text), line.rolls) for line, refused in zip(lines, early) if refused is None]
     values = iter(worked_out(oracle, jobs))
     late = [None if refused else next(values) for refused in early]
-    return [refused or (value if isinstance(value, Refusal) else as_written(value)) for refused, value in zip(early, late)]
+    return [refused or (value if isinstance(value, Refusal) else common.as_written(value)) for refused, value in zip(early, late)]
 
 
 def told(line, found, early):

@@ -3,10 +3,9 @@
 use crate::lists;
 use crate::ours::REFUSED;
 use crate::requests::{self, Call, Request};
-use binar::Bitwise;
 use driver::answer::{group_of, to_plain, to_sparse};
 use driver::roll::{self, Plain};
-use paulimer::pauli::{commutes_with, Pauli, PauliBinaryOps, SparsePauli};
+use paulimer::pauli::{commutes_with, PauliBinaryOps, SparsePauli};
 use paulimer::pauli_group::{centralizer_of, centralizer_within, symplectic_form_of, PauliGroup};
 use std::cmp::Ordering;
 use std::fmt::Write;
@@ -138,14 +137,18 @@ fn order(order: Option<Ordering>) -> usize {
     }
 }
 
-/// The powers of i at the end come out of a hash set; they are put in rising order. No list of a request has a power of i.
+/// Where neither group holds the other its standard generators, else its own ones, which are the smaller list.
 fn common(left: &[u8], right: &[u8]) -> Told {
-    let common = &group(left) & &group(right);
-    let mut generators = common.generators().to_vec();
-    let is_power = |pauli: &SparsePauli| pauli.x_bits().is_zero() && pauli.z_bits().is_zero();
-    let from = generators.iter().rposition(|pauli| !is_power(pauli)).map_or(0, |last| last + 1);
-    generators[from..].sort_by_key(Pauli::xz_phase_exponent);
-    written(&generators)
+    let (left, right) = (group(left), group(right));
+    let common = &left & &right;
+    if left.partial_cmp(&right).is_none() { written(common.standard_generators()) } else { written(common.generators()) }
+}
+
+/// Whether the Rust's common part lacks elements that are in both groups.
+pub fn is_smaller(request: &Request) -> bool {
+    let (left, right) = (group(&request.left), group(&request.right));
+    let rank = |group: &PauliGroup| group.binary_rank();
+    request.call == Call::Bitand && rank(&(&left & &right)) + rank(&(&left | &right)) < rank(&left) + rank(&right)
 }
 
 fn combine(line: &str, a: &PauliGroup, b: &PauliGroup) -> Told {
