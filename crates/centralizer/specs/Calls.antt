@@ -1,17 +1,17 @@
 -- The calls, as functions of the bytes and of the named numbers lent: document 02, L5.
 use Rattle.std.specs.Prelude.{List, [], ◌∷◌, ℕ, suc, Bool, true, not, ◌&&◌, nat_le, length}
 use Rattle.pauli.specs.Pauli.{Pauli}
-use Rattle.pauli.specs.Roll.{Sparse, highest_qubit, support, read}
+use Rattle.pauli.specs.Roll.{Sparse, support, read}
 use Rattle.pauli.specs.Support.{insert_all}
 use Rattle.pauli.specs.Told.{Told, answer, refuse_if, and_then, map_told}
 use Rattle.pauli_theory.specs.Centralizer.{centralizer_of, centralizer_within}
 use Rattle.pauli_group.specs.Calls.{paulis, list_bytes}
 use Rattle.pauli_group.specs.WorkArea.{enough}
 
--- "a list of strictly rising 32-bit numbers", from `least` on, of which none "passes the qubit limit"
+-- "a list of strictly rising 32-bit numbers", from `least` on
 unfoldable pub rises_from : ℕ → List ℕ → Bool
 rises_from least [] = true
-rises_from least (q ∷ qs) = nat_le least q && (nat_le q highest_qubit && rises_from (suc q) qs)
+rises_from least (q ∷ qs) = nat_le least q && rises_from (suc q) qs
 
 -- "more than 63 qubits"
 unfoldable pub most_together : ℕ
@@ -21,7 +21,8 @@ most_together = 63
 unfoldable pub together : List ℕ → List ℕ → ℕ
 together named own = length (insert_all named own)
 
--- "13 when the two supports together hold more than 63 qubits, or the named one isn't strictly rising or passes the qubit limit"
+-- "13 when the two supports together hold more than 63 qubits, or the named one isn't strictly rising"; document 02, L8: "13 loses its
+-- clause on the qubit limit"
 unfoldable pub fitting : {A : Type 0} → List ℕ → List ℕ → Told A → Told A
 fitting named own next = refuse_if (not (rises_from 0 named && nat_le (together named own) most_together)) 13 0 next
 

@@ -7,21 +7,21 @@ ghost use Rattle.pauli.specs.Refusals.{told_of};
 ghost use Rattle.centralizer.specs.Calls.{rises_from, fitting};
 
 use pauli::refusal::{Reason, Refusal};
-use pauli::roll::HIGHEST_QUBIT;
 
 // The most qubits of the named support and of the list's own together.
 pub const MOST_TOGETHER: usize = 63;
 
-// Whether the numbers rise strictly, and none passes the qubit limit.
+// Whether the numbers rise strictly.
 fn is_rising(named: &[u32]) -> bool
     ensures { result ≡ rises_from 0 named.now }
 {
-    let mut least: u32 = 0;
+    let mut least: u64 = 0;
     for number in named {
-        if *number < least || *number > HIGHEST_QUBIT {
+        let number = *number as u64;
+        if number < least {
             return false;
         }
-        least = *number + 1;
+        least = number + 1;
     }
     true
 }

@@ -9,3 +9,5 @@ pub mod Limits
 pub mod RollLaws
 pub mod ReaderLaws
 pub mod RefusalLaws
+pub mod NeverFive
+pub mod OldLimitLaw

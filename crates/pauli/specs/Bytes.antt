@@ -1,13 +1,13 @@
 -- Numbers in bytes, all little-endian.
-use Rattle.std.specs.Prelude.{ℕ, zero, suc, ◌+◌, ◌*◌, ◌/◌, ◌%◌, List, [], ◌∷◌, ◌++◌, map, slice_index}
+use Rattle.std.specs.Prelude.{ℕ, zero, suc, ◌+◌, ◌*◌, ◌/◌, ◌%◌, ◌^◌, List, [], ◌∷◌, ◌++◌, map, slice_index}
 
 -- the number that the two bytes from byte i on write
 unfoldable pub u16_at : List ℕ → ℕ → ℕ
 u16_at b i = slice_index b i + 256 * slice_index b (i + 1)
 
--- the number that the four bytes from byte i on write
+-- the number that the four bytes from byte i on write: a number of 32 bits; of bytes the sum is below 2 ^ 32 already
 unfoldable pub u32_at : List ℕ → ℕ → ℕ
-u32_at b i = slice_index b i + 256 * slice_index b (i + 1) + 65536 * slice_index b (i + 2) + 16777216 * slice_index b (i + 3)
+u32_at b i = (slice_index b i + 256 * slice_index b (i + 1) + 65536 * slice_index b (i + 2) + 16777216 * slice_index b (i + 3)) % 2 ^ 32
 
 -- n as two bytes
 unfoldable pub le16 : ℕ → List ℕ

@@ -14,6 +14,7 @@ pub mod PauliTheorems
 pub mod Sets
 pub mod Writing
 pub mod JoinCalls
+pub mod OldLimit
 pub mod JoinContract
 pub mod Lookups
 pub mod JoinTheorems

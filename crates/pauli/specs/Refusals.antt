@@ -1,7 +1,7 @@
 -- What a refusal tells.
 use Rattle.std.specs.Prelude.{ℕ, Result, Ok, Err}
 use Rattle.pauli.specs.declared.refusal.Reason.{Reason}
-use Rattle.pauli.specs.declared.refusal.Reason.TheVariants.{Length, Paulis, Entry, Exponent, Qubit, Rising, Qubits, Number, Work, Listing, Subgroup, Output, Support, Line, Depth}
+use Rattle.pauli.specs.declared.refusal.Reason.TheVariants.{Length, Paulis, Entry, Exponent, Rising, Qubits, Number, Work, Listing, Subgroup, Output, Support, Line, Depth}
 use Rattle.pauli.specs.declared.refusal.Refusal.{Refusal}
 use Rattle.pauli.specs.Told.{Told, answer, refused}
 
@@ -11,7 +11,6 @@ number_of Length = 1
 number_of Paulis = 2
 number_of Entry = 3
 number_of Exponent = 4
-number_of Qubit = 5
 number_of Rising = 6
 number_of Qubits = 7
 number_of Number = 8

@@ -4,12 +4,13 @@ use Rattle.pauli.specs.Told.{Told, answer, refuse_if, and_then, map_told}
 use Rattle.pauli.specs.Bytes.{u16_at, u32_at, le16, le32, numbers_at, le32s}
 use Rattle.pauli.specs.Support.{most_qubits, insert_all}
 
--- "At most 128 Paulis, 128 distinct qubits, qubit number 65,535"; most_qubits is in Support
+-- "At most 128 Paulis, 128 distinct qubits"; most_qubits is in Support. Document 02, L8, takes the limit on qubit numbers away
 unfoldable pub most_paulis : ℕ
 most_paulis = 128
 
+-- the highest number that its four bytes hold; document 02, L8: "the number gets 32 bits in the Pauli record"
 unfoldable pub highest_qubit : ℕ
-highest_qubit = 65535
+highest_qubit = 4294967295
 
 -- a Pauli as a roll holds it: the exponent's byte, and the qubit numbers of its two sets
 pub record Sparse : Type 0 where
@@ -51,10 +52,11 @@ check_entries i before (a ∷ more) =
     (refuse_if (a.given == 0) 4 i
     (check_entries (suc i) (before + a.xcount + a.zcount) more)))
 
--- "numbers in turn (5, 6)" of one set of Pauli i: the next number is to be `least` at least
+-- "numbers in turn (6)" of one set of Pauli i: the next number is to be `least` at least. Document 02, L8: "Refusal 5 can no
+-- longer occur"
 unfoldable pub check_set : ℕ → ℕ → List ℕ → Told Unit
 check_set i least [] = answer tt
-check_set i least (q ∷ qs) = refuse_if (nat_lt highest_qubit q) 5 i (refuse_if (nat_lt q least) 6 i (check_set i (suc q) qs))
+check_set i least (q ∷ qs) = refuse_if (nat_lt q least) 6 i (check_set i (suc q) qs)
 
 unfoldable pub check_sets : ℕ → List Sparse → Told Unit
 check_sets i [] = answer tt
@@ -69,7 +71,7 @@ numbers (p ∷ ps) = p.xs ++ p.zs ++ numbers ps
 unfoldable pub support : List Sparse → List ℕ
 support ps = insert_all (numbers ps) []
 
--- "Order: per roll 2 bytes (1), 2, table (1), entries in turn (3, 4), length (1), numbers in turn (5, 6), 7"
+-- "Order: per roll 2 bytes (1), 2, table (1), entries in turn (3, 4), length (1), numbers in turn (5, 6), 7"; 5 no longer occurs
 unfoldable pub read : List ℕ → Told (List Sparse)
 read b =
     refuse_if (nat_lt (length b) 2) 1 0

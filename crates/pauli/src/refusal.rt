@@ -4,7 +4,7 @@ ghost use Rattle.pauli.specs.Refusals.{number_of};
 
 use std::fmt;
 
-// The reasons, with the number that a caller is told for each.
+// The reasons, with the number that a caller is told for each; none has 5.
 #[derive(Clone, Copy)]
 pub enum Reason {
     // The roll is cut, or its length is not that of its table.
@@ -15,8 +15,6 @@ pub enum Reason {
     Entry = 3,
     // The exponent is missing.
     Exponent = 4,
-    // A qubit number is too high.
-    Qubit = 5,
     // A set does not rise strictly.
     Rising = 6,
     // More distinct qubits than a list may have.
@@ -31,7 +29,7 @@ pub enum Reason {
     Subgroup = 11,
     // The output is shorter than the result.
     Output = 12,
-    // The named support does not rise strictly, passes the qubit limit, or is too large together with the list's own.
+    // The named support does not rise strictly, or is too large together with the list's own.
     Support = 13,
     // A line is empty, too long, ill-formed, or names a roll that was not sent.
     Line = 14,

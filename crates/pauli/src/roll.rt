@@ -13,9 +13,6 @@ use crate::bytes::{numbers_at, u16_at, u32_at};
 use crate::refusal::{Reason, Refusal};
 use crate::support::{MOST_QUBITS, Support};
 
-// The highest qubit number of a roll.
-pub const HIGHEST_QUBIT: u32 = 65535;
-
 // The most Paulis of a list.
 pub const MOST_PAULIS: usize = 128;
 
@@ -85,15 +82,9 @@ fn check_entries(b: &[u8], n: usize) -> Result<usize, Refusal>
 fn check_set(numbers: &[[u8; 4]], i: usize) -> Result<(), Refusal>
     ensures { told_of result ≡ check_set i 0 (u32s_in numbers.now) }
 {
-    let mut least: u32 = 0;
+    let mut least: u64 = 0;
     for bytes in numbers {
-        let number = u32::from_le_bytes(*bytes);
-        if number > HIGHEST_QUBIT {
-            return Err(Refusal {
-                reason: Reason::Qubit,
-                place: i,
-            });
-        }
+        let number = u32::from_le_bytes(*bytes) as u64;
         if number < least {
             return Err(Refusal {
                 reason: Reason::Rising,

@@ -1,10 +1,12 @@
 -- What the checks tell, and what follows for the answer, the output and the work area.
-use Rattle.std.proofs.Common.{◌≡◌, refl, sym, ap, ◌∙◌, Bool, true, false, not, ◌&&◌, leb, ltb, map, List, ◌++◌, ℕ, ◌≤◌, length, take, drop, Result}
+use Rattle.std.proofs.Common.{◌≡◌, refl, sym, ap, ◌∙◌, Bool, true, false, not, ◌&&◌, leb, ltb, map, List, ◌++◌, ℕ, ◌≤◌, ◌<◌, ◌^◌, length, take, drop, slice_index, Result}
+use Rattle.binar.proofs.Lists.{all_by}
 use Rattle.pauli.specs.Pauli.{Pauli}
 use Rattle.pauli.specs.Refusals.{told_of}
 use Rattle.pauli.specs.Roll.{Sparse, support, read}
 use Rattle.pauli.specs.declared.refusal.Refusal.{Refusal}
 use Rattle.pauli.specs.Sets.{pauli_of}
+use Rattle.pauli.specs.Support.{All}
 use Rattle.pauli.specs.Told.{Told, answer, refused, refuse_if, and_then, map_told}
 use Rattle.pauli.specs.Writing.{told_bytes, left_in}
 use Rattle.pauli.proofs.roll.Told.{refused_none}
@@ -103,22 +105,27 @@ module _ (ps : List Sparse) where
       go false false = ap (λ (gs : List Pauli). answer (list_bytes gs)) on_own
 
 -- ---- the two calls
+
+-- numbers of 32 bits, by index
+pub numbers_low : (named : List ℕ) → ((i : ℕ) → slice_index named i < 2 ^ 32) → All (λ q. q < 2 ^ 32) named
+numbers_low named low = all_by (λ q. q < 2 ^ 32) named 0 (λ i h. low i)
+
 module _ (b work out : List ℕ) (r : Result ℕ Refusal) where
   module _ {m p : ℕ} (t : told_of r ≡ refused m p) (e : read b ≡ refused m p) where
-    pub within_refused : (named : List ℕ) → WithinCall b named work out r work out
+    pub within_refused : (named : List ℕ) → All (λ q. q < 2 ^ 32) named → WithinCall b named work out r work out
     unfolding within_call generators_of within_checked and_then map_told told_bytes left_in area_after
-    within_refused named = record { told = t ∙ rw e; left = rw e; area = rw e }
+    within_refused named n = record { numbers = n; told = t ∙ rw e; left = rw e; area = rw e }
 
     pub own_refused : OwnCall b work out r work out
     unfolding own_call own_checked and_then map_told told_bytes left_in area_after
     own_refused = record { told = t ∙ rw e; left = rw e; area = rw e }
 
   module _ (ps : List Sparse) (e : read b ≡ answer ps) (work' out' : List ℕ) where
-    pub within_called : (named : List ℕ) → told_of r ≡ told_bytes (generators_of named (checked named ps (length work))) out
+    pub within_called : (named : List ℕ) → All (λ q. q < 2 ^ 32) named → told_of r ≡ told_bytes (generators_of named (checked named ps (length work))) out
         → out' ≡ left_in (generators_of named (checked named ps (length work))) out → work' ≡ area_after (checked named ps (length work)) work
         → WithinCall b named work out r work' out'
     unfolding within_call within_checked and_then
-    within_called named t l a = record { told = t ∙ rw e; left = l ∙ rw e; area = a ∙ rw e }
+    within_called named n t l a = record { numbers = n; told = t ∙ rw e; left = l ∙ rw e; area = a ∙ rw e }
 
     pub own_called : told_of r ≡ told_bytes (generators_of (support ps) (checked (support ps) ps (length work))) out
         → out' ≡ left_in (generators_of (support ps) (checked (support ps) ps (length work))) out

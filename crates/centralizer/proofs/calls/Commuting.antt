@@ -1,5 +1,5 @@
 -- What the two calls write generates what commutes with the list's Paulis: from their contracts alone.
-use Rattle.std.proofs.Common.{◌≡◌, refl, sym, ap, ◌∙◌, subst, ⊎_elim, Bool, true, false, not, ◌&&◌, leb, leb-true, List, [], ◌∷◌, map, length, take, ℕ, suc, ◌≤◌, Result, arith}
+use Rattle.std.proofs.Common.{◌≡◌, refl, sym, ap, ◌∙◌, subst, ⊎_elim, Bool, true, false, not, leb-true, List, [], ◌∷◌, map, length, take, ℕ, ◌≤◌, ◌<◌, ◌^◌, Result, arith}
 use mathlib.Core.List.{map-id}
 use mathlib.Core.List.Memᴰ.{append_cases as in-append}
 use Rattle.binar.proofs.Lists.{all_map, all_over, all_under, map_same}
@@ -14,7 +14,7 @@ use Rattle.pauli.specs.Sets.{pauli_of}
 use Rattle.pauli.specs.ReadBack.{Holds}
 use Rattle.pauli.specs.Writing.{told_bytes, left_in}
 use Rattle.pauli.proofs.condense.Sets.{set_has}
-use Rattle.pauli.proofs.join.ReadBack.{written_holds, told_bytes_lem}
+use Rattle.pauli.proofs.join.ReadBack.{written_holds, told_bytes_lem, read_qubits}
 use Rattle.pauli.proofs.roll.ListSupport.{in_support, support_rises}
 use Rattle.pauli.proofs.roll.Told.{test_passed, map_answer}
 use Rattle.pauli.proofs.signed.Algebra.{normal_lt}
@@ -27,20 +27,16 @@ use Rattle.pauli_theory.proofs.Centralizer.{centralizer_law}
 use Rattle.pauli_theory.proofs.Written.{support_of_lem}
 use Rattle.pauli_group.specs.Calls.{paulis, list_bytes}
 use Rattle.pauli_group.specs.WorkArea.{enough, area_after}
-use Rattle.centralizer.specs.Calls.{rises_from, together, most_together, fitting, checked, generators_of, within_checked, within_call, own_checked, own_call}
+use Rattle.centralizer.specs.Calls.{together, most_together, fitting, checked, generators_of, within_checked, within_call, own_checked, own_call}
 use Rattle.centralizer.specs.Commuting.{Centralizes, CentralizerCalls}
 use Rattle.centralizer.proofs.named.NamedLaws.{both_true, rises_rising}
 use Rattle.centralizer.proofs.calls.CheckedLaws.{own_told}
 
 -- ---- a named support that was let through
 
-rises_low : (least : ℕ) (qs : List ℕ) → rises_from least qs ≡ true → All (λ q. q ≤ highest_qubit) qs
-unfolding rises_from
-rises_low least [] e = tt
-rises_low least (q ∷ qs) e =
-    let a = both_true (leb least q) (leb q highest_qubit && rises_from (suc q) qs) e in
-    let b = both_true (leb q highest_qubit) (rises_from (suc q) qs) a.1 in
-    (leb-true q highest_qubit b.0, rises_low (suc q) qs b.1)
+numbers_high : (named : List ℕ) → All (λ q. q < 2 ^ 32) named → All (λ q. q ≤ highest_qubit) named
+unfolding highest_qubit
+numbers_high named = all_map (λ q h. omega arith) named
 
 not_false : (t : Bool) → not t ≡ false → t ≡ true
 not_false true e = refl
@@ -48,7 +44,6 @@ not_false false e = sym e
 
 record Fits (named own : List ℕ) : Type 0 where
   rises : Rising 0 named
-  low : All (λ q. q ≤ highest_qubit) named
   few : length (insert_all named own) ≤ 63
 
 -- what was checked is the list, and its named support fits
@@ -58,11 +53,11 @@ checked_answer named ps words gs e =
     let (fit, s) = test_passed _ 13 0 _ gs e in
     let (area, same) = test_passed _ 9 0 _ gs s in
     let parts = both_true _ _ (not_false _ fit) in
-    (record { rises = rises_rising 0 named parts.0; low = rises_low 0 named parts.0; few = leb-true _ 63 parts.1 }, cc)
+    (record { rises = rises_rising 0 named parts.0; few = leb-true _ 63 parts.1 }, cc)
 
 -- ---- the roll of the centralizer's generators
 
-module _ (named : List ℕ) (gs : List Sparse) (f : Fits named (support gs)) where
+module _ (named : List ℕ) (low : All (λ q. q ≤ highest_qubit) named) (gs : List Sparse) (f : Fits named (support gs)) where
   abbrev C : List Pauli
   C = centralizer_within named (paulis gs)
 
@@ -78,7 +73,7 @@ module _ (named : List ℕ) (gs : List Sparse) (f : Fits named (support gs)) whe
   generators_hold : Holds (list_bytes C) C
   unfolding most_qubits most_paulis
   generators_hold =
-      written_holds named (record { rise = f.rises; few = omega (arith, named_few); low = f.low }) C (centralizer_law named (paulis gs)).on_named
+      written_holds named (record { rise = f.rises; few = omega (arith, named_few); low = low }) C (centralizer_law named (paulis gs)).on_named
       (omega (arith, (centralizer_law named (paulis gs)).count f.rises, together_few))
 
   module _ (bytes : List ℕ) (h : Holds bytes C) where
@@ -106,7 +101,7 @@ module _ (named : List ℕ) (gs : List Sparse) (f : Fits named (support gs)) whe
 -- ---- the calls
 
 -- the roll that was written, where the checks told the list
-module _ (named : List ℕ) (gs : List Sparse) (words : ℕ) (t : Told (List ℕ)) (is : generators_of named (checked named gs words) ≡ t)
+module _ (named : List ℕ) (low : All (λ q. q ≤ highest_qubit) named) (gs : List Sparse) (words : ℕ) (t : Told (List ℕ)) (is : generators_of named (checked named gs words) ≡ t)
     (out : List ℕ) (wrote : Result ℕ Refusal) (out' : List ℕ) (told : told_of wrote ≡ told_bytes t out) (left : out' ≡ left_in t out)
     (n : ℕ) (size : told_of wrote ≡ answer n) where
   -- what was written, and that the named support was let through
@@ -126,7 +121,7 @@ module _ (named : List ℕ) (gs : List Sparse) (words : ℕ) (t : Told (List ℕ
   pub writes : Centralizes gs named (take n out')
   writes =
       let (fits, e) = given in
-      centralizes named gs fits (take n out') (subst (λ (b : List ℕ). Holds b (centralizer_within named (paulis gs))) (sym e) (generators_hold named gs fits))
+      centralizes named low gs fits (take n out') (subst (λ (b : List ℕ). Holds b (centralizer_within named (paulis gs))) (sym e) (generators_hold named low gs fits))
 
 -- a roll that was read is the list that the call works on
 module _ (b : List ℕ) (gs : List Sparse) (e : read b ≡ answer gs) (words : ℕ) where
@@ -154,8 +149,8 @@ none_written b work out wrote out' told left n size =
 pub centralizer_calls : CentralizerCalls
 unfolding within_call within_checked own_call own_checked and_then generators_of
 centralizer_calls = record {
-  within = λ b named work out wrote work' out' c gs n e size. writes named gs (length work) _ (within_is b gs e (length work) named) out wrote out' c.told c.left n size;
-  own = λ b work out wrote work' out' c gs n e size. writes (support gs) gs (length work) _ (own_is b gs e (length work)) out wrote out' c.told c.left n size;
+  within = λ b named work out wrote work' out' c gs n e size. writes named (numbers_high named c.numbers) gs (length work) _ (within_is b gs e (length work) named) out wrote out' c.told c.left n size;
+  own = λ b work out wrote work' out' c gs n e size. writes (support gs) (read_qubits b gs e).low gs (length work) _ (own_is b gs e (length work)) out wrote out' c.told c.left n size;
   none_named = λ b work out wrote work' out' c n size. none_written b work out wrote out' c.told c.left n size;
   same = λ b work out gs e r work' out' c s work'' out'' d. (
     c.told ∙ ap (λ (t : Told (List ℕ)). told_bytes t out) (sym (own_is b gs e (length work)) ∙ within_is b gs e (length work) (support gs)) ∙ sym d.told,

@@ -1,11 +1,9 @@
 -- Laws of the named support: whether it rises, how many of its numbers are not among the list's own, and the test of both.
 use Rattle.std.proofs.Common.{◌≡◌, refl, sym, ap, ◌∙◌, Bool, true, false, not, ◌&&◌, leb, le-leb, leb-true, ℕ, suc, ◌+◌, ◌≤◌, ◌<◌, List, [], ◌∷◌, ◌++◌, append-nil, length, length-append, length-take, get_or, take, take_all, drop, add-one, drop_of_length-le, cond, arith}
-use Rattle.std.proofs.Math.Bool.{and-false}
 use Rattle.std.proofs.lemmas.List.{take_more}
 use borrow.Author.Tests.{lt-leb}
 use Rattle.binar.specs.Kernel.{without}
 use Rattle.binar.proofs.Without.{is_among, without_length, without_last}
-use Rattle.pauli.specs.Roll.{highest_qubit}
 use Rattle.pauli.specs.Support.{Rising, insert_all}
 use Rattle.pauli.specs.Told.{Told, refused}
 use Rattle.pauli.proofs.roll.Told.{test_pass, test_refuses}
@@ -24,9 +22,8 @@ pub rises_rising : (least : ℕ) (qs : List ℕ) → rises_from least qs ≡ tru
 unfolding rises_from
 rises_rising least [] e = tt
 rises_rising least (q ∷ qs) e =
-    let a = both_true (leb least q) (leb q highest_qubit && rises_from (suc q) qs) e in
-    let b = both_true (leb q highest_qubit) (rises_from (suc q) qs) a.1 in
-    (leb-true least q a.0, rises_rising (suc q) qs b.1)
+    let a = both_true (leb least q) (rises_from (suc q) qs) e in
+    (leb-true least q a.0, rises_rising (suc q) qs a.1)
 
 -- the numbers before number i rise, and those from there on are to rise from `least`
 module _ (qs : List ℕ) (i least : ℕ) (before : rises_from 0 qs ≡ rises_from least (drop i qs)) where
@@ -38,20 +35,15 @@ module _ (qs : List ℕ) (i least : ℕ) (before : rises_from 0 qs ≡ rises_fro
     abbrev q : ℕ
     q = get_or qs i 0
 
-    here : rises_from 0 qs ≡ leb least q && (leb q highest_qubit && rises_from (suc q) (drop (i + 1) qs))
+    here : rises_from 0 qs ≡ leb least q && rises_from (suc q) (drop (i + 1) qs)
     unfolding rises_from
     here = before ∙ ap (rises_from least) (sym (drop_one qs i 0 h))
 
-    pub rises_next : least ≤ q → q ≤ 65535 → rises_from 0 qs ≡ rises_from (q + 1) (drop (i + 1) qs)
-    unfolding highest_qubit
-    rises_next l u = here ∙ rw (le-leb least q l, le-leb q 65535 u, add-one q)
+    pub rises_next : least ≤ q → rises_from 0 qs ≡ rises_from (q + 1) (drop (i + 1) qs)
+    rises_next l = here ∙ rw (le-leb least q l, add-one q)
 
     pub falls_below : q < least → false ≡ rises_from 0 qs
     falls_below l = sym (here ∙ rw (lt-leb least q l))
-
-    pub falls_past : 65535 < q → false ≡ rises_from 0 qs
-    unfolding highest_qubit
-    falls_past l = sym (here ∙ rw (lt-leb q 65535 l, and-false (leb least q)))
 
 -- ---- those of the first i numbers that are not excluded
 

@@ -65,9 +65,19 @@ pub u16_value : (b : List ℕ) (i : ℕ) → u16_at b i ≡ value_at 2 b i
 unfolding u16_at value_at
 u16_value b i = omega arith
 
-pub u32_value : (b : List ℕ) (i : ℕ) → u32_at b i ≡ value_at 4 b i
+pub u32_value : (b : List ℕ) (i : ℕ) → u32_at b i ≡ value_at 4 b i % 2 ^ 32
 unfolding u32_at value_at
-u32_value b i = simp add_assoc (omega arith)
+u32_value b i = ap (λ n. n % 2 ^ 32) (simp add_assoc (omega arith))
+
+-- of bytes, the four are below 2 ^ 32
+pub value_low : (b : List ℕ) → AllBytes b → (i : ℕ) → value_at 4 b i < 2 ^ 32
+unfolding value_at
+value_low b low i =
+    omega (arith, byte_at b i low, byte_at b (i + 1) low, byte_at b (i + 1 + 1) low, byte_at b (i + 1 + 1 + 1) low)
+
+pub u32_low : (b : List ℕ) (i : ℕ) → u32_at b i < 2 ^ 32
+unfolding u32_at
+u32_low b i = omega arith
 
 pub length_le16 : (n : ℕ) → length (le16 n) ≡ 2
 length_le16 n = rw (le16_bytes, length_bytes)
@@ -80,14 +90,16 @@ module _ (b : List ℕ) where
   u16_read n i rest l h = rw u16_value (value_read b 2 n i rest l (rw le16_bytes at h))
 
   pub u32_read : (n i : ℕ) (rest : List ℕ) → n < 2 ^ 32 → drop i b ≡ le32 n ++ rest → u32_at b i ≡ n
-  u32_read n i rest l h = rw u32_value (value_read b 4 n i rest l (rw le32_bytes at h))
+  u32_read n i rest l h = let value = value_read b 4 n i rest l (rw le32_bytes at h) in rw (u32_value, value) (omega arith)
 
   module _ (low : AllBytes b) where
     pub u16_written : (i : ℕ) → i + 2 ≤ length b → le16 (u16_at b i) ++ drop (i + 2) b ≡ drop i b
     u16_written i l = rw (le16_bytes, u16_value) (value_written b low 2 i l)
 
     pub u32_written : (i : ℕ) → i + 4 ≤ length b → le32 (u32_at b i) ++ drop (i + 4) b ≡ drop i b
-    u32_written i l = rw (le32_bytes, u32_value) (value_written b low 4 i l)
+    u32_written i l =
+        let value : value_at 4 b i % 2 ^ 32 ≡ value_at 4 b i = omega (arith, value_low b low i) in
+        rw (le32_bytes, u32_value, value) (value_written b low 4 i l)
 
 pub all_bytes_le16 : (n : ℕ) → AllBytes (le16 n)
 all_bytes_le16 n = rw le16_bytes (all_bytes_bytes 2 n)
@@ -118,6 +130,11 @@ length_numbers b i n = rw (numbers_items, length_items_at)
 pub get_or_numbers : (b : List ℕ) (i n m d : ℕ) → m < n → get_or (numbers_at b i n) m d ≡ u32_at b (i + 4 * m)
 get_or_numbers b i n m d l = rw numbers_items (get_or_items_at 4 (u32_at b) i n m d l)
 
+pub numbers_low : (b : List ℕ) (i n : ℕ) → All (λ q. q < 2 ^ 32) (numbers_at b i n)
+unfolding numbers_at
+numbers_low b i zero = tt
+numbers_low b i (suc n) = (u32_low b i, numbers_low b (i + 4) n)
+
 pub length_le32s : (qs : List ℕ) → length (le32s qs) ≡ 4 * length qs
 length_le32s qs = rw (le32s_items, length_items_bytes 4 le32 length_le32)
 
@@ -135,9 +152,10 @@ numbers_written b low n i l = rw (numbers_items, le32s_items) (items_written 4 l
 
 -- ---- numbers as fours of bytes
 
-pub u32_bytes : (l : List ℕ) → from_le_bytes w32 l ≡ u32_at l 0
+-- a number of 32 bits that four bytes write
+pub u32_bytes : (n : ℕ) (l : List ℕ) → n < 2 ^ 32 → n ≡ from_le_bytes w32 l → n ≡ u32_at l 0
 unfolding u32_at
-u32_bytes l = omega arith
+u32_bytes n l h e = omega arith
 
 u32_shifted : (b : List ℕ) (i : ℕ) (l : List ℕ) → ((j : ℕ) → j < 4 → slice_index l j ≡ slice_index b (i + j)) → u32_at l 0 ≡ u32_at b i
 unfolding u32_at

@@ -4,7 +4,7 @@ use borrow.Author.Tests.{eqb-false, not-false}
 use Rattle.pauli.specs.Told.{answer, and_then}
 use Rattle.pauli.specs.Roll.{Sparse, Entry, check_entries, check_set, check_sets}
 use Rattle.pauli.specs.RollTheorems.{AllowedSet}
-use Rattle.pauli.specs.Support.{All}
+use Rattle.pauli.specs.Support.{All, Rising}
 use Rattle.pauli.proofs.roll.Told.{test_pass, test_passed, answered}
 use Rattle.pauli.proofs.roll.Paulis.{Placed, counted}
 
@@ -34,28 +34,27 @@ entries_passed i before (a ∷ more) total h =
 abbrev pub AllowedSets : Sparse → Type 0
 AllowedSets p = AllowedSet 0 p.xs × AllowedSet 0 p.zs
 
-pub set_pass : (i least : ℕ) (qs : List ℕ) → AllowedSet least qs → check_set i least qs ≡ answer tt
+abbrev pub RisingSets : Sparse → Type 0
+RisingSets p = Rising 0 p.xs × Rising 0 p.zs
+
+pub set_pass : (i least : ℕ) (qs : List ℕ) → Rising least qs → check_set i least qs ≡ answer tt
 unfolding check_set
 set_pass i least [] h = refl
-set_pass i least (q ∷ qs) h =
-    test_pass _ 5 i _ (le-ltb _ _ h.low.0) ∙ test_pass _ 6 i _ (le-ltb _ _ h.rise.0)
-    ∙ set_pass i (suc q) qs (record { rise = h.rise.1; low = h.low.1 })
+set_pass i least (q ∷ qs) h = test_pass _ 6 i _ (le-ltb _ _ h.0) ∙ set_pass i (suc q) qs h.1
 
-pub set_passed : (i least : ℕ) (qs : List ℕ) (u : Unit) → check_set i least qs ≡ answer u → AllowedSet least qs
+pub set_passed : (i least : ℕ) (qs : List ℕ) (u : Unit) → check_set i least qs ≡ answer u → Rising least qs
 unfolding check_set
-set_passed i least [] u h = record { rise = tt; low = tt }
+set_passed i least [] u h = tt
 set_passed i least (q ∷ qs) u h =
-    let (low, h1) = test_passed _ 5 i _ u h in
-    let (rises, h2) = test_passed _ 6 i _ u h1 in
-    let more = set_passed i (suc q) qs u h2 in
-    record { rise = (ltb-false _ _ rises, more.rise); low = (ltb-false _ _ low, more.low) }
+    let (rises, h1) = test_passed _ 6 i _ u h in
+    (ltb-false _ _ rises, set_passed i (suc q) qs u h1)
 
 pub sets_pass : (i : ℕ) (ps : List Sparse) → All AllowedSets ps → check_sets i ps ≡ answer tt
 unfolding check_sets and_then
 sets_pass i [] h = refl
-sets_pass i (p ∷ ps) h = rw (set_pass i 0 p.xs h.0.0, set_pass i 0 p.zs h.0.1) (sets_pass (suc i) ps h.1)
+sets_pass i (p ∷ ps) h = rw (set_pass i 0 p.xs h.0.0.rise, set_pass i 0 p.zs h.0.1.rise) (sets_pass (suc i) ps h.1)
 
-pub sets_passed : (i : ℕ) (ps : List Sparse) (u : Unit) → check_sets i ps ≡ answer u → All AllowedSets ps
+pub sets_passed : (i : ℕ) (ps : List Sparse) (u : Unit) → check_sets i ps ≡ answer u → All RisingSets ps
 unfolding check_sets
 sets_passed i [] u h = tt
 sets_passed i (p ∷ ps) u h =

@@ -7,7 +7,7 @@ use Rattle.pauli.specs.RollTheorems.{Allowed}
 use Rattle.pauli.specs.Support.{All}
 use Rattle.pauli.proofs.support.Lists.{AllBytes, all_bytes_append, drop_past}
 use Rattle.pauli.proofs.roll.Items.{items_bytes}
-use Rattle.pauli.proofs.roll.BytesLaws.{le32s_append, length_numbers, length_le32s, all_bytes_le32s, numbers_read, numbers_written}
+use Rattle.pauli.proofs.roll.BytesLaws.{le32s_append, length_numbers, length_le32s, all_bytes_le32s, numbers_low, numbers_read, numbers_written}
 use Rattle.pauli.proofs.roll.Entries.{ten_bytes, all_bytes_ten_bytes}
 
 -- the entry of p, where `before` qubit numbers stand in earlier bodies
@@ -87,6 +87,16 @@ module _ (b : List ℕ) where
   set_read : (qs : List ℕ) (i : ℕ) (rest : List ℕ) → All (λ q. q ≤ highest_qubit) qs → drop i b ≡ le32s qs ++ rest → numbers_at b i (length qs) ≡ qs
   unfolding highest_qubit
   set_read qs i rest low h = numbers_read b qs i rest (all_map (λ q k. omega arith) qs low) h
+
+  -- what four bytes write is no higher than they can
+  set_low : (i n : ℕ) → All (λ q. q ≤ highest_qubit) (numbers_at b i n)
+  unfolding highest_qubit
+  set_low i n = all_map (λ q k. omega arith) (numbers_at b i n) (numbers_low b i n)
+
+  pub paulis_low : (j : ℕ) (es : List Entry) → All (λ p. All (λ q. q ≤ highest_qubit) p.xs × All (λ q. q ≤ highest_qubit) p.zs) (paulis_at b j es)
+  unfolding paulis_at
+  paulis_low j [] = tt
+  paulis_low j (a ∷ more) = ((set_low j a.xcount, set_low (j + 4 * a.xcount) a.zcount), paulis_low (j + 4 * (a.xcount + a.zcount)) more)
 
   pub length_paulis : (j : ℕ) (es : List Entry) → length (paulis_at b j es) ≡ length es
   unfolding paulis_at

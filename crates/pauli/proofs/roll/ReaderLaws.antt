@@ -4,7 +4,7 @@ use native.Mathlib.Nat.{sub-zero}
 use Rattle.pauli.specs.declared.roll.Entry.{Entry as CodeEntry}
 use Rattle.pauli.specs.Told.{Told, answer, refused, refuse_if, and_then, map_told}
 use Rattle.pauli.specs.Bytes.{u16_at, u32_at, numbers_at}
-use Rattle.pauli.specs.Roll.{most_paulis, highest_qubit, Sparse, Entry, entry_at, entries_at, paulis_at, check_entries, check_set, check_sets, numbers, support, read, count_of}
+use Rattle.pauli.specs.Roll.{most_paulis, Sparse, Entry, entry_at, entries_at, paulis_at, check_entries, check_set, check_sets, numbers, support, read, count_of}
 use Rattle.pauli.specs.Support.{most_qubits, insert_all}
 use Rattle.pauli.specs.RollAnswers.{told_entry}
 use Rattle.pauli.proofs.roll.Told.{refused_none, test_pass, test_refuses}
@@ -83,19 +83,15 @@ module _ (ls : List (List ℕ)) (i k : ℕ) (h : k < length ls) (q least : ℕ) 
   abbrev further : Told Unit
   further = check_set i (q + 1) (numbers_from ls (k + 1))
 
-  set_step : here ≡ refuse_if (ltb highest_qubit q) 5 i (refuse_if (ltb q least) 6 i further)
+  set_step : here ≡ refuse_if (ltb q least) 6 i further
   unfolding check_set
   set_step = rw (numbers_next ls k h, ← e, add-one q)
 
-  pub set_high : highest_qubit < q → here ≡ refused 5 i
-  set_high w = set_step ∙ test_refuses _ 5 i _ (lt-ltb _ _ w)
+  pub set_falls : q < least → here ≡ refused 6 i
+  set_falls w = set_step ∙ test_refuses _ 6 i _ (lt-ltb _ _ w)
 
-  module _ (low : q ≤ highest_qubit) where
-    pub set_falls : q < least → here ≡ refused 6 i
-    set_falls w = set_step ∙ test_pass _ 5 i _ (le-ltb _ _ low) ∙ test_refuses _ 6 i _ (lt-ltb _ _ w)
-
-    pub set_rises : least ≤ q → here ≡ further
-    set_rises w = set_step ∙ test_pass _ 5 i _ (le-ltb _ _ low) ∙ test_pass _ 6 i _ (le-ltb _ _ w)
+  pub set_rises : least ≤ q → here ≡ further
+  set_rises w = set_step ∙ test_pass _ 6 i _ (le-ltb _ _ w)
 
 pub set_end : (ls : List (List ℕ)) (i k least : ℕ) → length ls ≤ k → check_set i least (numbers_from ls k) ≡ answer tt
 unfolding check_set

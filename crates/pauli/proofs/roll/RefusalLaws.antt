@@ -32,7 +32,7 @@ of_set : (i least : ℕ) (qs : List ℕ) → i < 128 → OfRoll (check_set i lea
 unfolding OfRoll check_set
 of_set i least [] h = tt
 of_set i least (q ∷ qs) h =
-    of_test _ 5 i _ (omega arith) h λ _. of_test _ 6 i _ (omega arith) h λ _. of_set i (suc q) qs h
+    of_test _ 6 i _ (omega arith) h λ _. of_set i (suc q) qs h
 
 of_sets : (i : ℕ) (ps : List Sparse) → i + length ps ≤ 128 → OfRoll (check_sets i ps)
 unfolding OfRoll check_sets

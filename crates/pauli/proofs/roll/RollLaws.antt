@@ -15,7 +15,7 @@ use Rattle.pauli.proofs.roll.BytesLaws.{u16_read, u16_written, length_le16, all_
 use Rattle.pauli.proofs.roll.ListSupport.{support_by_value}
 use Rattle.pauli.proofs.roll.Told.{test_pass, test_passed, answered}
 use Rattle.pauli.proofs.roll.Entries.{ten_bytes, length_entries, get_or_entries, length_entries_bytes, entries_read, entries_written}
-use Rattle.pauli.proofs.roll.Paulis.{entries_of, counted, Placed, body_at, table_entries, length_entries_of, entries_of_placed, entries_of_counted, length_bodies, all_bytes_table, all_bytes_bodies, length_paulis, entries_of_paulis, paulis_read, paulis_written, get_or_paulis}
+use Rattle.pauli.proofs.roll.Paulis.{entries_of, counted, Placed, body_at, table_entries, length_entries_of, entries_of_placed, entries_of_counted, length_bodies, all_bytes_table, all_bytes_bodies, length_paulis, entries_of_paulis, paulis_low, paulis_read, paulis_written, get_or_paulis}
 use Rattle.pauli.proofs.roll.Checks.{AllowedSets, entries_pass, entries_passed, sets_pass, sets_passed}
 use Rattle.pauli.proofs.roll.Limits.{within_fits}
 
@@ -67,7 +67,8 @@ answer_parts b ps h =
       placed = placed;
       whole = omega arith;
       paulis = same;
-      sets = rw same at (sets_passed 0 qs u sets);
+      sets = rw same at (all_zip {R = AllowedSets} (λ q s l. (record { rise = s.0; low = l.0 }, record { rise = s.1; low = l.1 })) qs
+          (sets_passed 0 qs u sets) (paulis_low b (2 + 10 * n) es));
       qubits = rw same at (ltb-false most_qubits (length (support qs)) qubits);
     }
 

@@ -42,3 +42,39 @@ module _ {A B : Type 0} (f : A → B) where
   unfolding map_told
   map_answer (answer a) b e = (a, refl, (cc))
   map_answer (refused n q) b e = absurd (refused_none n q b e)
+
+-- ---- a number that is never told
+
+unfoldable pub Never : {A : Type 0} → ℕ → Told A → Type 0
+Never k (answer a) = Unit {0}
+Never k (refused n p) = n ≡ k → ⊥
+
+-- a refusal that is told on, by a call of another answer
+pub never_on : (A B : Type 0) (k n p : ℕ) → Never {A = A} k (refused n p) → Never {A = B} k (refused n p)
+unfolding Never
+never_on A B k n p h = h
+
+module _ {A : Type 0} (k : ℕ) where
+  pub never : (t : Told A) → Never k t → (p : ℕ) → t ≡ refused k p → ⊥
+  unfolding Never
+  never t h p e = (rw e at h) refl
+
+  pub never_answer : (a : A) → Never k (answer a)
+  unfolding Never
+  never_answer a = tt
+
+  pub never_test : (t : Bool) (n p : ℕ) (next : Told A) → (n ≡ k → ⊥) → Never k next → Never k (refuse_if t n p next)
+  unfolding Never refuse_if
+  never_test true n p next h l = h
+  never_test false n p next h l = l
+
+  module _ {B : Type 0} where
+    pub never_then : (t : Told A) (next : A → Told B) → Never k t → ((a : A) → Never k (next a)) → Never k (and_then t next)
+    unfolding Never and_then
+    never_then (answer a) next h l = l a
+    never_then (refused n p) next h l = h
+
+    pub never_map : (f : A → B) (t : Told A) → Never k t → Never k (map_told f t)
+    unfolding Never map_told
+    never_map f (answer a) h = tt
+    never_map f (refused n p) h = h

@@ -9,17 +9,17 @@ loop-bytes-init c = covered_start _ _
 
 pub returns-then-i-support : goal.returns-then-i-support
 returns-then-i-support c =
-    covered_none _ _ _ _ _ c.loop-bytes.invariant c.loop-bytes-test.true _ (c.from_le_bytes.ensures ∙ u32_bytes _) _ c.place_from-place.ensures
+    covered_none _ _ _ _ _ c.loop-bytes.invariant c.loop-bytes-test.true _ (u32_bytes _ _ (omega arith) c.from_le_bytes.ensures) _ c.place_from-place.ensures
     c.requires (λ l e. omega (arith, c.if-i-support.true))
 
 pub returns-then-ne : goal.returns-then-ne
 returns-then-ne c =
-    covered_none _ _ _ _ _ c.loop-bytes.invariant c.loop-bytes-test.true _ (c.from_le_bytes.ensures ∙ u32_bytes _) _ c.place_from-place.ensures
+    covered_none _ _ _ _ _ c.loop-bytes.invariant c.loop-bytes-test.true _ (u32_bytes _ _ (omega arith) c.from_le_bytes.ensures) _ c.place_from-place.ensures
     c.requires (λ l e. eqb-false _ _ (not-true _ (sym c.ne.ensures ∙ c.if-ne.true)) (c.qubit_at-met.ensures ∙ e))
 
 pub loop-bytes-preserved : goal.loop-bytes-preserved
 loop-bytes-preserved c =
-    covered_next _ _ _ _ _ c.loop-bytes.invariant c.loop-bytes-test.true _ (c.from_le_bytes.ensures ∙ u32_bytes _) _ c.place_from-place.ensures
+    covered_next _ _ _ _ _ c.loop-bytes.invariant c.loop-bytes-test.true _ (u32_bytes _ _ (omega arith) c.from_le_bytes.ensures) _ c.place_from-place.ensures
     (omega (arith, c.if-i-support.false)) (sym c.qubit_at-met.ensures ∙ eqb-true _ _ (not-false _ (sym c.ne.ensures ∙ c.if-ne.false)))
 
 pub returns : goal.returns

@@ -16,7 +16,7 @@ returns-then-is_past_limit c = walking_full _ _ _ _ _ _ c.loop-bytes.invariant (
 
 pub loop-bytes-preserved : goal.loop-bytes-preserved
 loop-bytes-preserved c =
-    walking_next _ _ _ _ _ _ c.loop-bytes.invariant (rw numbers_length c.loop-bytes-test.true) _ (c.from_le_bytes.ensures ∙ u32_bytes _ ∙ sym (number_at _ _ c.loop-bytes-test.true)) _ _ (ltb-false _ _ (sym c.is_past_limit.ensures ∙ c.if-is_past_limit.false)) c.note-from.ensures.known c.note-from.ensures.next
+    walking_next _ _ _ _ _ _ c.loop-bytes.invariant (rw numbers_length c.loop-bytes-test.true) _ (u32_bytes _ _ (omega arith) c.from_le_bytes.ensures ∙ sym (number_at _ _ c.loop-bytes-test.true)) _ _ (ltb-false _ _ (sym c.is_past_limit.ensures ∙ c.if-is_past_limit.false)) c.note-from.ensures.known c.note-from.ensures.next
 
 pub returns : goal.returns
 returns c = walking_end _ _ _ _ _ _ c.loop-bytes.invariant (rw numbers_length c.loop-bytes-test.false)
