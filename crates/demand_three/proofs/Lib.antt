@@ -7,3 +7,4 @@ pub mod ReadBack
 pub mod CommonDemand
 pub mod ManyElements
 pub mod Sizes
+pub mod NeverFive
