@@ -3,7 +3,7 @@
 #
 # SOURCES is the folder of the Rust's sources (compare/oracle/README.md). WORDS:
 #   --quick                                  fewer sizes, fewer and shorter repeats: under half a minute, not a few minutes
-#   --only NAME                              one call by its name in include/howhiruke.h without howhiruke_; or growth
+#   --only NAME                              one call by its name in include/howhiruke.h without howhiruke_; growth; or numbers
 #   --record                                 measures everything, and rewrites the figures and plots of docs/PERFORMANCE.md
 #   --ours NAME GENERATORS QUBITS KIND N     ours alone, N times, for a profiler; KIND is sparse, dense or commuting; NAME may be
 #                                            call,case; for echelon_form, GENERATORS are rows and QUBITS half of the columns
@@ -19,7 +19,7 @@
 # have at most 64 generators in either. A non-member's bits do not solve where such an element is found; else it is a member times i; else
 # it has a further qubit (dense lists on few qubits, where every element on them is a member). A closing listing has fewer than 128
 # dense generators on 128 qubits, as its input has at most 65,536 bytes. Many elements are members and non-members in turn, and what 40
-# cost in times of one is printed, for 40 dense generators on 128 qubits. The lists of the centralizers are on 63 qubits where others are on
+# cost in times of one is printed, for 40 dense generators on 128 qubits; and what numbers around 2^31 cost in times of numbers around 0. The lists of the centralizers are on 63 qubits where others are on
 # 128; their named support is every second qubit of the list and as many further ones, or what 63 together leave room for. check_roll and
 # standard_bound are beside the oracle's reader alone; joined_sizes and page_size beside the Rust's own joining and listing, since it has
 # no call for sizes; joined_entry and joined_body have no call in the Rust. M4RI reduces [A | I]; copying the input into place is timed on

@@ -82,8 +82,8 @@ def bars(rows):
 
 def costs(rows):
     """Ours alone: what the dearer of two costs in times of the other."""
-    return [[f"{title(row)}, {size(row)}", "4 or less", ratio(row), f"ours: {short(number(row, 'theirs_us'))} and {short(number(row, 'ours_us'))}"]
-            for row in of(rows, "many")]
+    return [[f"{title(row)}, {size(row)}", bar, ratio(row), f"ours: {short(number(row, 'theirs_us'))} and {short(number(row, 'ours_us'))}"]
+            for section, bar in (("many", "4 or less"), ("numbers", "1")) for row in of(rows, section)]
 
 
 def by_call(rows):

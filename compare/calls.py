@@ -131,11 +131,11 @@ def named(r):
 
 
 def refused_support(r, paulis):
-    """13: the named support does not rise, passes the limit, or has too many qubits together with the list's own."""
+    """13: the named support does not rise, or has too many qubits together with the list's own."""
     own = roll.support(paulis)
     numbers = own if r.op == 24 else named(r)
     rises = all(a < b for a, b in zip(numbers, numbers[1:]))
-    return not rises or any(q > roll.LAST_QUBIT for q in numbers) or len({*numbers, *own}) > MOST_TOGETHER
+    return not rises or len({*numbers, *own}) > MOST_TOGETHER
 
 
 def refused_early(r):
@@ -318,9 +318,8 @@ def result(r, answers):
 
 
 def is_asked(r):
-    """Whether the oracle takes the named support of an accepted list: no number above the last qubit, and no more qubits than a list has."""
-    numbers, own = named(r), roll.support(roll.read(r.first))
-    return all(q <= roll.LAST_QUBIT for q in numbers) and len({*numbers, *own}) <= roll.MOST_QUBITS
+    """Whether the oracle takes the named support of an accepted list: with it no more qubits than a list has."""
+    return len({*named(r), *roll.support(roll.read(r.first))}) <= roll.MOST_QUBITS
 
 
 def is_bad(r, found, answers):

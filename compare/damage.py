@@ -129,7 +129,7 @@ def of_size(rng, paulis):
     """A whole roll near one of its limits: Paulis or distinct qubits."""
     if rng.randrange(2):
         return padded(rng, paulis, rng.choice(LIMITS))
-    return shared_out(rng, rng.sample(range(65_536), rng.choice(LIMITS)), 1 + rng.randrange(4))
+    return shared_out(rng, rng.sample(range(NUMBERS), rng.choice(LIMITS)), 1 + rng.randrange(4))
 
 
 def near_joined_limit(rng, left, right):
@@ -138,7 +138,7 @@ def near_joined_limit(rng, left, right):
         total = max(rng.choice(LIMITS), len(left) + len(right))
         count = rng.randrange(max(len(left), total - 128), min(128, total - len(right)) + 1)
         return padded(rng, left, count), padded(rng, right, total - count)
-    qubits = rng.sample(range(65_536), rng.choice(LIMITS))
+    qubits = rng.sample(range(NUMBERS), rng.choice(LIMITS))
     middle = rng.randrange(len(qubits) - 128 if len(qubits) > 128 else 0, min(128, len(qubits)) + 1)
     common = rng.sample(qubits[:middle], min(middle, rng.randrange(3), 128 - len(qubits[middle:])))
     return shared_out(rng, qubits[:middle], 1 + rng.randrange(3)), shared_out(rng, qubits[middle:] + common, 1 + rng.randrange(3))
@@ -199,7 +199,7 @@ def damaged_sizes(rng, r):
 
 
 def damaged_support(rng, r):
-    """A named support that is mixed, has a number twice or one that is too high, or is as large as may be, give or take one."""
+    """A named support that is mixed, has a number twice or one of the highest, or is as large as may be, give or take one."""
     named = list(struct.unpack(f"<{len(r.second) // 4}I", r.second))
     own = set(roll.support(roll.read(r.first)))
     kind = rng.randrange(4)

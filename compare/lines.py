@@ -277,6 +277,11 @@ def edge_lines():
     wide = [roll.write([Pauli(0, (q,), ()) for q in range(low, low + 64)]) for low in (0, 32, 64, 65)]
     for text in ("A|B", "A|C", "A|D", "A&D", "A/D", "(A|B)&C", "A&C|D", "A&C|C", "A|B|C", "B&C|A"):
         yield Line(text.encode(), tuple(wide), 0, LINE_WORDS)
+    last = 2**32 - 1
+    high = [roll.write([Pauli(0, (q,), ()), Pauli(0, (0, 3, q), (q,))]) for q in (65_535, 65_536, last)] + [roll.write([Pauli(0, (last, 0), ())])]
+    for text in ("A", "B", "C", "A|B", "A|C", "A&B", "B&C", "(A|B|C)/C", "(A|B)&(B|C)", "C&C", "A|B&C"):
+        for sent in (tuple(high), tuple(high[:3]) + (b"",)):
+            yield Line(text.encode(), sent, 0, LINE_WORDS)
 
 
 # ---- runs

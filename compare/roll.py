@@ -3,7 +3,6 @@ from typing import NamedTuple
 
 MOST_PAULIS = 128
 MOST_QUBITS = 128
-LAST_QUBIT = 65_535
 
 
 class Pauli(NamedTuple):
@@ -47,11 +46,9 @@ def refused_table(entries):
 
 
 def refused_set(numbers, place):
-    """The first number of a set that is refused: above the last qubit (5), not above the number before it (6)."""
+    """The first number of a set that is not above the one before it (6)."""
     before = -1
     for number in numbers:
-        if number > LAST_QUBIT:
-            return Refusal(5, place)
         if number <= before:
             return Refusal(6, place)
         before = number

@@ -21,6 +21,7 @@ from matrices import gauss_jordan, solve  # noqa: E402
 from roll import Pauli, Refusal  # noqa: E402
 
 IDENTITY = Pauli(0, (), ())
+LAST = 2**32 - 1
 
 
 # ---- Paulis as the field writes them
@@ -42,8 +43,8 @@ def places(letters, which):
 
 def on(letter, *qubits):
     """The same letter on some qubits."""
-    most = max(qubits) + 1
-    return word("".join(letter if q in qubits else "I" for q in range(most)))
+    numbers = tuple(sorted(qubits))
+    return Pauli(len(numbers) % 4 if letter == "Y" else 0, numbers if letter in "XY" else (), numbers if letter in "ZY" else ())
 
 
 def minus(pauli):
@@ -223,7 +224,9 @@ def code_inputs():
         "bell-wrong-sign": given(words("XX ZZ YY"), words("YY -YY -II XI")),
         "repetition": given(words("ZZI IZZ ZIZ"), words("ZIZ ZZI -ZIZ ZZZ") + [on("X", 0, 1, 2)]),
         "order-four": given([Pauli(0, (0,), (0,))], [Pauli(0, (0,), (0,)), word("Y"), word("-I"), word("iI")]),
-        "last-qubit": given([on("X", 65_535)], [on("X", 65_535), on("X", 0)]),
+        "wide-numbers": given([on("X", 65_535, 65_536), on("Z", 65_536, LAST)],
+                              [on("X", 65_535, 65_536), on("X", 65_536), on("Z", 65_536, LAST), on("Z", 0, LAST)]),
+        "last-qubit": given([on("X", LAST)], [on("X", LAST), on("X", 0)]),
     }
 
 
@@ -240,7 +243,6 @@ def refused_inputs():
         "no-length": whole[:3],
         "no-elements": whole[:4 + len(small)],
         "not-rising": joined(roll.write([Pauli(0, (1, 0), ())]), second),
-        "past-last-qubit": joined(first, roll.write([on("X", 0), Pauli(0, (65_536,), ())])),
         "longest": joined(small, roll.write(wide(126, (room - 10 * 126) // 4))),
         "too-long": joined(small, roll.write(wide(127, (room + 2 - 10 * 127) // 4))),
     }

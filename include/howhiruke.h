@@ -39,7 +39,7 @@ extern "C" {
 /* Limits. */
 #define HOWHIRUKE_MOST_PAULIS 128       /* of a roll, and of two lists joined */
 #define HOWHIRUKE_MOST_QUBITS 128       /* distinct ones, of a roll and of two lists joined */
-#define HOWHIRUKE_HIGHEST_QUBIT 65535   /* the largest qubit number */
+#define HOWHIRUKE_HIGHEST_QUBIT 4294967295u /* the largest qubit number: all numbers of 32 bits are taken */
 #define HOWHIRUKE_MOST_LISTED_RANK 16   /* of a group whose elements are listed */
 #define HOWHIRUKE_DEFAULT_PAGE 16       /* elements of a page with count 0 */
 #define HOWHIRUKE_LARGEST_PAGE 128      /* elements of a page with a count of 128 or more */
@@ -62,13 +62,13 @@ extern "C" {
 
 /* Refusals, in the order in which they are looked for: 1 to 7 for each roll, left before right and generators before elements; then 2 and
  * 7 for both lists together, where a call counts them so; then 8 to 12. Within a roll: under 2 bytes (1), 2, table cut (1), each entry's
- * 3 and 4 in turn, length (1), each qubit number's 5 and 6 in turn, 7. */
+ * 3 and 4 in turn, length (1), each qubit number's 6 in turn, 7. */
 enum {
     HOWHIRUKE_REFUSED_LENGTH = 1,    /* under 2 bytes, table cut, or length not that of the table */
     HOWHIRUKE_REFUSED_PAULIS = 2,    /* over 128 Paulis, or joined list over 128 */
     HOWHIRUKE_REFUSED_ENTRY = 3,     /* `given` above 1, or start wrong */
     HOWHIRUKE_REFUSED_EXPONENT = 4,  /* exponent missing (`given` 0) */
-    HOWHIRUKE_REFUSED_QUBIT = 5,     /* qubit above 65,535 */
+    HOWHIRUKE_REFUSED_QUBIT = 5,     /* no longer occurs: was a qubit above 65,535 */
     HOWHIRUKE_REFUSED_RISING = 6,    /* a set not strictly rising */
     HOWHIRUKE_REFUSED_QUBITS = 7,    /* over 128 distinct qubits, also joined */
     HOWHIRUKE_REFUSED_NUMBER = 8,    /* generator or element number past its list */
@@ -76,7 +76,7 @@ enum {
     HOWHIRUKE_REFUSED_LISTING = 10,  /* listing with rank above 16 */
     HOWHIRUKE_REFUSED_SUBGROUP = 11, /* divisor not a subgroup */
     HOWHIRUKE_REFUSED_OUTPUT = 12,   /* output shorter than the result */
-    HOWHIRUKE_REFUSED_SUPPORT = 13,  /* named support not strictly rising, above 65,535, or over 63 qubits with the list's own */
+    HOWHIRUKE_REFUSED_SUPPORT = 13,  /* named support not strictly rising, or over 63 qubits with the list's own */
     HOWHIRUKE_REFUSED_LINE = 14,     /* line empty, too long, ill-formed, or naming a roll that was not sent */
     HOWHIRUKE_REFUSED_DEPTH = 15     /* line with parentheses deeper than 4 */
 };

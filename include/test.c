@@ -8,8 +8,8 @@ enum { WORDS = HOWHIRUKE_WORK_WORDS, LINE = HOWHIRUKE_LINE_WORDS, ROOM = HOWHIRU
 
 typedef struct {
     int e;
-    int xs[4];
-    int zs[4];
+    int64_t xs[4];
+    int64_t zs[4];
 } pauli;
 
 /* the end of a set */
@@ -31,7 +31,7 @@ static void put(roll *r, unsigned v, int bytes)
         r->b[r->n++] = (uint8_t)(v >> 8 * k);
 }
 
-static int many(const int *set)
+static int many(const int64_t *set)
 {
     int k = 0;
     while (set[k] != E)
@@ -256,7 +256,8 @@ static void centralizers(void)
 {
     roll bell = LIST(XX, ZZ), none = of(0, NULL), imaginary = LIST(I_I);
     pauli x2 = {0, {2, E}, {E}}, z2 = {0, {E}, {2, E}};
-    uint32_t named[64], further[] = {0, 2}, falling[] = {1, 0}, twice[] = {2, 2}, high[] = {HOWHIRUKE_HIGHEST_QUBIT + 1};
+    pauli x_last = {0, {HOWHIRUKE_HIGHEST_QUBIT, E}, {E}}, z_last = {0, {E}, {HOWHIRUKE_HIGHEST_QUBIT, E}};
+    uint32_t named[64], further[] = {0, 2}, falling[] = {1, 0}, twice[] = {2, 2}, high[] = {0, 1, HOWHIRUKE_HIGHEST_QUBIT};
     for (uint32_t k = 0; k < 64; k++)
         named[k] = k;
     listed("centralizer of", CALL(centralizer_of, ROLL(bell), WORK, OUT), LIST(XX, ZZ, I_I));
@@ -264,11 +265,11 @@ static void centralizers(void)
     listed("within the list's own", CALL(centralizer_within, ROLL(bell), named, 2, WORK, OUT), LIST(XX, ZZ, I_I));
     listed("within none", CALL(centralizer_within, ROLL(bell), named, 0, WORK, OUT), imaginary);
     listed("within a further one", CALL(centralizer_within, ROLL(bell), further, 2, WORK, OUT), LIST(x2, z2, I_I));
+    listed("within the highest", CALL(centralizer_within, ROLL(bell), high, 3, WORK, OUT), LIST(XX, ZZ, x_last, z_last, I_I));
     told("within 63", CALL(centralizer_within, ROLL(bell), named, HOWHIRUKE_MOST_TOGETHER, WORK, OUT), 2 + 10 * 125 + 4 * 126, 0, 0);
     refused("within 64", CALL(centralizer_within, ROLL(bell), named, 64, WORK, OUT), 13, 0);
     refused("within falling", CALL(centralizer_within, ROLL(bell), falling, 2, WORK, OUT), 13, 0);
     refused("within twice", CALL(centralizer_within, ROLL(bell), twice, 2, WORK, OUT), 13, 0);
-    refused("within high", CALL(centralizer_within, ROLL(bell), high, 1, WORK, OUT), 13, 0);
     refused("within, 13 before 9", CALL(centralizer_within, ROLL(bell), falling, 2, work, WORDS - 1, OUT), 13, 0);
     refused("centralizer 9", CALL(centralizer_of, ROLL(bell), work, WORDS - 1, OUT), 9, 0);
     refused("centralizer 12", CALL(centralizer_of, ROLL(none), WORK, out, imaginary.n - 1), 12, 0);
@@ -371,16 +372,17 @@ static void common_and_report(void)
 static void refusals(void)
 {
     roll bell = LIST(XX, ZZ), x = LIST(X), z = LIST(Z), xx = LIST(XX);
-    pauli high = {0, {65536, E}, {E}}, falling = {0, {1, 0, E}, {E}};
+    pauli over_16_bits = {0, {65535, 65536, HOWHIRUKE_HIGHEST_QUBIT, E}, {E}}, falling = {0, {1, 0, E}, {E}};
     refused("1", CALL(rank, bell.b, bell.n - 1, WORK), HOWHIRUKE_REFUSED_LENGTH, 0);
     roll changed = bell;
     changed.b[12] = 2;
     refused("3", CALL(rank, ROLL(changed), WORK), 3, 1);
     changed.b[12] = 0;
     refused("4", CALL(check_roll, ROLL(changed)), 4, 1);
-    roll fifth = LIST(X, high), sixth = LIST(X, Z, falling);
-    refused("5", CALL(rank, ROLL(fifth), WORK), 5, 1);
+    roll sixth = LIST(X, Z, falling), wrapped = LIST(X, {0, {HOWHIRUKE_HIGHEST_QUBIT, 0, E}, {E}}), wide = LIST(X, over_16_bits);
     refused("6", CALL(rank, ROLL(sixth), WORK), 6, 2);
+    refused("6 after the highest number", CALL(rank, ROLL(wrapped), WORK), 6, 1);
+    listed("no 5", CALL(standard_generators, ROLL(wide), WORK, OUT), wide);
     refused("8", CALL(indexed_factorization_of, ROLL(bell), ROLL(x), 1, 0, WORK, OUT), 8, 0);
     refused("8 joined", CALL(joined_entry, ROLL(bell), ROLL(x), 3), 8, 0);
     refused("8 body", CALL(joined_body, ROLL(bell), ROLL(x), 3), 8, 0);

@@ -12,7 +12,7 @@ mod timing;
 use lists::Kind;
 use ours::Areas;
 use print::Row;
-use requests::{make, Call, Case, Request, Size, CASES, MANY};
+use requests::{make, raised, Call, Case, Request, Size, CASES, MANY};
 use std::hint::black_box;
 use timing::{compare, Figures, Plan};
 
@@ -97,6 +97,28 @@ fn forty(options: &Options, rows: &mut Vec<Row>) {
     rows.push(row);
 }
 
+/// What reading numbers around 2^31 costs in times of numbers around 0, ours alone.
+fn high_numbers(options: &Options, rows: &mut Vec<Row>) {
+    let size = Size { generators: 40, qubits: 128, kind: Kind::Dense };
+    for (call, name) in [(Call::CheckRoll, "check_roll"), (Call::Join, "join"), (Call::StandardGenerators, "standard_generators")] {
+        let case = CASES.iter().find(|case| case.call == call).unwrap();
+        let from = |by: u32| {
+            let requests: Vec<Request> = (0..options.plan.shortest).map(|number| raised(make(case, size, number), by)).collect();
+            let mut areas = Areas::new();
+            move || {
+                for request in &requests {
+                    black_box(areas.call(black_box(request)));
+                }
+            }
+        };
+        let figures = compare(options.plan, options.plan.shortest, from(0), from((1 << 31) - 64));
+        let (Size { generators, qubits, kind }, case) = (size, "numbers around 2^31 / around 0");
+        let row = Row { section: "numbers", name, case, generators, qubits, kind: kind.name(), figures };
+        print::cost(&row);
+        rows.push(row);
+    }
+}
+
 fn each_size(plan: Plan, call: Call) -> Vec<Size> {
     let mut sizes = Vec::new();
     for &generators in requests::generators_of(call) {
@@ -145,6 +167,9 @@ fn run(options: &Options) {
     calls(options, &mut areas, &mut rows);
     if asked(MANY) {
         forty(options, &mut rows);
+    }
+    if asked("numbers") {
+        high_numbers(options, &mut rows);
     }
     if asked("growth") {
         growth(options, &mut areas, &mut rows);

@@ -199,6 +199,17 @@ pub fn make(case: &Case, size: Size, number: usize) -> Request {
     Request { call: case.call, left: roll::write(&left), right: roll::write(&right), named, number, other }
 }
 
+/// The same with every qubit number so much higher.
+pub fn raised(request: Request, by: u32) -> Request {
+    let raise = |bytes: &[u8]| {
+        let mut list = roll::read(bytes).unwrap();
+        list.iter_mut().flat_map(|p| p.x.iter_mut().chain(&mut p.z)).for_each(|qubit| *qubit += by);
+        roll::write(&list)
+    };
+    let right = if request.right.is_empty() { vec![] } else { raise(&request.right) };
+    Request { left: raise(&request.left), right, ..request }
+}
+
 fn one_list(random: &mut Random, size: Size) -> Vec<Plain> {
     size.kind.list(random, size.generators, size.qubits)
 }

@@ -30,8 +30,8 @@ pub const LARGEST_LISTING: usize = 53_924;
 pub const MOST_PAULIS: usize = 128;
 /// Distinct qubits of a roll, and of two lists joined.
 pub const MOST_QUBITS: usize = 128;
-/// The largest qubit number.
-pub const HIGHEST_QUBIT: u32 = 65_535;
+/// The largest qubit number: all numbers of 32 bits are taken.
+pub const HIGHEST_QUBIT: u32 = u32::MAX;
 /// The rank up to which [`elements`] lists a group.
 pub const MOST_LISTED_RANK: usize = 16;
 /// Elements of a page with count 0.
@@ -57,9 +57,7 @@ pub enum Reason {
     Entry,
     /// 4: the exponent is missing.
     Exponent,
-    /// 5: a qubit number is above 65,535.
-    Qubit,
-    /// 6: a set does not rise strictly.
+    /// 6: a set does not rise strictly. 5, a qubit number above 65,535, no longer occurs.
     Rising,
     /// 7: more than 128 distinct qubits, also joined.
     Qubits,
@@ -73,7 +71,7 @@ pub enum Reason {
     Subgroup,
     /// 12: the output is shorter than the result.
     Output,
-    /// 13: the named support does not rise strictly, has a number above 65,535, or more than 63 qubits with the list's own.
+    /// 13: the named support does not rise strictly, or has more than 63 qubits with the list's own.
     Support,
     /// 14: a line is empty, too long, ill-formed, or names a roll that was not sent.
     Line,
@@ -91,7 +89,6 @@ impl Reason {
             Reason::Paulis => 2,
             Reason::Entry => 3,
             Reason::Exponent => 4,
-            Reason::Qubit => 5,
             Reason::Rising => 6,
             Reason::Qubits => 7,
             Reason::Number => 8,
@@ -112,7 +109,6 @@ impl Reason {
             2 => Reason::Paulis,
             3 => Reason::Entry,
             4 => Reason::Exponent,
-            5 => Reason::Qubit,
             6 => Reason::Rising,
             7 => Reason::Qubits,
             8 => Reason::Number,
@@ -135,7 +131,6 @@ impl fmt::Display for Reason {
             Reason::Paulis => "more than 128 Paulis",
             Reason::Entry => "an entry's first byte is above 1, or its start is wrong",
             Reason::Exponent => "the exponent is missing",
-            Reason::Qubit => "a qubit number is above 65535",
             Reason::Rising => "a set does not rise strictly",
             Reason::Qubits => "more than 128 distinct qubits",
             Reason::Number => "a generator or element number is past its list",
@@ -143,7 +138,7 @@ impl fmt::Display for Reason {
             Reason::Listing => "a listing with rank above 16",
             Reason::Subgroup => "the divisor is no subgroup",
             Reason::Output => "the output is shorter than the result",
-            Reason::Support => "the named support does not rise, has a number above 65535, or is too large together with the list's own",
+            Reason::Support => "the named support does not rise, or is too large together with the list's own",
             Reason::Line => "the line is empty, too long or ill-formed, or names a roll that was not sent",
             Reason::Depth => "the line's parentheses are too deep",
             Reason::Unknown(_) => "a reason that this version does not know",

@@ -109,7 +109,8 @@ fn centralizers() {
     assert_eq!(within(&[0, 2]), Ok(roll(&[(0, &[2], &[]), (0, &[], &[2]), (1, &[], &[])])));
     assert_eq!(within(&[]), Ok(roll(&[(1, &[], &[])])));
     assert_eq!(within(&[1, 0]), refused(Reason::Support, 0));
-    assert_eq!(within(&[HIGHEST_QUBIT + 1]), refused(Reason::Support, 0));
+    let last = HIGHEST_QUBIT;
+    assert_eq!(within(&[0, 1, last]), Ok(roll(&[XX, ZZ, (0, &[last], &[]), (0, &[], &[last]), (1, &[], &[])])));
     let short = centralizer_within(&bell, &[1, 0], &mut work()[1..], &mut [0; 64]);
     assert_eq!(short, refused(Reason::Support, 0));
     assert_eq!(centralizer_of(&bell, &mut work()[1..], &mut [0; 64]), refused(Reason::Work, 0));
@@ -220,7 +221,8 @@ fn refusals() {
     let bell = roll(&[XX, ZZ]);
     assert_eq!(rank(&bell[..1], &mut work()), refused(Reason::Length, 0));
     assert_eq!(rank(&bell, &mut work()[1..]), refused(Reason::Work, 0));
-    assert_eq!(rank(&roll(&[X, (0, &[65536], &[])]), &mut work()), refused(Reason::Qubit, 1));
+    assert_eq!(rank(&roll(&[X, (0, &[65_535, 65_536, HIGHEST_QUBIT], &[])]), &mut work()), Ok(2));
+    assert_eq!(rank(&roll(&[X, (0, &[HIGHEST_QUBIT, 0], &[])]), &mut work()), refused(Reason::Rising, 1));
     assert_eq!(rank(&roll(&[X, Z, (0, &[1, 0], &[])]), &mut work()), refused(Reason::Rising, 2));
     assert_eq!(join(&bell, &bell, &mut []), refused(Reason::Output, 0));
     assert_eq!(check_roll(&roll(&[X; 128])), Ok(128));

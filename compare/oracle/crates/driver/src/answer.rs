@@ -171,14 +171,14 @@ fn reply(words: &[&str]) -> Option<String> {
         ["commute", r1, i, r2, j] => yes(commutes_with(&to_sparse(&element(r1, i)?), &to_sparse(&element(r2, j)?))),
         ["centralizer", r] => written(centralizer_of(&group("n", r)?).generators()),
         ["centralizerwithin", r, qubits] => {
-            let support: Option<Vec<usize>> = match qubits {
+            let support: Option<Vec<u32>> = match qubits {
                 "-" => Some(Vec::new()),
                 list => list.split(',').map(|q| q.parse().ok()).collect(),
             };
             let support = support?;
-            support.iter().all(|&q| q <= roll::MAX_QUBIT as usize).then_some(())?;
-            let named = Plain { e: 0, x: support.iter().map(|&q| q as u32).collect(), z: Vec::new() };
+            let named = Plain { e: 0, x: support.clone(), z: Vec::new() };
             (roll::distinct(list_of(r)?.iter().chain([&named])) <= roll::MAX_QUBITS).then_some(())?;
+            let support: Vec<usize> = support.iter().map(|&q| q as usize).collect();
             written(centralizer_within(&support, &group("n", r)?).generators())
         }
         ["report", r, e] => {

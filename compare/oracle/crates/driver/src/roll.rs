@@ -10,7 +10,6 @@ pub struct Plain {
 
 pub const MAX_PAULIS: usize = 128;
 pub const MAX_QUBITS: usize = 128;
-pub const MAX_QUBIT: u32 = 65_535;
 
 fn number(bytes: &[u8]) -> usize {
     bytes.iter().rev().fold(0, |sum, &byte| 256 * sum + byte as usize)
@@ -36,8 +35,7 @@ pub fn read(bytes: &[u8]) -> Option<Vec<Plain>> {
         }
         let take = |from: usize, to: usize| -> Option<Vec<u32>> {
             let set: Vec<u32> = body.get(4 * from..4 * to)?.chunks(4).map(|four| number(four) as u32).collect();
-            let rising = set.windows(2).all(|two| two[0] < two[1]);
-            (rising && set.iter().all(|&qubit| qubit <= MAX_QUBIT)).then_some(set)
+            set.windows(2).all(|two| two[0] < two[1]).then_some(set)
         };
         let x = take(before, before + x_count)?;
         let z = take(before + x_count, before + x_count + z_count)?;

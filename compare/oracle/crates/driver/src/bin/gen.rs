@@ -70,18 +70,18 @@ fn hexed(list: &[Plain]) -> String {
 }
 
 impl Make {
-    /// Rising qubit numbers: from 0 on, or scattered up to 65,535, or both.
+    /// Rising qubit numbers: from 0 on, or scattered over all numbers of 32 bits, or up to its last ones.
     fn universe(&mut self) -> Vec<u32> {
         let n = 1 + self.prng.below(self.qubits);
         let n = if self.prng.chance(15) { self.qubits } else { n };
         let style = self.prng.below(4);
         let mut numbers: Vec<u32> = match style {
             0 | 1 => (0..n as u32).collect(),
-            2 => (0..n).map(|_| self.prng.below(65_536) as u32).collect(),
-            _ => (0..n).map(|i| if i % 2 == 0 { i as u32 } else { 65_535 - self.prng.below(200) as u32 }).collect(),
+            2 => (0..n).map(|_| self.prng.next() as u32).collect(),
+            _ => (0..n).map(|i| if i % 2 == 0 { i as u32 } else { u32::MAX - self.prng.below(200) as u32 }).collect(),
         };
         if style >= 2 && self.prng.chance(30) {
-            numbers[0] = 65_535;
+            numbers[0] = u32::MAX;
         }
         numbers.sort_unstable();
         numbers.dedup();
@@ -218,7 +218,7 @@ impl Make {
             }
             let mut plain = one.plain(universe);
             if self.prng.chance(8) && roll::distinct([&plain]) < roll::MAX_QUBITS {
-                let off = self.prng.below(65_536) as u32;
+                let off = self.prng.next() as u32;
                 let set = if self.prng.chance(50) { &mut plain.x } else { &mut plain.z };
                 if let Err(place) = set.binary_search(&off) {
                     set.insert(place, off);
@@ -331,7 +331,7 @@ impl Make {
             "centralizerwithin" => {
                 let mut support: Vec<u32> = universe.iter().copied().filter(|_| self.prng.chance(60)).collect();
                 if self.prng.chance(30) {
-                    support.push(self.prng.below(65_536) as u32);
+                    support.push(self.prng.next() as u32);
                     support.sort_unstable();
                     support.dedup();
                 }
