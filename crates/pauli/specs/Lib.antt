@@ -23,3 +23,4 @@ pub mod ProductAnswers
 pub mod ProductContract
 pub mod ReadBack
 pub mod ProductTheorems
+pub mod OneQubit

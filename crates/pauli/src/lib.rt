@@ -26,3 +26,5 @@ pub mod lookup;
 pub mod join;
 // The call for the product of two Paulis of rolls.
 pub mod product;
+// Products on one qubit, by a table.
+pub mod one_qubit;

@@ -10,6 +10,7 @@ ghost use Rattle.pauli.specs.Refusals.{told_by};
 
 use crate::condense::condense_from;
 use crate::joined::join_support;
+use crate::one_qubit::multiply;
 use crate::refusal::{Reason, Refusal};
 use crate::roll::Roll;
 use crate::signed::store;
@@ -37,7 +38,7 @@ fn write_product(
 {
     let p = condense_from(left, i, support);
     let q = condense_from(right, j, support);
-    let product = p.times(q);
+    let product = multiply(p, q);
     let mut w = [0u64; 5];
     store(&mut w, 0, product.pauli);
     let bytes = write_roll(&[w], support, out)?;

@@ -12,7 +12,7 @@ use Rattle.pauli.specs.Support.{most_qubits}
 use Rattle.pauli.specs.RollTheorems.{AllowedSet}
 use Rattle.pauli.specs.declared.signed.Pauli.{Pauli as Held}
 use Rattle.pauli.specs.Pauli.{Pauli, times, normal, anticommute}
-use Rattle.pauli.specs.Signed.{held, pauli_in, pauli_words, paulis_in, times_stored}
+use Rattle.pauli.specs.Signed.{held, pauli_in, pauli_words, paulis_in}
 use Rattle.pauli.specs.PlaceSet.{set_in}
 use Rattle.pauli.specs.Sets.{pauli_of, sparse_of}
 use Rattle.pauli.specs.PauliTheorems.{PauliOn}
@@ -33,7 +33,6 @@ use Rattle.pauli.proofs.condense.Rows.{on_times}
 use Rattle.pauli.proofs.condense.PauliTheorems.{support_law}
 use Rattle.pauli.proofs.roll.RollLaws.{answer_parts}
 use Rattle.pauli.proofs.roll.Told.{test_passed, answered, map_answer}
-use Rattle.pauli.proofs.signed.SignedLaws.{times_value}
 use Rattle.pauli.specs.declared.product.Multiplied.{Multiplied}
 use Rattle.pauli.specs.declared.refusal.Refusal.{Refusal}
 use Rattle.pauli.specs.Refusals.{told_by}
@@ -136,10 +135,10 @@ list_stored m w e = rw e refl
 
 module _ (qs : List ℕ) (ps : List Sparse) (i : ℕ) (rs : List Sparse) (j : ℕ) (p q m : Held) (w : List ℕ)
     (hp : held p ≡ condensed qs (pauli_of (get_or ps i nothing))) (hq : held q ≡ condensed qs (pauli_of (get_or rs j nothing)))
-    (hm : held m ≡ times_stored (held p) (held q)) (hw : w ≡ sets (0 ∷ 0 ∷ 0 ∷ 0 ∷ 0 ∷ []) 0 (pauli_words m)) where
+    (hm : normal (held m) ≡ times (held p) (held q)) (hw : w ≡ sets (0 ∷ 0 ∷ 0 ∷ 0 ∷ 0 ∷ []) 0 (pauli_words m)) where
   written_list : paulis_in (w ∷ []) ≡ product_over qs ps i rs j ∷ []
   unfolding product_over
-  written_list = list_stored m w hw ∙ ap (λ (u : Pauli). u ∷ []) (times_value _ _ hm ∙ ap₂ times hp hq)
+  written_list = list_stored m w hw ∙ ap (λ (u : Pauli). u ∷ []) (hm ∙ ap₂ times hp hq)
 
   written_roll : roll_over qs (paulis_in (w ∷ [])) ≡ product_bytes qs ps i rs j
   unfolding product_bytes

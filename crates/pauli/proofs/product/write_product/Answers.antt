@@ -15,7 +15,7 @@ write_roll-requires c =
       omega arith,
       c.requires.2,
       written_places a.support.now (list_of a.left.bytes.now) a.i (list_of a.right.bytes.now) a.j _ _ _ _
-          c.condense_from-p.ensures c.condense_from-q.ensures c.times-product.ensures.pauli c.store.ensures _ refl,
+          c.condense_from-p.ensures c.condense_from-q.ensures c.multiply-product.ensures.pauli c.store.ensures _ refl,
     )
 
 pub returns-in_err-bytes-clause-told : goal.returns-in_err-bytes-clause-told
@@ -24,24 +24,24 @@ returns-in_err-bytes-clause-told c =
     let a = c.args in
     ap (told_by made_in) (handed_on _ _ c.from_residual.ensures.1)
     ∙ written_told a.support.now (list_of a.left.bytes.now) a.i (list_of a.right.bytes.now) a.j _ _ _ _
-    c.condense_from-p.ensures c.condense_from-q.ensures c.times-product.ensures.pauli c.store.ensures a.out.now _ c.in_err-bytes.ensures.told
+    c.condense_from-p.ensures c.condense_from-q.ensures c.multiply-product.ensures.pauli c.store.ensures a.out.now _ c.in_err-bytes.ensures.told
 
 pub returns-in_err-bytes-clause-left : goal.returns-in_err-bytes-clause-left
 returns-in_err-bytes-clause-left c =
     let a = c.args in
     written_left a.support.now (list_of a.left.bytes.now) a.i (list_of a.right.bytes.now) a.j _ _ _ _
-    c.condense_from-p.ensures c.condense_from-q.ensures c.times-product.ensures.pauli c.store.ensures a.out.now _ c.in_err-bytes.ensures.left
+    c.condense_from-p.ensures c.condense_from-q.ensures c.multiply-product.ensures.pauli c.store.ensures a.out.now _ c.in_err-bytes.ensures.left
 
 pub returns-clause-told : goal.returns-clause-told
 unfolding made_with map_told
 returns-clause-told c =
     let a = c.args in
-    ap (λ (b : Bool). answer (record { bytes = c.in_ok-bytes.bytes; anticommute = b })) c.times-product.ensures.anticommute
+    ap (λ (b : Bool). answer (record { bytes = c.in_ok-bytes.bytes; anticommute = b })) c.multiply-product.ensures.anticommute
     ∙ written_told a.support.now (list_of a.left.bytes.now) a.i (list_of a.right.bytes.now) a.j _ _ _ _
-    c.condense_from-p.ensures c.condense_from-q.ensures c.times-product.ensures.pauli c.store.ensures a.out.now _ c.in_ok-bytes.ensures.told
+    c.condense_from-p.ensures c.condense_from-q.ensures c.multiply-product.ensures.pauli c.store.ensures a.out.now _ c.in_ok-bytes.ensures.told
 
 pub returns-clause-left : goal.returns-clause-left
 returns-clause-left c =
     let a = c.args in
     written_left a.support.now (list_of a.left.bytes.now) a.i (list_of a.right.bytes.now) a.j _ _ _ _
-    c.condense_from-p.ensures c.condense_from-q.ensures c.times-product.ensures.pauli c.store.ensures a.out.now _ c.in_ok-bytes.ensures.left
+    c.condense_from-p.ensures c.condense_from-q.ensures c.multiply-product.ensures.pauli c.store.ensures a.out.now _ c.in_ok-bytes.ensures.left
