@@ -109,6 +109,10 @@ howhiruke_answer howhiruke_product(const uint8_t *left, size_t left_len, size_t 
                                    const uint8_t *right, size_t right_len, size_t j,
                                    uint8_t *out, size_t out_len);
 
+/* The product of two signed Paulis on one qubit, by their numbers: 4 times (2 times x + z), plus the exponent, 0 to 15, where x and z are 1
+ * if the qubit is in that set. Z (4) times X (8) is 14, X times Z is 12. first: the product's number. Refusal 8. */
+howhiruke_answer howhiruke_one_qubit_product(size_t a, size_t b);
+
 /* Writes the roll of left's Paulis, then right's. first: its length. Refusals 1 to 7, 12; 2 and 7 also joined. */
 howhiruke_answer howhiruke_join(const uint8_t *left, size_t left_len, const uint8_t *right, size_t right_len,
                                 uint8_t *out, size_t out_len);

@@ -222,6 +222,11 @@ static void others(void)
     pauli zz_xx = {0, {0, 1, E}, {0, 1, E}};
     multiplied("ZZ times XX", CALL(product, ROLL(bell), 1, ROLL(bell), 0, OUT), LIST(zz_xx), 0);
     wrote("join", CALL(join, ROLL(bell), ROLL(x1), OUT), LIST(XX, ZZ, X1));
+    told("Z times X on one qubit", CALL(one_qubit_product, 4, 8), 14, 0, 0);
+    told("X times Z on one qubit", CALL(one_qubit_product, 8, 4), 12, 0, 0);
+    told("Y times -Y on one qubit", CALL(one_qubit_product, 13, 15), 2, 0, 0);
+    refused("16 on one qubit", CALL(one_qubit_product, 16, 0), 8, 0);
+    refused("and on the right", CALL(one_qubit_product, 15, 16), 8, 0);
     told("joined entry", CALL(joined_entry, ROLL(bell), ROLL(x1), 1), 0, 0, 2);
     told("joined body", CALL(joined_body, ROLL(bell), ROLL(x1), 1), 0, 30, 8);
     told("joined body of right", CALL(joined_body, ROLL(bell), ROLL(x1), 2), 1, 12, 4);

@@ -1,7 +1,7 @@
 #!/bin/sh
 # make.sh NAME..: proves each crate and what it rests on, and builds it: a program to target/bin/NAME, capi to target/staticlib/libcapi.a.
 set -eu
-[ $# -ge 1 ] || { echo "usage: make.sh NAME.. (report, replay, matrices, capi)" >&2; exit 2; }
+[ $# -ge 1 ] || { echo "usage: make.sh NAME.. (report, replay, matrices, table, capi)" >&2; exit 2; }
 command -v rt > /dev/null || { echo "make.sh: rt is missing" >&2; exit 1; }
 root=$(cd "$(dirname "$0")/.." && pwd)
 mkdir -p "$root/target/bin" "$root/target/staticlib"

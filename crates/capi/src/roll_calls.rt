@@ -1,6 +1,7 @@
 // The calls on rolls alone. No call here uses a work area.
 ghost use Rattle.std.specs.Prelude.{◌≡◌, ◌<◌};
 ghost use Rattle.pauli.specs.Roll.{count_of};
+ghost use Rattle.pauli.specs.OneQubit.{one_qubit_call};
 ghost use Rattle.pauli.specs.Told.{answer};
 ghost use Rattle.pauli.specs.JoinCalls.{join_of, entry_of, stretch_in};
 ghost use Rattle.capi.specs.Code.{code_number, code_looked, code_body};
@@ -10,6 +11,7 @@ use crate::answer::{Answer, code_looked, code_number, code_product, code_refusal
 use pauli::join::join;
 use pauli::joined::Pair;
 use pauli::lookup::joined_entry;
+use pauli::one_qubit::one_qubit_product;
 use pauli::product::product;
 use pauli::refusal::Reason;
 use pauli::roll::{Roll, check_roll};
@@ -36,6 +38,15 @@ pub extern "C" fn howhiruke_product(
 {
     let made = product(left, i, right, j, out);
     code_product(made)
+}
+
+// The product of two signed Paulis on one qubit, by their numbers.
+#[unsafe(no_mangle)]
+pub extern "C" fn howhiruke_one_qubit_product(a: usize, b: usize) -> Answer
+    ensures { result ≡ code_number (one_qubit_call a b) }
+{
+    let found = one_qubit_product(a, b);
+    code_number(found)
 }
 
 // Writes the joined roll.

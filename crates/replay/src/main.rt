@@ -1,4 +1,4 @@
-// Calls in, one line out for each: operations 0 to 26.
+// Calls in, one line out for each: operations 0 to 26 and 30.
 //
 // A request is 28 bytes, little-endian, and two byte strings. Byte 0 is the operation, bytes 1 and 2 the promises, byte 3 the
 // byte that fills the output and the work area before the call; from byte 4 on six numbers of four bytes: a, b, the bytes of

@@ -11,6 +11,7 @@ pub(crate) enum OnRolls {
     Multiply,
     Sizes,
     Bound,
+    OneQubit,
     Join,
     Body,
     Entry,
@@ -90,6 +91,7 @@ impl TryFrom<u8> for Operation {
             24 => Ok(Operation::Written(Written::Centralizer)),
             25 => Ok(Operation::Within),
             26 => Ok(Operation::Line),
+            30 => Ok(Operation::OnRolls(OnRolls::OneQubit)),
             _ => Err(Unknown),
         }
     }

@@ -11,6 +11,7 @@ use combined_lists::combine::{LINE_WORDS, combine};
 use factorizations::calls::indexed_factorizations_of;
 use pauli::join::join;
 use pauli::lookup::{joined_body, joined_entry};
+use pauli::one_qubit::one_qubit_product;
 use pauli::product::product;
 use pauli::roll::check_roll;
 use pauli_group::area::WORK_WORDS;
@@ -51,6 +52,7 @@ fn run_rolls<W: Write>(
         OnRolls::Entry => print_entry(to, joined_entry(first, second, a))?,
         OnRolls::Sizes => print_sizes(to, joined_sizes(first, second))?,
         OnRolls::Bound => print_number(to, "bound", standard_bound(first))?,
+        OnRolls::OneQubit => print_number(to, "product", one_qubit_product(a, b))?,
     }
     Ok(0)
 }

@@ -20,6 +20,7 @@ extern "C" {
         left: *const u8, nl: usize, i: usize, right: *const u8, nr: usize, j: usize, out: *mut u8, room: usize,
     ) -> Answer;
     pub fn howhiruke_join(left: *const u8, nl: usize, right: *const u8, nr: usize, out: *mut u8, room: usize) -> Answer;
+    pub fn howhiruke_one_qubit_product(a: usize, b: usize) -> Answer;
     pub fn howhiruke_joined_entry(left: *const u8, nl: usize, right: *const u8, nr: usize, n: usize) -> Answer;
     pub fn howhiruke_joined_body(left: *const u8, nl: usize, right: *const u8, nr: usize, n: usize) -> Answer;
     pub fn howhiruke_standard_generators(

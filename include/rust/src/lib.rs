@@ -288,6 +288,11 @@ pub fn product(left: &[u8], i: usize, right: &[u8], j: usize, out: &mut [u8]) ->
     Ok(Product { bytes: a.first as usize, anticommute: a.second == 1 })
 }
 
+/// The number of the product of two signed Paulis on one qubit, each by its number: 4 times (2 times x + z), plus the exponent. Reason 8.
+pub fn one_qubit_product(a: usize, b: usize) -> Result<usize, Refusal> {
+    number(unsafe { calls::howhiruke_one_qubit_product(a, b) })
+}
+
 /// Writes the roll of the Paulis of `left`, then those of `right`; its length. Reasons 1 to 7 and 12; 2 and 7 also joined.
 pub fn join(left: &[u8], right: &[u8], out: &mut [u8]) -> Result<usize, Refusal> {
     number(unsafe { calls::howhiruke_join(left.as_ptr(), left.len(), right.as_ptr(), right.len(), out.as_mut_ptr(), out.len()) })

@@ -210,6 +210,9 @@ fn rolls() {
     assert!(!product(&bell, 0, &bell, 1, &mut out).unwrap().anticommute);
     let n = join(&bell, &x1, &mut out).unwrap();
     assert_eq!(out[..n], roll(&[XX, ZZ, X1]));
+    assert_eq!(one_qubit_product(4, 8), Ok(14));
+    assert_eq!(one_qubit_product(8, 4), Ok(12));
+    assert_eq!(one_qubit_product(15, 16), refused(Reason::Number, 0));
     assert_eq!(joined_entry(&bell, &x1, 1), Ok(Entry { exponent: 0, xcount: 0, zcount: 2 }));
     assert_eq!(joined_body(&bell, &x1, 1), Ok(&bell[30..38]));
     assert_eq!(joined_body(&bell, &x1, 2), Ok(&x1[12..16]));
