@@ -3,7 +3,7 @@
 #
 # SOURCES is the folder of the Rust's sources (compare/oracle/README.md). WORDS:
 #   --quick                                  fewer sizes, fewer and shorter repeats: under half a minute, not a few minutes
-#   --only NAME                              one call by its name in include/howhiruke.h without howhiruke_; growth; or numbers
+#   --only NAME                              one call by its name in include/howhiruke.h without howhiruke_; one_qubit, growth, numbers
 #   --record                                 measures everything, and rewrites the figures and plots of docs/PERFORMANCE.md
 #   --ours NAME GENERATORS QUBITS KIND N     ours alone, N times, for a profiler; KIND is sparse, dense or commuting; NAME may be
 #                                            call,case; for echelon_form, GENERATORS are rows and QUBITS half of the columns

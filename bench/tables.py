@@ -72,6 +72,7 @@ def bars(rows):
     cells += costs(rows)
     lowest = min(calls, key=lambda row: number(row, "ratio"))
     cells.append([f"the lowest of all {len(calls)}: {title(lowest)}, {size(lowest)}", "1 or more", ratio(lowest), times(lowest)])
+    cells += [[f"{title(row)}, {size(row)}", "1 or more", ratio(row), times(row)] for row in of(rows, "one qubit")]
     for shape in once((row["generators"], row["qubits"]) for row in of(rows, "matrices")):
         ways = [row for row in of(rows, "matrices") if (row["generators"], row["qubits"]) == shape]
         fastest = min(ways, key=lambda row: number(row, "ratio"))

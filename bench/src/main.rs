@@ -97,6 +97,15 @@ fn forty(options: &Options, rows: &mut Vec<Row>) {
     rows.push(row);
 }
 
+/// Products of Paulis that lie on one qubit.
+fn one_qubit(options: &Options, areas: &mut Areas, rows: &mut Vec<Row>) {
+    let size = Size { generators: 2, qubits: 1, kind: Kind::Dense };
+    let case = CASES.iter().find(|case| case.call == Call::Product).unwrap();
+    let figures = measure(options.plan, areas, case, size);
+    let Size { generators, qubits, kind } = size;
+    note(rows, Row { section: "one qubit", name: case.name, case: "one qubit", generators, qubits, kind: kind.name(), figures });
+}
+
 /// What reading numbers around 2^31 costs in times of numbers around 0, ours alone.
 fn high_numbers(options: &Options, rows: &mut Vec<Row>) {
     let size = Size { generators: 40, qubits: 128, kind: Kind::Dense };
@@ -167,6 +176,9 @@ fn run(options: &Options) {
     calls(options, &mut areas, &mut rows);
     if asked(MANY) {
         forty(options, &mut rows);
+    }
+    if asked("one_qubit") {
+        one_qubit(options, &mut areas, &mut rows);
     }
     if asked("numbers") {
         high_numbers(options, &mut rows);

@@ -2,7 +2,7 @@
 use crate::timing::Figures;
 use std::fmt::Write;
 
-/// One measurement. `section` is `calls`, `growth`, `many`, `numbers` or `matrices`. In `many` and `numbers` both times are ours, `theirs` that of the dearer. In
+/// One measurement. `section` is `calls`, `one qubit`, `growth`, `many`, `numbers` or `matrices`. In `many` and `numbers` both times are ours, `theirs` that of the dearer. In
 /// `matrices` the `generators` are rows and `qubits` half of the columns.
 pub struct Row {
     pub section: &'static str,
