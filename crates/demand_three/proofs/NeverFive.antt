@@ -5,6 +5,7 @@ use Rattle.std.proofs.Math.Option.{Option as MathOption, some, none}
 use Rattle.pauli.specs.declared.refusal.Reason.{Reason}
 use Rattle.pauli.specs.declared.refusal.Reason.TheVariants.{Length, Paulis, Entry, Exponent, Rising, Qubits, Number, Work, Listing, Subgroup, Output, Support, Line, Depth}
 use Rattle.pauli.specs.JoinCalls.{Lists, read_both, few_qubits, within, factors_of, product_of, made_with, made_of, joined_of, join_of, entry_of, stretch_of}
+use Rattle.pauli.specs.OneQubit.{one_qubit_call}
 use Rattle.pauli.specs.Refusals.{number_of}
 use Rattle.pauli.specs.Roll.{Sparse, support, read, count_of}
 use Rattle.pauli.specs.Told.{Told, answer, refused}
@@ -224,11 +225,12 @@ reasons_never Line e = omega arith
 reasons_never Depth e = omega arith
 
 pub calls_never_five : CallsNeverFive
-unfolding count_of stretch_of standard_generators rank_call phases_call abelian_call stabilizer_call size_call factorization_call symplectic_call order_call modulo_call factorizations_call joined_sizes standard_bound listing
+unfolding count_of one_qubit_call stretch_of standard_generators rank_call phases_call abelian_call stabilizer_call size_call factorization_call symplectic_call order_call modulo_call factorizations_call joined_sizes standard_bound listing
 calls_never_five =
     record {
       check_roll = λ b. never 5 _ (never_map 5 length (read b) (read_never b));
       product = λ l i r j out. never 5 _ (product_never l i r j out);
+      one_qubit_product = λ a b. never 5 _ (never_test 5 _ 8 0 _ (omega arith) (never_test 5 _ 8 0 _ (omega arith) (never_answer 5 _)));
       join = λ l r out. never 5 _ (bytes_never (join_of l r) out (join_never l r));
       joined_entry = λ l r n. never 5 _ (entry_never l r n);
       joined_body = λ l r n. never 5 _ (never_map 5 _ (entry_of l r n) (entry_never l r n));

@@ -3,6 +3,7 @@ use Rattle.std.specs.Prelude.{◌≡◌, ◌⊎◌, List, ℕ}
 use Rattle.pauli.specs.declared.refusal.Reason.{Reason}
 use Rattle.pauli.specs.JoinCalls.{made_of, join_of, entry_of, stretch_of}
 use Rattle.pauli.specs.OldLimit.{NeverFive}
+use Rattle.pauli.specs.OneQubit.{one_qubit_call}
 use Rattle.pauli.specs.Pauli.{Pauli}
 use Rattle.pauli.specs.Refusals.{number_of}
 use Rattle.pauli.specs.Roll.{count_of}
@@ -24,6 +25,7 @@ NoFiveIn text = ((gs es : List Pauli) × (text ≡ report gs es)) ⊎ ((n k roll
 pub record CallsNeverFive : Type 0 where
   pub check_roll : (b : List ℕ) → NeverFive (count_of b)
   pub product : (l : List ℕ) (i : ℕ) (r : List ℕ) (j : ℕ) (out : List ℕ) → NeverFive (made_of l i r j out)
+  pub one_qubit_product : (a b : ℕ) → NeverFive (one_qubit_call a b)
   pub join : (l r out : List ℕ) → NeverFive (told_bytes (join_of l r) out)
   pub joined_entry : (l r : List ℕ) (n : ℕ) → NeverFive (entry_of l r n)
   pub joined_body : (l r : List ℕ) (n : ℕ) → NeverFive (stretch_of l r n)
