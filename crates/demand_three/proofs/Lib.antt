@@ -8,3 +8,4 @@ pub mod CommonDemand
 pub mod ManyElements
 pub mod Sizes
 pub mod NeverFive
+pub mod NamedLimit

@@ -4,3 +4,4 @@ pub mod CommonDemand
 pub mod ManyElements
 pub mod Sizes
 pub mod NeverFive
+pub mod NamedLimit
