@@ -17,7 +17,7 @@ for name in example test; do
     gcc -std=c99 -O1 -Wall -Wextra -Werror -I "$here" "$here/$name.c" target/staticlib/libcapi.a -o "$made/$name"
 done
 "$made/example" > "$made/example.out"
-printf 'rank 2\n0 member 0 1 phase 0\n1 not member\n' | cmp - "$made/example.out"
+printf 'rank 2\n0 member 0 1 phase 0\n0 claim accepted\n1 not member\n' | cmp - "$made/example.out"
 echo "C: the example is right"
 "$made/test"
 CARGO_TARGET_DIR=$made/cargo cargo test --offline --quiet --manifest-path "$here/rust/Cargo.toml"

@@ -1,4 +1,5 @@
-/* Rank of the list XX, ZZ on qubits 0 and 1, and whether (0,{0,1},{0,1}) and (2,{0,1},{0,1}) are in its group. */
+/* Rank of the list XX, ZZ on qubits 0 and 1, whether (0,{0,1},{0,1}) and (2,{0,1},{0,1}) are in its group, and the answer for a member
+ * checked as a claim. */
 #include <stdio.h>
 #include "howhiruke.h"
 
@@ -46,9 +47,17 @@ int main(void)
             continue;
         }
         printf("%zu member", number);
-        for (uint64_t k = 0; k < a.second; k++)
-            printf(" %d", out[2 * k] + 256 * out[2 * k + 1]);
+        uint16_t indexes[128];
+        for (uint64_t k = 0; k < a.second; k++) {
+            indexes[k] = (uint16_t)(out[2 * k] + 256 * out[2 * k + 1]);
+            printf(" %d", indexes[k]);
+        }
         printf(" phase %llu\n", (unsigned long long)a.third);
+        a = howhiruke_accepts_membership(generators, sizeof generators, elements, sizeof elements, number, indexes, a.second,
+                                         (uint32_t)a.third, HOWHIRUKE_PROMISE_NONE, work, HOWHIRUKE_WORK_WORDS);
+        if (refused(a))
+            return 1;
+        printf("%zu claim %s\n", number, a.first ? "accepted" : "not accepted");
     }
     return 0;
 }

@@ -13,7 +13,7 @@
  * written (work, out, words).
  *
  * A work area has HOWHIRUKE_WORK_WORDS words or more and may hold anything. Its first HOWHIRUKE_WORK_WORDS words are zero at the end, but
- * untouched at refusals 1 to 9 and 13 to 15; its other words are never touched. For howhiruke_combine it is HOWHIRUKE_LINE_WORDS. An output is written from its front, and only the result's own bytes;
+ * untouched at refusals 1 to 9 and 13 to 16; its other words are never touched. For howhiruke_combine it is HOWHIRUKE_LINE_WORDS. An output is written from its front, and only the result's own bytes;
  * a refusal leaves it alone. An output of HOWHIRUKE_LARGEST_ROLL bytes is never too short for a roll.
  *
  * Nothing is asked of the contents: a call on any bytes ends, and answers or refuses.
@@ -78,7 +78,8 @@ enum {
     HOWHIRUKE_REFUSED_OUTPUT = 12,   /* output shorter than the result */
     HOWHIRUKE_REFUSED_SUPPORT = 13,  /* named support not strictly rising, or over 63 qubits with the list's own */
     HOWHIRUKE_REFUSED_LINE = 14,     /* line empty, too long, ill-formed, or naming a roll that was not sent */
-    HOWHIRUKE_REFUSED_DEPTH = 15     /* line with parentheses deeper than 4 */
+    HOWHIRUKE_REFUSED_DEPTH = 15,    /* line with parentheses deeper than 4 */
+    HOWHIRUKE_REFUSED_CLAIM = 16     /* claim with indexes not strictly rising or past the list, or an exponent above 3 */
 };
 
 /* refusal is 0 for an answer, which is in first, second and third; what a call does not name is 0. At a refusal, place is the
@@ -173,6 +174,29 @@ howhiruke_answer howhiruke_elements(const uint8_t *roll, size_t roll_len, uint64
  * first: the roll's length. Also 12. */
 howhiruke_answer howhiruke_symplectic_form_of(const uint8_t *roll, size_t roll_len, uint64_t *work, size_t work_len,
                                               uint8_t *out, size_t out_len);
+
+/* ---- claims of other programs. With a promise that is absent or true an accepted claim agrees with membership */
+
+/* A claim that Pauli `number` of the roll elements is a member: indexes of generators, which are numbers of 16 bits, strictly rising, and
+ * an exponent, 0 to 3. first: 1 where the product of these generators, times i to the exponent, is the element and that power of i is in
+ * the group; else 0. Other indexes than those of howhiruke_indexed_factorization_of may do. Refusals 1 to 7, 8, 16, 9, in this order.
+ * What howhiruke_indexed_factorization_of told and wrote is accepted:
+ *     uint16_t indexes[128];
+ *     for (size_t k = 0; k < a.second; k++)
+ *         indexes[k] = (uint16_t)(out[2 * k] + 256 * out[2 * k + 1]);
+ *     howhiruke_accepts_membership(generators, generators_len, elements, elements_len, number, indexes, a.second, (uint32_t)a.third,
+ *                                  promise, work, work_len).first == 1 */
+howhiruke_answer howhiruke_accepts_membership(const uint8_t *generators, size_t generators_len,
+                                              const uint8_t *elements, size_t elements_len, size_t number,
+                                              const uint16_t *indexes, size_t indexes_len, uint32_t exponent,
+                                              uint64_t promise, uint64_t *work, size_t work_len);
+
+/* A claim that it is none: Pauli `witness` of the roll witnesses. first: 1 where that Pauli commutes with all generators and anticommutes
+ * with the element; else 0. An element whose bits are in the span of the generators', with another sign, has no such Pauli. Refusals 1 to 7
+ * for each roll, generators, elements, witnesses, no two of them counted together; then 8 for either number. No work area. */
+howhiruke_answer howhiruke_accepts_absence(const uint8_t *generators, size_t generators_len,
+                                           const uint8_t *elements, size_t elements_len, size_t number,
+                                           const uint8_t *witnesses, size_t witnesses_len, size_t witness);
 
 /* ---- what commutes with every Pauli of the list: refusals 1 to 7, 13, 9, 12, in this order */
 

@@ -1,6 +1,6 @@
 -- The five numbers of each answer.
 use Rattle.std.proofs.Math.Option.{Option, some, none as nothing}
-use Rattle.std.specs.Prelude.{List, ℕ, length, Option as CodeOption, Some, None}
+use Rattle.std.specs.Prelude.{Bool, List, ℕ, length, Option as CodeOption, Some, None}
 use Rattle.pauli.specs.Told.{Told, answer, refused}
 use Rattle.pauli.specs.JoinCalls.{Looked, Made, Stretch}
 use Rattle.pauli_theory.specs.Order.{Order, equal, less, greater, no_order}
@@ -22,6 +22,11 @@ code_values first second third = record { refusal = 0; place = 0; first = first;
 abbrev pub code_number : Told ℕ → Answer
 code_number (answer n) = code_values n 0 0
 code_number (refused n p) = code_refusal n p
+
+-- 1 for accepted, 0 for not accepted
+abbrev pub code_accepted : Told Bool → Answer
+code_accepted (answer accepted) = code_values (yes_number accepted) 0 0
+code_accepted (refused n p) = code_refusal n p
 
 -- the length in bytes of a product's roll, and whether its factors anticommute
 abbrev pub code_product : Told Made → Answer

@@ -6,7 +6,7 @@ ghost use Rattle.pauli.specs.Refusals.{number_of, told_of, told_by};
 ghost use Rattle.pauli_group.specs.Answers.{phases_told, yes_number, factored_in, order_of};
 ghost use Rattle.factorizations.specs.Answers.{totals_in};
 ghost use Rattle.sizes.specs.Answers.{sizes_in};
-ghost use Rattle.capi.specs.Code.{code_refusal, code_values, code_number, code_product, code_phases, code_looked, code_member, code_results, code_sizes, order_number, code_order, code_form};
+ghost use Rattle.capi.specs.Code.{code_refusal, code_values, code_number, code_accepted, code_product, code_phases, code_looked, code_member, code_results, code_sizes, order_number, code_order, code_form};
 
 use factorizations::answers::Results;
 use pauli::lookup::JoinedEntry;
@@ -62,7 +62,8 @@ pub(crate) fn code_number(told: Result<usize, Refusal>) -> Answer
 }
 
 pub(crate) fn code_decided(decided: Result<bool, Refusal>) -> Answer
-    ensures { result ≡ code_number (told_by yes_number decided) }
+    ensures number { result ≡ code_number (told_by yes_number decided) }
+    ensures accepted { result ≡ code_accepted (told_of decided) }
 {
     decided.map_or_else(code_refusal, |yes| code_values(usize::from(yes), 0, 0))
 }

@@ -14,6 +14,8 @@ pub mod pair_calls;
 pub mod line_calls;
 // The calls for what commutes with every Pauli of a list.
 pub mod centralizer_calls;
+// The calls that check claims.
+pub mod claim_calls;
 // The calls that tell sizes before the work.
 pub mod size_calls;
 // The echelon form of a matrix.

@@ -1,7 +1,7 @@
 -- Indexes in an output, index sets and the generators that they name; and lists whose exponents are taken by value.
 use mathlib.Core.Path.{◌≡◌, refl, ap, ◌∙◌}
 use mathlib.Core.List.{List, [], ◌∷◌, ◌++◌, map}
-use Prim.Native.Nat.{ℕ, zero, suc, ◌+◌, ◌*◌, ◌^◌, ◌<◌}
+use Prim.Native.Nat.{ℕ, zero, suc, ◌+◌, ◌^◌, ◌<◌}
 use native.Mathlib.Omega.{arith}
 use lib.ListN.{length, get_or, drop, length-map, get_or-map}
 use lib.Seq.{ext_get_or}
@@ -11,7 +11,7 @@ use Rattle.pauli.specs.Roll.{Sparse, by_value}
 use Rattle.pauli.specs.Support.{All}
 use Rattle.pauli.specs.Sets.{members}
 use Rattle.pauli.proofs.roll.BytesLaws.{length_le16, u16_read}
-use Rattle.pauli.proofs.roll.Items.{items_at, items_bytes, length_items_at, length_items_bytes, items_read}
+use Rattle.pauli.proofs.roll.Items.{items_at, items_bytes, length_items_at, items_read}
 use Rattle.pauli.proofs.join.ReadBack.{paulis_by_value as lists_by_value}
 use Rattle.pauli_theory.specs.Group.{SameGroup}
 use Rattle.pauli_theory.proofs.IndexSets.{members_up_to}
@@ -34,9 +34,6 @@ le16s_items (n ∷ ns) = ap (le16 n ++◌) (le16s_items ns)
 
 pub length_indexes : (b : List ℕ) (i n : ℕ) → length (indexes_at b i n) ≡ n
 length_indexes b i n = rw (indexes_items, length_items_at)
-
-pub length_le16s : (ns : List ℕ) → length (le16s ns) ≡ 2 * length ns
-length_le16s ns = rw (le16s_items, length_items_bytes 2 le16 length_le16)
 
 -- the numbers that stand from byte i on, read back
 pub indexes_read : (b : List ℕ) (i : ℕ) (ns rest : List ℕ) → All (λ n. n < 2 ^ 16) ns → drop i b ≡ le16s ns ++ rest

@@ -1,31 +1,29 @@
 -- Membership, by what its calls promise.
 use Rattle.std.proofs.Common.{◌≡◌, refl, sym, ap, ap₂, ◌∙◌, subst, Bool, true, false, List, ◌++◌, ℕ, ◌+◌, ◌*◌, ◌≤◌, ◌<◌, arith, ltb, length, get_or, drop, replicate, Ok, Result, Option as CodeOption, Some, None}
 use mathlib.Core.Option.{Option, some, none}
-use borrow.Author.Tests.{ltb-false, le-ltb, lt-leb}
+use borrow.Author.Tests.{ltb-false, le-ltb}
 use lib.ListN.{length-replicate}
 use Rattle.binar.specs.Row.{weight}
 use Rattle.binar.proofs.Lists.{all_map}
-use Rattle.pauli.specs.JoinCalls.{read_both, within}
-use Rattle.pauli.specs.Pauli.{Pauli, indexed_product}
+use Rattle.pauli.specs.Pauli.{indexed_product}
 use Rattle.pauli.specs.Condense.{nothing}
 use Rattle.pauli.specs.Roll.{most_paulis, Sparse, read}
 use Rattle.pauli.specs.Sets.{members, pauli_of}
-use Rattle.pauli.specs.Told.{answer, refuse_if, and_then, map_told}
+use Rattle.pauli.specs.Told.{answer, refuse_if}
 use Rattle.pauli.specs.Writing.{put_bytes}
 use Rattle.pauli.proofs.condense.Sets.{members_rise, members_count}
-use Rattle.pauli.proofs.support.SupportLaws.{rising_bound}
-use Rattle.pauli.proofs.roll.Told.{test_pass, test_passed, map_test}
+use Rattle.pauli.proofs.roll.Told.{test_pass, test_passed}
 use Rattle.pauli_theory.specs.Group.{Generated, Promise}
 use Rattle.pauli_theory.specs.Membership.{Factorization, factorization_of}
 use Rattle.pauli_theory.specs.Theorems.{MembershipLaw}
 use Rattle.pauli_theory.proofs.IndexSets.{members_below}
 use Rattle.pauli_theory.proofs.Theorems.{group_laws}
-use Rattle.pauli_group.specs.WorkArea.{enough, area_after}
+use Rattle.pauli_group.specs.WorkArea.{area_after}
 use Rattle.pauli_group.specs.Calls.{paulis, question, factorization_call, index_bytes, Factored, factored, told_member, member_left}
-use Rattle.pauli_group.proofs.factorization.QuestionLaws.{indexes_below}
+use Rattle.pauli_group.proofs.factorization.QuestionLaws.{weight_few, index_bytes_lem, question_is}
 use Rattle.demand_three.specs.DemandThree.{Generators, list, Element, pauli, Asked, Member, indexes_at, Gives, if_area, if_room, bytes_of}
 use Rattle.pauli_group.proofs.calls.ReadBackLaws.{read_few}
-use Rattle.demand_three.proofs.DemandLists.{length_le16s, indexes_read, named_select}
+use Rattle.demand_three.proofs.DemandLists.{indexes_read, named_select}
 use Rattle.pauli_group.specs.declared.answers.Factors.{Factors}
 use Rattle.pauli.specs.declared.refusal.Refusal.{Refusal}
 use Rattle.pauli_group.specs.Answers.{factored_in}
@@ -36,10 +34,6 @@ use Rattle.pauli.specs.Refusals.{told_by}
 unfoldable pub result : Option Factorization → Option Factored
 result none = none
 result (some g) = some (factored g)
-
-pub index_bytes_lem : (g : Factorization) → length (index_bytes g) ≡ 2 * weight g.indexes
-unfolding index_bytes
-index_bytes_lem g = length_le16s (members g.indexes) ∙ ap (2 *◌) (members_count g.indexes)
 
 told_result : (t : Bool) (F : Option Factorization) (out : List ℕ)
     → told_member (refuse_if t 9 0 (answer F)) out ≡ refuse_if t 9 0 (if_room out (bytes_of (result F)) (result F))
@@ -75,26 +69,9 @@ room n = (replicate n 0, length-replicate n 0)
 
 -- ---- a question to a list, whatever is promised
 
-few_of : (b : List ℕ) (ps : List Sparse) → read b ≡ answer ps → length (paulis ps) ≤ 128
-unfolding most_paulis
-few_of = read_few
-
-pub weight_few : (promise : Promise) (b : List ℕ) (ps : List Sparse) → read b ≡ answer ps → (x : Pauli) (g : Factorization)
-    → factorization_of promise (paulis ps) x ≡ some g → weight g.indexes ≤ 128
-weight_few promise b ps p x g f =
-    let s = g.indexes in
-    let m = length (paulis ps) in
-    let low = members_below m s (indexes_below promise (paulis ps) x g (sym f)) in
-    omega (arith, rising_bound 0 m (members s) (members_rise s) low (omega arith), members_count s, few_of b ps p)
-
 module _ (promise : Promise) (b e : List ℕ) (ps qs : List Sparse) (p : read b ≡ answer ps) (q : read e ≡ answer qs) (n : ℕ) (h : n < length qs) where
   abbrev G : Option Factorization
   G = factorization_of promise (paulis ps) (pauli_of (get_or qs n nothing))
-
-  pub question_is : (words : ℕ) → factorization_call promise b e n words ≡ refuse_if (ltb words 4096) 9 0 (answer G)
-  unfolding factorization_call question read_both and_then within enough map_told
-  question_is words =
-      rw (p, q, lt-leb (length qs) n h) (ap (map_told _) (test_pass false 8 0 _ refl) ∙ map_test _ (ltb words 4096) 9 0 _)
 
   bytes_few : bytes_of (result G) ≤ 256
   unfolding bytes_of result factored
@@ -108,7 +85,7 @@ module _ (promise : Promise) (b e : List ℕ) (ps qs : List Sparse) (p : read b 
   pub told_of : (work out : List ℕ) → told_member (factorization_call promise b e n (length work)) out
       ≡ if_area work (if_room out (bytes_of (result G)) (result G))
   unfolding if_area
-  told_of work out = ap (λ t. told_member t out) (question_is (length work)) ∙ told_result (ltb (length work) 4096) G out
+  told_of work out = ap (λ t. told_member t out) (question_is promise b e ps qs p q n h (length work)) ∙ told_result (ltb (length work) 4096) G out
 
   pub passes : (work out : List ℕ) → 4096 ≤ length work → 256 ≤ length out
       → if_area work (if_room out (bytes_of (result G)) (result G)) ≡ answer (result G)
@@ -121,7 +98,8 @@ module _ (promise : Promise) (b e : List ℕ) (ps qs : List Sparse) (p : read b 
 
 module _ (A : Generators) where
   pub list_few : length (list A) ≤ 128
-  list_few = few_of A.roll A.held A.accepted
+  unfolding most_paulis
+  list_few = read_few A.roll A.held A.accepted
 
 module _ (A : Generators) (x : Element) where
   pub law : MembershipLaw A.promise (list A) (pauli x)
@@ -199,6 +177,13 @@ module _ (A : Generators) (x : Element) where
       let (f, e) = m c (omega arith) (omega arith) in
       indexes_only c f e
 
+  -- where none is generated, no call with an area finds one
+  pub not_member_when : F ≡ none → (c : Asked A x) → 4096 ≤ length c.work → told_by factored_in c.found ≡ answer none
+  unfolding if_area if_room result bytes_of refuse_if
+  not_member_when n c h =
+      told_is c ∙ test_pass _ 9 0 _ (le-ltb (length c.work) 4096 h)
+      ∙ rw n (test_pass _ 12 0 _ (le-ltb (length c.out) 0 (omega arith)))
+
   -- ---- the indexes given
   module _ (g : Factorization) (s : F ≡ some g) where
     pub gives : Gives (list A) (members g.indexes) (factored g) (pauli x)
@@ -224,10 +209,11 @@ module _ (A : Generators) (x : Element) where
         ap (indexes_at b i) (sym (members_count g.indexes))
         ∙ indexes_read b i ms rest (all_map (λ i l. omega (arith, list_few A)) ms (members_below n g.indexes (law.within g s).0)) h
 
-  pub product_is : (c : Asked A x) (f : Factored) → told_by factored_in c.found ≡ answer (some f)
-      → Gives (list A) (indexes_at c.out' 0 f.count) f (pauli x)
+  -- an answer with indexes comes of a factorization, and these are its indexes
+  pub answered_by : (c : Asked A x) (f : Factored) → told_by factored_in c.found ≡ answer (some f)
+      → (g : Factorization) × (F ≡ some g) × (factored g ≡ f) × (indexes_at c.out' 0 f.count ≡ members g.indexes)
   unfolding result bytes_of refuse_if factored put_bytes
-  product_is c f e =
+  answered_by c f e =
       let (area, short, told) = answer_tests c (some f) e in
       let (g, s, same) = result_some F f told in
       let size : 2 * weight g.indexes ≤ length c.out = rw s at (ltb-false (length c.out) (bytes_of (result F)) short) in
@@ -238,5 +224,12 @@ module _ (A : Generators) (x : Element) where
       let here : indexes_at c.out' 0 f.count ≡ members g.indexes =
       ap₂ (λ (o : List ℕ) (f : Factored). indexes_at o 0 f.count) left (sym same)
       ∙ given g s (put_bytes c.out 0 (index_bytes g)) 0 (drop (0 + length (index_bytes g)) c.out) refl in
+      (g, s, same, here)
+
+  pub product_is : (c : Asked A x) (f : Factored) → told_by factored_in c.found ≡ answer (some f)
+      → Gives (list A) (indexes_at c.out' 0 f.count) f (pauli x)
+  unfolding factored
+  product_is c f e =
+      let (g, s, same, here) = answered_by c f e in
       subst (λ (ms : List ℕ). Gives (list A) ms f (pauli x)) (sym here)
       (subst (λ (f : Factored). Gives (list A) (members g.indexes) f (pauli x)) same (gives g s))

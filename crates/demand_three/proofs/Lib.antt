@@ -5,6 +5,7 @@ pub mod DemandStandard
 pub mod DemandThree
 pub mod ReadBack
 pub mod CommonDemand
+pub mod ClaimsDemand
 pub mod ManyElements
 pub mod Sizes
 pub mod NeverFive

@@ -21,6 +21,7 @@ use Rattle.pauli_theory.specs.Membership.{Factorization, factorization_of}
 use Rattle.pauli_theory.specs.Standard.{if_zero}
 use Rattle.pauli_group.specs.Calls.{paulis, index_bytes, Factored, factored, member_left}
 use Rattle.pauli_group.specs.WorkArea.{enough}
+use Rattle.pauli_group.proofs.factorization.QuestionLaws.{weight_few, index_bytes_lem, question_is}
 use Rattle.factorizations.specs.Contract.{FactorizationsCall}
 use Rattle.factorizations.specs.Calls.{Questions, questions, results_of, factorizations_call, Totals, totals, told_results}
 use Rattle.factorizations.specs.Records.{result_bytes, results_bytes}
@@ -28,7 +29,7 @@ use Rattle.factorizations.proofs.records.RecordLaws.{other_length, member_length
 use Rattle.demand_three.specs.DemandThree.{Generators, list, Element, pauli, indexes_at, Gives}
 use Rattle.demand_three.specs.ManyElements.{size_in, results_up_to, results_in, together, factors_in, indexes_in, Answered, bytes, result, Single, result_of, ManyElements}
 use Rattle.demand_three.proofs.DemandLists.{get_or_any}
-use Rattle.demand_three.proofs.DemandMember.{result as factors, index_bytes_lem, left_result, weight_few, question_is, told_of, passes, law, gives, given}
+use Rattle.demand_three.proofs.DemandMember.{result as factors, left_result, told_of, passes, law, gives, given}
 use Rattle.pauli.specs.declared.refusal.Refusal.{Refusal}
 use Rattle.factorizations.specs.declared.answers.Results.{Results}
 use Rattle.pauli_group.specs.Answers.{factored_in}

@@ -7,7 +7,7 @@ use Rattle.pauli.specs.Roll.{Sparse, support}
 use Rattle.pauli.proofs.roll.OldLimitLaw.{limit_law}
 use Rattle.pauli_group.specs.Calls.{paulis}
 use Rattle.pauli_group.specs.WorkArea.{enough}
-use Rattle.centralizer.specs.Calls.{rises_from, fitting, checked, together, most_together, generators_of, within_checked, within_call}
+use Rattle.centralizer.specs.Calls.{rises_from, fitting, checked, generators_of, within_checked, within_call}
 use Rattle.centralizer.proofs.named.NamedLaws.{both_true}
 use Rattle.demand_three.specs.NamedLimit.{rises_below, fitting_below, checked_below, within_below, NeverThirteen, NamedLimitLaw}
 

@@ -3,7 +3,7 @@ use Rattle.std.specs.Prelude.{if◌then◌else◌}
 use Rattle.std.proofs.Common.{◌≡◌, refl, inl, inr, eqb, List, [], ◌∷◌, length, ℕ, Option, Some, None, arith, Bool, true, false}
 use Rattle.std.proofs.Math.Option.{Option as MathOption, some, none}
 use Rattle.pauli.specs.declared.refusal.Reason.{Reason}
-use Rattle.pauli.specs.declared.refusal.Reason.TheVariants.{Length, Paulis, Entry, Exponent, Rising, Qubits, Number, Work, Listing, Subgroup, Output, Support, Line, Depth}
+use Rattle.pauli.specs.declared.refusal.Reason.TheVariants.{Length, Paulis, Entry, Exponent, Rising, Qubits, Number, Work, Listing, Subgroup, Output, Support, Line, Depth, Claim}
 use Rattle.pauli.specs.JoinCalls.{Lists, read_both, few_qubits, within, factors_of, product_of, made_with, made_of, joined_of, join_of, entry_of, stretch_of}
 use Rattle.pauli.specs.OneQubit.{one_qubit_call}
 use Rattle.pauli.specs.Refusals.{number_of}
@@ -14,6 +14,7 @@ use Rattle.pauli.specs.Pauli.{Pauli}
 use Rattle.pauli.proofs.roll.Told.{Never, never, never_answer, never_test, never_on, never_then, never_map}
 use Rattle.pauli.proofs.roll.NeverFive.{read_never}
 use Rattle.pauli_theory.specs.Group.{Promise, none as no_promise}
+use Rattle.pauli_theory.specs.Claims.{Claim as MemberClaim}
 use Rattle.pauli_theory.specs.Membership.{Factorization}
 use Rattle.pauli_theory.specs.Modulo.{try_quotient}
 use Rattle.pauli_group.specs.WorkArea.{enough, work_words}
@@ -26,6 +27,7 @@ use Rattle.combined_lists.specs.LineCall.{tree_told, line_told, sent_of}
 use Rattle.combined_lists.specs.Reader.{tree_of}
 use Rattle.combined_lists.specs.Work.{value_of}
 use Rattle.combined_lists.specs.Combining.{all_read, checked_line, single_call, line_bytes, combine_call}
+use Rattle.claims.specs.Calls.{formed, member_checked, member_call, absence_checked, absence_call}
 use Rattle.closing_report.specs.InputRolls.{rolls_in}
 use Rattle.closing_report.specs.Listing.{or_refused_in, listing, text_of}
 use Rattle.demand_three.specs.NeverFive.{NoFiveIn, CallsNeverFive}
@@ -189,6 +191,20 @@ unfolding combine_call line_bytes
 combine_never line rolls words =
     never_then 5 (checked_line line rolls words) _ (checked_line_never line rolls words) λ t. never_map 5 _ _ (value_never _ t)
 
+-- ---- claims
+
+claim_never : (promise : Promise) (b e : List ℕ) (n : ℕ) (c : MemberClaim) (words : ℕ) → Never 5 (member_call promise b e n c words)
+unfolding member_call member_checked formed
+claim_never promise b e n c words =
+    never_map 5 _ _ (never_then 5 (read_both b e) _ (both_never b e) λ l.
+    within_never n l.right _ (never_test 5 _ 16 0 _ (omega arith) (enough_never words _ (never_answer 5 _))))
+
+absence_never : (b e : List ℕ) (n : ℕ) (ws : List ℕ) (m : ℕ) → Never 5 (absence_call b e n ws m)
+unfolding absence_call absence_checked
+absence_never b e n ws m =
+    never_map 5 _ _ (never_then 5 (read_both b e) _ (both_never b e) λ l. never_then 5 (read ws) _ (read_never ws) λ sent.
+    within_never n l.right _ (within_never m sent _ (never_answer 5 _)))
+
 -- ---- the report
 
 rolls_never : (input : List ℕ) → Never 5 (rolls_in input)
@@ -223,6 +239,7 @@ reasons_never Output e = omega arith
 reasons_never Support e = omega arith
 reasons_never Line e = omega arith
 reasons_never Depth e = omega arith
+reasons_never Claim e = omega arith
 
 pub calls_never_five : CallsNeverFive
 unfolding count_of one_qubit_call stretch_of standard_generators rank_call phases_call abelian_call stabilizer_call size_call factorization_call symplectic_call order_call modulo_call factorizations_call joined_sizes standard_bound listing
@@ -254,6 +271,8 @@ calls_never_five =
       centralizer_of = λ b words out. never 5 _ (bytes_never _ out (own_never b words));
       centralizer_within = λ b named words out. never 5 _ (bytes_never _ out (within_call_never b named words));
       combine = λ line rolls words out. never 5 _ (bytes_never _ out (combine_never line rolls words));
+      accepts_membership = λ promise b e n c words. never 5 _ (claim_never promise b e n c words);
+      accepts_absence = λ b e n ws m. never 5 _ (absence_never b e n ws m);
       closing_report = λ input words out. never 5 _ (bytes_never _ out (enough_never words _ (never_answer 5 (text_of input))));
       report_text = text_never;
       reasons = reasons_never;

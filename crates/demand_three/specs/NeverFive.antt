@@ -9,11 +9,13 @@ use Rattle.pauli.specs.Refusals.{number_of}
 use Rattle.pauli.specs.Roll.{count_of}
 use Rattle.pauli.specs.Writing.{told_bytes}
 use Rattle.pauli_theory.specs.Group.{Promise}
+use Rattle.pauli_theory.specs.Claims.{Claim}
 use Rattle.pauli_group.specs.Calls.{standard_generators, rank_call, phases_call, abelian_call, stabilizer_call, size_call, factorization_call, told_member, elements_call, symplectic_call, order_call, modulo_call, quotient_call, common_call}
 use Rattle.factorizations.specs.Calls.{factorizations_call, told_results}
 use Rattle.sizes.specs.Calls.{joined_sizes, standard_bound, page_call}
 use Rattle.centralizer.specs.Calls.{own_call, within_call}
 use Rattle.combined_lists.specs.Combining.{combine_call}
+use Rattle.claims.specs.Calls.{member_call, absence_call}
 use Rattle.closing_report.specs.Lines.{refused_line}
 use Rattle.closing_report.specs.Listing.{report, listing, text_of}
 
@@ -53,6 +55,8 @@ pub record CallsNeverFive : Type 0 where
   pub centralizer_of : (b : List ℕ) (words : ℕ) (out : List ℕ) → NeverFive (told_bytes (own_call b words) out)
   pub centralizer_within : (b named : List ℕ) (words : ℕ) (out : List ℕ) → NeverFive (told_bytes (within_call b named words) out)
   pub combine : (line : List ℕ) (rolls : List (List ℕ)) (words : ℕ) (out : List ℕ) → NeverFive (told_bytes (combine_call line rolls words) out)
+  pub accepts_membership : (promise : Promise) (b e : List ℕ) (n : ℕ) (c : Claim) (words : ℕ) → NeverFive (member_call promise b e n c words)
+  pub accepts_absence : (b e : List ℕ) (n : ℕ) (ws : List ℕ) (m : ℕ) → NeverFive (absence_call b e n ws m)
   pub closing_report : (input : List ℕ) (words : ℕ) (out : List ℕ) → NeverFive (told_bytes (listing input words) out)
   -- nor is a roll of the report's input
   pub report_text : (input : List ℕ) → NoFiveIn (text_of input)

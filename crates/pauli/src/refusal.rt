@@ -35,6 +35,8 @@ pub enum Reason {
     Line = 14,
     // A line's parentheses are too deep.
     Depth = 15,
+    // A claim's indexes do not rise strictly or pass the list, or its exponent is above 3.
+    Claim = 16,
 }
 
 // A refusal's reason and its place: the Pauli's index in its own roll, or 0.

@@ -65,7 +65,7 @@ fn covers(numbers: &[[u8; 4]], support: &[u32]) -> bool
 }
 
 // Whether the qubits of Pauli i of a roll are all in the support.
-fn is_supported(roll: Roll, i: usize, support: &[u32]) -> bool
+pub fn is_supported(roll: Roll, i: usize, support: &[u32]) -> bool
     requires { (i < roll.count) × Rising 0 support.now }
     ensures { result ≡ covered support.now ((get_or (list_of roll.entry.bytes.now) i nothing).xs ++ (get_or (list_of roll.entry.bytes.now) i nothing).zs) }
 {

@@ -50,13 +50,13 @@ commutes_subgroup gs = record {
 
 -- X and Z on a qubit that the list does not use
 module _ (gs : List Pauli) (q : ℕ) (unused : Apart (support_of gs) q) where
-  x_commutes : Commuting gs (x_on q)
+  pub x_commutes : Commuting gs (x_on q)
   unfolding x_on anticommute
   x_commutes =
       all_map (λ g on. omega (arith, dot_comm (2 ^ q) g.z ∙ dot_unit g.z q, off (support_of gs) g.z q on.z unused, dot_zero_l g.x)) gs
       (support_on gs)
 
-  z_commutes : Commuting gs (z_on q)
+  pub z_commutes : Commuting gs (z_on q)
   unfolding z_on anticommute
   z_commutes =
       all_map (λ g on. omega (arith, dot_comm (2 ^ q) g.x ∙ dot_unit g.x q, off (support_of gs) g.x q on.x unused, dot_zero_l g.z)) gs
@@ -66,11 +66,11 @@ unit_on : {named : List ℕ} (q r : ℕ) → Mem q named → bit (2 ^ q) r ≡ 1
 unit_on {named} q r m e = elim (ℕ_discrete r q) [ yes d ↦ subst (λ t. Mem t named) (sym d) m | no d ↦ absurd (omega (arith, bit_unit_other q r d)) ]
 
 module _ (named : List ℕ) (q : ℕ) (m : Mem q named) where
-  x_named : PauliOn named (x_on q)
+  pub x_named : PauliOn named (x_on q)
   unfolding x_on
   x_named = record { x = λ r e. unit_on q r m e; z = λ r e. absurd (omega (arith, bit_of_zero r)) }
 
-  z_named : PauliOn named (z_on q)
+  pub z_named : PauliOn named (z_on q)
   unfolding z_on
   z_named = record { x = λ r e. absurd (omega (arith, bit_of_zero r)); z = λ r e. unit_on q r m e }
 

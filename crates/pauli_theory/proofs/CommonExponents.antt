@@ -1,6 +1,6 @@
 -- A basis element has its qubits in either list's support and is solved for by its form, whatever the exponent; and its factorization
 -- with each exponent.
-use mathlib.Core.Path.{◌≡◌, sym, ap, ◌∙◌}
+use mathlib.Core.Path.{◌≡◌, ap, ◌∙◌}
 use mathlib.Core.List.{List, ◌++◌, map}
 use mathlib.Core.Option.{Option, some, none}
 use Prim.Native.Nat.{ℕ, ◌+◌, ◌-◌, ◌*◌, ◌%◌, ◌<◌}
@@ -22,7 +22,7 @@ use Rattle.pauli_theory.proofs.Phases.{with_phase_lem}
 use Rattle.pauli_theory.proofs.IfZero.{if_zero_zero}
 use Rattle.pauli_theory.proofs.Agree.{Agree, agree_flip}
 use Rattle.pauli_theory.proofs.Group.{generated_indexed, joined_law}
-use Rattle.pauli_theory.proofs.Rows.{row_agree, row_indexed, row_sets, on_subgroup, support_rises, indexed_on, generated_on}
+use Rattle.pauli_theory.proofs.Rows.{sets_span, span_sets, on_subgroup, support_rises, indexed_on, generated_on}
 use Rattle.pauli_theory.proofs.Membership.{on_outside, solve, solve_found}
 use Rattle.pauli_theory.proofs.Common.{common_basis_law}
 
@@ -37,7 +37,7 @@ pub record Solved (gs : List Pauli) (p : Pauli) : Type 0 where
 solved_by : (gs : List Pauli) (p : Pauli) (s : ℕ) → Agree 1 p (indexed_product s gs) → Solved gs p
 solved_by gs p s a =
     let qs = support_of gs in
-    let found = solve_found gs p (record { subset = s; sums = sym (row_indexed qs s gs) ∙ sym (row_agree qs a) }) in
+    let found = solve_found gs p (sets_span qs gs s a) in
     record { on = (on_subgroup qs 1).agrees (indexed_product s gs) p (agree_flip a) (indexed_on gs s); set = found.0; solution = found.1 }
 
 module _ (gs hs : List Pauli) where
@@ -50,8 +50,7 @@ module _ (gs hs : List Pauli) where
   solved_row ks f p on w =
       let q = indexed_product w.subset ks in
       solved_by ks p w.subset
-      (row_sets qs (support_rises (gs ++ hs)) on (generated_on (gs ++ hs) q (f q (generated_indexed ks w.subset)))
-      (sym (row_indexed qs w.subset ks ∙ w.sums)))
+      (span_sets qs (support_rises (gs ++ hs)) ks w on (generated_on (gs ++ hs) q (f q (generated_indexed ks w.subset))))
 
   basis_in_rows : All (λ p. RowSpace (map (row_of qs) (common_basis gs hs)) (row_of qs p)) (common_basis gs hs)
   basis_in_rows =

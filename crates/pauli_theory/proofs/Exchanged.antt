@@ -4,7 +4,7 @@ use lib.Arith.{digits_lt}
 use lib.Bits.{and_block, and_lt}
 use lib.Count.{ones, ones_cat}
 use Rattle.binar.specs.Row.{dot}
-use Rattle.binar.proofs.row.Bits.{xor_mod, xor_shr, xor_beside, beside_mod, beside_shr, dot_comm}
+use Rattle.binar.proofs.row.Bits.{xor_mod, xor_shr, xor_beside, beside_mod, beside_shr, beside_parts, dot_comm}
 use Rattle.binar.proofs.echelon.Span.{Additive}
 use Rattle.pauli.specs.Support.{Rising}
 use Rattle.pauli.specs.Pauli.{Pauli, anticommute}
@@ -46,6 +46,15 @@ module _ (n : ℕ) where
 
 pub high_lt : (n v : ℕ) → v < 2 ^ (2 * n) → v / 2 ^ n < 2 ^ n
 high_lt n v h = shr_lt n n (rw (twice n) at h)
+
+pub exchanged_back : (n v : ℕ) → v < 2 ^ (2 * n) → exchanged n (exchanged n v) ≡ v
+exchanged_back n v h =
+    let a = v % 2 ^ n in
+    let b = v / 2 ^ n in
+    let low = mod-lt v (pow_pos n) in
+    let high = high_lt n v h in
+    ap (λ (u : ℕ). exchanged n (exchanged n u)) (sym (beside_parts n v))
+    ∙ ap (exchanged n) (exchanged_beside n a b low high) ∙ exchanged_beside n b a high low ∙ beside_parts n v
 
 module _ (qs : List ℕ) (rises : Rising 0 qs) where
   -- the overlap of sets, over the places

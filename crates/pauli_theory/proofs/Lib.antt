@@ -47,6 +47,7 @@ pub mod SymplecticPlaces
 pub mod Exchanged
 pub mod Named
 pub mod Centralizer
+pub mod Claims
 pub mod ListingTheorems
 pub mod ModuloPlaces
 pub mod CommonPlaces

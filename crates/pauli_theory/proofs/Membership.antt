@@ -115,6 +115,9 @@ module _ (promise : Promise) (gs : List Pauli) (p : Pauli) (step : phase_step pr
     unfolding factorization_of
     answer = answer_by promise gs p (solve gs p) f (if_zero_some (outside gs p) _ f e).1
 
+    pub phased : f.exponent % phase_step promise gs ≡ 0
+    phased = answer.phased
+
     within : (f.indexes < 2 ^ length gs) × (f.exponent < 4)
     within = ((solve_row gs p f.indexes answer.solved).0, rw answer.left (left_lt p (indexed_product f.indexes gs)))
 

@@ -16,7 +16,7 @@ use Rattle.pauli.proofs.condense.Rows.{row_lt, on-I}
 use Rattle.pauli_theory.specs.Group.{Generated, Inside}
 use Rattle.pauli_theory.specs.Standard.{support_of, form_of, rank}
 use Rattle.pauli_theory.specs.Theorems.{RankLaw}
-use Rattle.pauli_theory.proofs.Rows.{row_agree, row-I, row_indexed, rows_narrow, row_sets, generated_row, support_rises, generated_on}
+use Rattle.pauli_theory.proofs.Rows.{row_agree, row-I, row_indexed, rows_narrow, row_sets, span_sets, generated_row, support_rises, generated_on}
 use Rattle.pauli_theory.proofs.Spaces.{columns_narrow, fills}
 use Rattle.pauli_theory.proofs.Powers.{agree_in}
 use Rattle.pauli_theory.proofs.Pivots.{pivots_span}
@@ -81,5 +81,5 @@ module _ (gs hs : List Pauli) (f : Inside gs hs) where
       let w = fills (2 * length ks) rows (rows_narrow ks (basis gs)) (row_of ks p) (row_lt ks p) rows_free C rows_spanned n (basis_span hs p a) in
       let q = indexed_product w.subset (basis gs) in
       let b = products_in w.subset in
-      let s = row_sets ks (support_rises hs) (generated_on hs p a) (generated_on hs q b) (sym (product_row w.subset ∙ w.sums)) in
+      let s = span_sets ks (support_rises hs) (basis gs) w (generated_on hs p a) (generated_on hs q b) in
       agree_in gs (grade_divisor gs) (grade_power gs) p q (rw g (same_sets hs p q a b s)) (basis_products_in gs w.subset)

@@ -73,6 +73,15 @@ module _ (qs : List ℕ) where
       sym (row_back qs h 0 p on) ∙ ap (pauli_of_row qs 0) e ∙ row_back qs h 0 q on' in
       agree_sets (ap (λ r. r.x) b) (ap (λ r. r.z) b)
 
+  -- a Pauli with the sets of a product has a row in the list's row space
+  pub sets_span : {p : Pauli} (gs : List Pauli) (s : ℕ) → Agree 1 p (indexed_product s gs) → RowSpace (map (row_of qs) gs) (row_of qs p)
+  sets_span gs s a = record { subset = s; sums = sym (row_indexed s gs) ∙ sym (row_agree a) }
+
+  -- and on rising qubits the other way round
+  pub span_sets : Rising 0 qs → {p : Pauli} (gs : List Pauli) (w : RowSpace (map (row_of qs) gs) (row_of qs p)) → PauliOn qs p
+      → PauliOn qs (indexed_product w.subset gs) → Agree 1 p (indexed_product w.subset gs)
+  span_sets h gs w on on' = row_sets h on on' (sym (row_indexed w.subset gs ∙ w.sums))
+
 -- ---- the support of a list
 pub support_rises : (gs : List Pauli) → Rising 0 (support_of gs)
 unfolding support_of

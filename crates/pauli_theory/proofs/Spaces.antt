@@ -93,7 +93,7 @@ free_cons v B free out s l e = go (s % 2) refl
         absurd (out (record { subset = s / 2; sums = sym (xor_eq_zero v (row_sum (s / 2) B) (ap (λ (k : ℕ). if_bit k v 0 ⊕ row_sum (s / 2) B) (sym h) ∙ e)) }))
 
 module _ (c : ℕ) (B : List ℕ) (narrow : All (λ v. v < 2 ^ c) B) (v : ℕ) (l : v < 2 ^ c) where
-  in_space : Dec (RowSpace B v)
+  pub in_space : Dec (RowSpace B v)
   in_space = go (transpose_solve c (echelon c B) v) refl
     where
       go : (o : Option ℕ) → transpose_solve c (echelon c B) v ≡ o → Dec (RowSpace B v)

@@ -20,7 +20,7 @@ unfolding some_order_four largest
 order_four_largest [] = refl
 order_four_largest (p ∷ ps) = ap (max (order_four p)) (order_four_largest ps)
 
-anticommute_largest : (p : Pauli) (qs : List Pauli) → anticommutes_with_some p qs ≡ largest (anticommute p) qs
+pub anticommute_largest : (p : Pauli) (qs : List Pauli) → anticommutes_with_some p qs ≡ largest (anticommute p) qs
 unfolding anticommutes_with_some largest
 anticommute_largest p [] = refl
 anticommute_largest p (q ∷ qs) = ap (max (anticommute p q)) (anticommute_largest p qs)
@@ -67,7 +67,7 @@ module _ (f : Pauli → ℕ) where
   largest_found [] l h k = absurd (omega arith)
   largest_found (p ∷ ps) l h k = max_found (f p) (largest f ps) l (λ o. k p o h.0) (λ o. largest_found ps o h.1 k)
 
-  largest_lt : ((p : Pauli) → f p < 2) → (ps : List Pauli) → largest f ps < 2
+  pub largest_lt : ((p : Pauli) → f p < 2) → (ps : List Pauli) → largest f ps < 2
   unfolding largest
   largest_lt h [] = omega arith
   largest_lt h (p ∷ ps) = omega (arith, h p, largest_lt h ps)

@@ -24,7 +24,7 @@ use Rattle.pauli_theory.specs.Theorems.{CommonPhaseLaw}
 use Rattle.pauli_theory.specs.WholeCommon.{or_else, if_none, paired, kept_from, whole_part}
 use Rattle.pauli_theory.proofs.Agree.{Divisor, one, two, four, Agree, agree_path, agree_flip, agree_join, agree_times, agree_turned, agree_sets, same_agree, left_same, left_agree, Subgroup, indexed_in}
 use Rattle.pauli_theory.proofs.Group.{generated_subgroup, generated_indexed, generators, inside_by, joined_law}
-use Rattle.pauli_theory.proofs.Rows.{row_indexed, row_sets, on_subgroup, generated_row, support_rises, generated_on}
+use Rattle.pauli_theory.proofs.Rows.{span_sets, on_subgroup, generated_row, support_rises, generated_on}
 use Rattle.pauli_theory.proofs.Powers.{Power, power_value, powers, turned_in}
 use Rattle.pauli_theory.proofs.Grade.{grade, grade_divisor, grade_power}
 use Rattle.pauli_theory.proofs.Elements.{same_sets}
@@ -239,12 +239,12 @@ module _ (gs hs : List Pauli) where
   abbrev qs : List ℕ
   qs = support_of (gs ++ hs)
 
-  row_near : (ks : List Pauli) → Inside ks (gs ++ hs) → (p : Pauli) → PauliOn qs p → RowSpace (map (row_of qs) ks) (row_of qs p) → Near ks p
+  pub row_near : (ks : List Pauli) → Inside ks (gs ++ hs) → (p : Pauli) → PauliOn qs p → RowSpace (map (row_of qs) ks) (row_of qs p) → Near ks p
   unfolding Inside
   row_near ks f p on w =
       let q = indexed_product w.subset ks in
       let a = generated_indexed ks w.subset in
-      near_by ks p q (row_sets qs (support_rises (gs ++ hs)) (generated_on (gs ++ hs) q (f q a)) on (row_indexed qs w.subset ks ∙ w.sums)) a
+      near_by ks p q (agree_flip (span_sets qs (support_rises (gs ++ hs)) ks w on (generated_on (gs ++ hs) q (f q a)))) a
 
   basis_both : All InBoth (common_basis gs hs)
   basis_both =
@@ -264,8 +264,8 @@ module _ (gs hs : List Pauli) where
       let B = common_basis gs hs in
       let w = L.back (row_of qs p) (generated_row qs gs p a) (generated_row qs hs p b) in
       S.agrees (indexed_product w.subset B) p
-      (row_sets qs (support_rises (gs ++ hs)) (indexed_in (on_subgroup qs 4) B L.on_support w.subset)
-      (generated_on (gs ++ hs) p ((joined_law gs hs).left p a)) (row_indexed qs w.subset B ∙ w.sums))
+      (agree_flip (span_sets qs (support_rises (gs ++ hs)) B w (generated_on (gs ++ hs) p ((joined_law gs hs).left p a))
+      (indexed_in (on_subgroup qs 4) B L.on_support w.subset)))
       (indexed_in S B h w.subset)
 
   -- ---- the common part

@@ -2,6 +2,7 @@ pub mod Group
 pub mod Standard
 pub mod Listing
 pub mod Membership
+pub mod Claims
 pub mod Order
 pub mod Modulo
 pub mod Common
@@ -13,4 +14,5 @@ pub mod Theorems
 pub mod WholeCommonTheorems
 pub mod ListingTheorems
 pub mod CentralizerTheorems
+pub mod ClaimTheorems
 pub mod Marked

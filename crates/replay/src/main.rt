@@ -1,4 +1,4 @@
-// Calls in, one line out for each: operations 0 to 26 and 30.
+// Calls in, one line out for each: operations 0 to 28 and 30.
 //
 // A request is 28 bytes, little-endian, and two byte strings. Byte 0 is the operation, bytes 1 and 2 the promises, byte 3 the
 // byte that fills the output and the work area before the call; from byte 4 on six numbers of four bytes: a, b, the bytes of
@@ -8,7 +8,7 @@
 
 ghost use Rattle.std.specs.Prelude.{◌≤◌, IfOk, length};
 
-use crate::request::{Operation, Request, rolls_of};
+use crate::request::{Operation, Request, strings_of};
 use crate::runs::{MOST_NAMED, run};
 use pauli::bytes::u32_at;
 use std::io;
@@ -95,10 +95,10 @@ fn answer<R: Read, W: Write>(
         return Ok(false);
     }
     let second = &buffers.second[..m];
-    let Some(rolls) = rolls_of(operation, second) else {
+    let Some(strings) = strings_of(operation, second) else {
         return Ok(false);
     };
-    let request = Request::new(head, &buffers.first[..n], second, rolls);
+    let request = Request::new(head, &buffers.first[..n], second, strings);
     let work = &mut buffers.work[..];
     let out = &mut buffers.out[..];
     run(to, operation, request, &mut work[..words], &mut out[..lent])?;

@@ -12,6 +12,8 @@ pub(crate) enum OnRolls {
     Sizes,
     Bound,
     OneQubit,
+    // a claim of absence
+    Absence,
     Join,
     Body,
     Entry,
@@ -53,6 +55,8 @@ pub(crate) enum Operation {
     Within,
     // a line that combines lists
     Line,
+    // a claim of membership
+    Claim,
 }
 
 // No operation has the number.
@@ -91,6 +95,8 @@ impl TryFrom<u8> for Operation {
             24 => Ok(Operation::Written(Written::Centralizer)),
             25 => Ok(Operation::Within),
             26 => Ok(Operation::Line),
+            27 => Ok(Operation::Claim),
+            28 => Ok(Operation::OnRolls(OnRolls::Absence)),
             30 => Ok(Operation::OnRolls(OnRolls::OneQubit)),
             _ => Err(Unknown),
         }
@@ -103,14 +109,26 @@ fn string_at(b: &[u8]) -> Option<(&[u8], &[u8])> {
     rest.split_at_checked(u32::from_le_bytes(*size) as usize)
 }
 
-// The rolls of a line, A to D. A struct, since the check does not cover an `Option` of an array.
+// The strings in the second string, up to four. A struct, since the check does not cover an `Option` of an array.
 #[derive(Clone, Copy)]
-pub(crate) struct Rolls<'a> {
+pub(crate) struct Strings<'a> {
     pub(crate) each: [&'a [u8]; 4],
 }
 
+// Two strings, each behind its length, that nothing follows.
+fn two_strings(b: &[u8]) -> Option<Strings<'_>> {
+    let (first, rest) = string_at(b)?;
+    let (second, rest) = string_at(rest)?;
+    if !rest.is_empty() {
+        return None;
+    }
+    Some(Strings {
+        each: [first, second, rest, rest],
+    })
+}
+
 // Four strings, each behind its length, that nothing follows.
-fn four_strings(b: &[u8]) -> Option<Rolls<'_>> {
+fn four_strings(b: &[u8]) -> Option<Strings<'_>> {
     let (first, rest) = string_at(b)?;
     let (second, rest) = string_at(rest)?;
     let (third, rest) = string_at(rest)?;
@@ -118,19 +136,35 @@ fn four_strings(b: &[u8]) -> Option<Rolls<'_>> {
     if !rest.is_empty() {
         return None;
     }
-    Some(Rolls {
+    Some(Strings {
         each: [first, second, third, fourth],
     })
 }
 
-// The rolls of a line, which stand in the second string; none for another operation.
-pub(crate) fn rolls_of(operation: Operation, second: &[u8]) -> Option<Rolls<'_>> {
-    if matches!(operation, Operation::Line) {
-        return four_strings(second);
+// The most indexes of a claim that are read.
+pub(crate) const MOST_INDEXES: usize = 1024;
+
+// An element roll, and the indexes of a claim, two bytes each.
+fn claim_strings(b: &[u8]) -> Option<Strings<'_>> {
+    let strings = two_strings(b)?;
+    let n = strings.each[1].len();
+    if n % 2 != 0 || n > 2 * MOST_INDEXES {
+        return None;
     }
-    Some(Rolls {
-        each: [&second[..0]; 4],
-    })
+    Some(strings)
+}
+
+// What stands in the second string: the rolls of a line, the element roll and the indexes or the witness roll of a claim; nothing for another
+// operation.
+pub(crate) fn strings_of(operation: Operation, second: &[u8]) -> Option<Strings<'_>> {
+    match operation {
+        Operation::Line => four_strings(second),
+        Operation::Claim => claim_strings(second),
+        Operation::OnRolls(OnRolls::Absence) => two_strings(second),
+        _ => Some(Strings {
+            each: [&second[..0]; 4],
+        }),
+    }
 }
 
 // What a call is given beside the output and the work area.
@@ -143,8 +177,8 @@ pub(crate) struct Request<'a> {
     pub(crate) fill: u8,
     pub(crate) first: &'a [u8],
     pub(crate) second: &'a [u8],
-    // The rolls of a line.
-    pub(crate) rolls: Rolls<'a>,
+    // What stands in the second string.
+    pub(crate) strings: Strings<'a>,
 }
 
 impl<'a> Request<'a> {
@@ -152,7 +186,7 @@ impl<'a> Request<'a> {
         head: &[u8; 28],
         first: &'a [u8],
         second: &'a [u8],
-        rolls: Rolls<'a>,
+        strings: Strings<'a>,
     ) -> Self {
         Request {
             a: u32_at(head, 4),
@@ -164,7 +198,7 @@ impl<'a> Request<'a> {
             fill: head[3],
             first,
             second,
-            rolls,
+            strings,
         }
     }
 }

@@ -1,11 +1,13 @@
 // The calls, and what each tells.
 use crate::lines::{end_line, end_work_line, print_wrote};
-use crate::request::{Asked, OnRolls, Operation, Request, Written};
+use crate::request::{Asked, MOST_INDEXES, OnRolls, Operation, Request, Written};
 use crate::tells::{
-    print_body, print_compared, print_decided, print_entry, print_member, print_multiplied,
-    print_number, print_phases, print_results, print_sizes,
+    print_accepted, print_body, print_compared, print_decided, print_entry, print_member,
+    print_multiplied, print_number, print_phases, print_results, print_sizes,
 };
 use centralizer::calls::{centralizer_of, centralizer_within};
+use claims::absence::accepts_absence;
+use claims::membership::accepts_membership;
 use closing_report::report::closing_report;
 use combined_lists::combine::{LINE_WORDS, combine};
 use factorizations::calls::indexed_factorizations_of;
@@ -53,6 +55,10 @@ fn run_rolls<W: Write>(
         OnRolls::Sizes => print_sizes(to, joined_sizes(first, second))?,
         OnRolls::Bound => print_number(to, "bound", standard_bound(first))?,
         OnRolls::OneQubit => print_number(to, "product", one_qubit_product(a, b))?,
+        OnRolls::Absence => {
+            let [elements, witnesses, _, _] = request.strings.each;
+            print_accepted(to, accepts_absence(first, elements, a, witnesses, b))?
+        }
     }
     Ok(0)
 }
@@ -165,7 +171,28 @@ fn run_line<W: Write>(
     work: &mut [u64],
     out: &mut [u8],
 ) -> io::Result<usize> {
-    print_wrote(to, combine(request.first, &request.rolls.each, work, out))
+    print_wrote(to, combine(request.first, &request.strings.each, work, out))
+}
+
+// A claim of membership, whose indexes are two bytes each.
+fn run_claim<W: Write>(to: &mut W, request: Request, work: &mut [u64]) -> io::Result<()> {
+    let [elements, bytes, _, _] = request.strings.each;
+    let mut indexes = [0; MOST_INDEXES];
+    let (numbers, _) = bytes.as_chunks::<2>();
+    let count = numbers.len().min(MOST_INDEXES);
+    for (i, pair) in numbers[..count].iter().enumerate() {
+        indexes[i] = u16::from_le_bytes(*pair);
+    }
+    let accepted = accepts_membership(
+        request.first,
+        elements,
+        request.a as usize,
+        &indexes[..count],
+        request.b,
+        request.promises.left,
+        work,
+    );
+    print_accepted(to, accepted)
 }
 
 // How many words of the work area the call uses.
@@ -205,6 +232,10 @@ pub(crate) fn run<W: Write>(
         Operation::Members => run_members(to, request, work, out)?,
         Operation::Within => run_within(to, request, work, out)?,
         Operation::Line => run_line(to, request, work, out)?,
+        Operation::Claim => {
+            run_claim(to, request, work)?;
+            0
+        }
     };
     end_work_line(to, out, n, work, used_by(operation), fill)
 }

@@ -45,6 +45,17 @@ pub(crate) fn print_decided<W: Write>(
     }
 }
 
+pub(crate) fn print_accepted<W: Write>(
+    to: &mut W,
+    accepted: Result<bool, Refusal>,
+) -> io::Result<()> {
+    match accepted {
+        Ok(true) => write!(to, "accepted"),
+        Ok(false) => write!(to, "not accepted"),
+        Err(refusal) => write!(to, "{refusal}"),
+    }
+}
+
 pub(crate) fn print_body<W: Write>(to: &mut W, body: &[u8]) -> io::Result<()> {
     write!(to, "body ")?;
     print_bytes(to, body)

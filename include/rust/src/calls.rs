@@ -43,6 +43,13 @@ extern "C" {
         generators: *const u8, n: usize, elements: *const u8, m: usize, promise: u64, work: *mut u64, words: usize, out: *mut u8,
         room: usize,
     ) -> Answer;
+    pub fn howhiruke_accepts_membership(
+        generators: *const u8, n: usize, elements: *const u8, m: usize, number: usize, indexes: *const u16, k: usize, exponent: u32,
+        promise: u64, work: *mut u64, words: usize,
+    ) -> Answer;
+    pub fn howhiruke_accepts_absence(
+        generators: *const u8, n: usize, elements: *const u8, m: usize, number: usize, witnesses: *const u8, l: usize, witness: usize,
+    ) -> Answer;
     pub fn howhiruke_elements(
         roll: *const u8, n: usize, promise: u64, start: u32, count: u32, work: *mut u64, words: usize, out: *mut u8, room: usize,
     ) -> Answer;

@@ -77,6 +77,8 @@ pub enum Reason {
     Line,
     /// 15: a line's parentheses are deeper than 4.
     Depth,
+    /// 16: a claim's indexes do not rise strictly or pass the list, or its exponent is above 3.
+    Claim,
     /// A number that this crate does not know: the library is of another version.
     Unknown(u64),
 }
@@ -99,6 +101,7 @@ impl Reason {
             Reason::Support => 13,
             Reason::Line => 14,
             Reason::Depth => 15,
+            Reason::Claim => 16,
             Reason::Unknown(number) => number,
         }
     }
@@ -119,6 +122,7 @@ impl Reason {
             13 => Reason::Support,
             14 => Reason::Line,
             15 => Reason::Depth,
+            16 => Reason::Claim,
             _ => Reason::Unknown(number),
         }
     }
@@ -141,6 +145,7 @@ impl fmt::Display for Reason {
             Reason::Support => "the named support does not rise, or is too large together with the list's own",
             Reason::Line => "the line is empty, too long or ill-formed, or names a roll that was not sent",
             Reason::Depth => "the line's parentheses are too deep",
+            Reason::Claim => "the claim's indexes do not rise or pass the list, or its exponent is above 3",
             Reason::Unknown(_) => "a reason that this version does not know",
         })
     }
@@ -407,6 +412,60 @@ pub fn indexed_factorizations_of(
         )
     })?;
     Ok(Results { count: a.first as usize, bytes: a.second as usize })
+}
+
+/// Whether a claim of membership is accepted: the product of the generators at the indexes, which rise strictly, times i to the exponent, is
+/// Pauli `element` of the roll `elements`, and that power of i is in the group. With a promise that is absent or true an accepted one agrees
+/// with [`indexed_factorization_of`], and what that one tells is accepted; other indexes may do. Reasons 1 to 9 and 16; 16 comes before 9.
+pub fn accepts_membership(
+    generators: &[u8],
+    elements: &[u8],
+    element: usize,
+    indexes: &[u16],
+    exponent: u32,
+    promise: Promise,
+    work: &mut [u64],
+) -> Result<bool, Refusal> {
+    let a = unsafe {
+        calls::howhiruke_accepts_membership(
+            generators.as_ptr(),
+            generators.len(),
+            elements.as_ptr(),
+            elements.len(),
+            element,
+            indexes.as_ptr(),
+            indexes.len(),
+            exponent,
+            promise as u64,
+            work.as_mut_ptr(),
+            work.len(),
+        )
+    };
+    Ok(number(a)? == 1)
+}
+
+/// Whether a claim of absence is accepted: Pauli `witness` of the roll `witnesses` commutes with all generators and anticommutes with Pauli
+/// `element` of the roll `elements`, which is then no member. Reasons 1 to 8; no two rolls are counted together.
+pub fn accepts_absence(
+    generators: &[u8],
+    elements: &[u8],
+    element: usize,
+    witnesses: &[u8],
+    witness: usize,
+) -> Result<bool, Refusal> {
+    let a = unsafe {
+        calls::howhiruke_accepts_absence(
+            generators.as_ptr(),
+            generators.len(),
+            elements.as_ptr(),
+            elements.len(),
+            element,
+            witnesses.as_ptr(),
+            witnesses.len(),
+            witness,
+        )
+    };
+    Ok(number(a)? == 1)
 }
 
 /// Writes a page of the group's elements, `count` of them from number `start` on (0 means [`DEFAULT_PAGE`]), in the order of docs/REFERENCE.md;

@@ -25,6 +25,13 @@ use Rattle.pauli_group.specs.Calls.{le16s}
 
 -- ---- numbers in a support, one after the other
 
+-- a number that does not stand where it is to stand is not in the support
+pub stands_nowhere : (qs : List ℕ) → Rising 0 qs → (q i : ℕ) → i ≡ lower q qs → (i < length qs → get_or qs i 0 ≡ q → ⊥) → ¬ Mem q qs
+stands_nowhere qs rises q i p none m =
+    let stands = qubit_at_place qs q m in
+    let same : place_of qs q ≡ i = lower_here 0 q qs rises (place_of qs q) (place_in qs q m) stands ∙ sym p in
+    none (omega (arith, same, place_in qs q m)) (rw same at stands)
+
 -- the answer for all numbers is that for those from number k on, and the walk for a number above `last` may start at `from`
 pub record CoveredFrom (qs : List ℕ) (ls : List (List ℕ)) (from last k : ℕ) : Type 0 where
   pub within : k ≤ length ls
@@ -46,14 +53,9 @@ module _ (qs : List ℕ) (ls : List (List ℕ)) where
       unfolding covered
       next = f.same ∙ ap (covered qs) (numbers_next ls k h) ∙ rw e
 
-      -- a number that does not stand where it is to stand is not in the support
       pub covered_none : Rising 0 qs → (i < length qs → get_or qs i 0 ≡ q → ⊥) → false ≡ covered qs (u32s_in ls)
       covered_none rises none =
-          let out : ¬ Mem q qs = λ m.
-          let stands = qubit_at_place qs q m in
-          let same : place_of qs q ≡ i = lower_here 0 q qs rises (place_of qs q) (place_in qs q m) stands ∙ sym p in
-          none (omega (arith, same, place_in qs q m)) (rw same at stands) in
-          sym (next ∙ rw (le-ltb (place_of qs q) (length qs) (omega (arith, no_place qs q out))))
+          sym (next ∙ rw (le-ltb (place_of qs q) (length qs) (omega (arith, no_place qs q (stands_nowhere qs rises q i p none)))))
 
       pub covered_next : i < length qs → get_or qs i 0 ≡ q → CoveredFrom qs ls (i + 1) q (k + 1)
       covered_next l stands =
