@@ -22,8 +22,10 @@
 # cost in times of one is printed, for 40 dense generators on 128 qubits; and what numbers around 2^31 cost in times of numbers around 0. The lists of the centralizers are on 63 qubits where others are on
 # 128; their named support is every second qubit of the list and as many further ones, or what 63 together leave room for. check_roll and
 # standard_bound are beside the oracle's reader alone; joined_sizes and page_size beside the Rust's own joining and listing, since it has
-# no call for sizes; joined_entry and joined_body have no call in the Rust. M4RI reduces [A | I]; copying the input into place is timed on
-# both sides.
+# no call for sizes; joined_entry and joined_body have no call in the Rust. Nor have the claims: what accepts_membership and accepts_absence
+# cost is printed in times of our own membership of the same element. The claim of a member is the one that the Rust's membership tells; an
+# absence is shown by one of the Rust's generators of the centralizer, and the element has a further qubit where none shows it. M4RI reduces
+# [A | I]; copying the input into place is timed on both sides.
 #
 # The library is $HOWHIRUKE_LIB/libcapi.a if that is set, else target/staticlib/libcapi.a, which is proved and built.
 # Everything is written to target/bench: ratios.csv, tables.md, ratios.svg and growth.svg besides the build.

@@ -88,13 +88,22 @@ def costs(rows):
 
 
 def by_call(rows):
+    return spans(of(rows, "calls"), "ours and theirs there, µs")
+
+
+def claims(rows):
+    """What a claim costs in times of membership of the same element, ours alone."""
+    part = of(rows, "claims")
+    return spans(part, "membership and claim there, µs") if part else ""
+
+
+def spans(rows, times_of):
     cells = []
-    calls = of(rows, "calls")
-    for name in once(title(row) for row in calls):
-        part = sorted((row for row in calls if title(row) == name), key=lambda row: number(row, "ratio"))
+    for name in once(title(row) for row in rows):
+        part = sorted((row for row in rows if title(row) == name), key=lambda row: number(row, "ratio"))
         middle = statistics.median(number(row, "ratio") for row in part)
         cells.append([name, str(len(part)), ratio(part[0]), times(part[0]), size(part[0]), short(middle), short(number(part[-1], "ratio"))])
-    heads = ["call", "sizes", "lowest ratio (quartiles)", "ours and theirs there, µs", "at", "median", "highest"]
+    heads = ["call", "sizes", "lowest ratio (quartiles)", times_of, "at", "median", "highest"]
     return table(heads, cells)
 
 
@@ -132,7 +141,7 @@ def matrices(rows):
     return table(["matrix", "M4RI's way", "ours, µs", "M4RI, µs", "ratio (quartiles)"], cells) if cells else ""
 
 
-PARTS = {"measured": measured, "bars": bars, "by call": by_call, "every size": every_size, "growth": growth, "matrices": matrices}
+PARTS = {"measured": measured, "bars": bars, "by call": by_call, "claims": claims, "every size": every_size, "growth": growth, "matrices": matrices}
 
 
 def replaced(text, name, part):
@@ -157,7 +166,7 @@ def main():
             text = replaced(text, name, part(rows))
         args.into.write_text(text)
         return
-    for name in ("every size", "growth", "matrices"):
+    for name in ("every size", "claims", "growth", "matrices"):
         part = PARTS[name](rows)
         if part:
             print(part + "\n")

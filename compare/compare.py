@@ -230,6 +230,9 @@ def compare_bad(args):
     outside += [named._replace(second=bytes(n)) for n in (1, 2, 3, 5, 4097, 4 * 1025)]
     lined = good._replace(op=26, first=b"A", work=32_768)
     outside += [lined._replace(second=b) for b in (b"", bytes(3), bytes(15), bytes(17), b"\1" + bytes(15), b"\xff" * 4 + bytes(12))]
+    outside += [good._replace(op=op, second=b) for op in (27, 28) for b in (b"", bytes(3), bytes(7), bytes(9), b"\1" + bytes(7), b"\xff" * 4 + bytes(4))]
+    claimed = lambda n: good._replace(op=27, second=struct.pack("<I", 2) + bytes(2) + struct.pack("<I", n) + bytes(n))
+    outside += [claimed(n) for n in (1, 3, 2047, 2049, 2 * 1025)]
     strings = good._replace(second=b"abc").raw()
     cases = [r.raw() + good.raw() for r in outside] + [strings[:k] for k in range(1, len(strings))]
     cases.append(strings[:20] + b"\xff" * 8 + good.raw())
@@ -240,7 +243,9 @@ def compare_bad(args):
     inside = [(good._replace(out=262_144, work=40_960), answer), (good._replace(second=bytes(262_144)), answer),
               (good._replace(first=bytes(262_144)), "refused 1 at 0; out - kept; work none"),
               (named._replace(second=bytes(4 * 1024)), "refused 13 at 0; out - kept; work untouched"),
-              (lined._replace(second=bytes(16)), "refused 14 at 0; out - kept; work untouched"), (good, answer)]
+              (lined._replace(second=bytes(16)), "refused 14 at 0; out - kept; work untouched"),
+              (claimed(2048), "refused 8 at 0; out - kept; work untouched"),
+              (good._replace(op=28, second=bytes(8)), "refused 1 at 0; out - kept; work none"), (good, answer)]
     compare(inside, args.replay)
     print(f"outside the bounds: {len(cases)} requests end with `bad request`, {len(inside)} at the bounds are answered")
 

@@ -12,7 +12,7 @@ mod timing;
 use lists::Kind;
 use ours::Areas;
 use print::Row;
-use requests::{make, raised, Call, Case, Request, Size, CASES, MANY};
+use requests::{make, membership_of, raised, Call, Case, Request, Size, CASES, CLAIMS, MANY};
 use std::hint::black_box;
 use timing::{compare, Figures, Plan};
 
@@ -82,19 +82,50 @@ fn forty(options: &Options, rows: &mut Vec<Row>) {
     let size = Size { generators: 40, qubits: 128, kind: Kind::Dense };
     let many = |elements: usize| {
         let case = CASES.iter().find(|case| case.call == Call::Factorizations(elements)).unwrap();
-        let requests: Vec<Request> = (0..options.plan.shortest).map(|number| make(case, size, number)).collect();
-        let mut areas = Areas::new();
-        move || {
-            for request in &requests {
-                black_box(areas.call(black_box(request)));
-            }
-        }
+        in_turn((0..options.plan.shortest).map(|number| make(case, size, number)).collect())
     };
     let figures = compare(options.plan, options.plan.shortest, many(1), many(40));
     let (Size { generators, qubits, kind }, case) = (size, "40 elements / 1 element");
     let row = Row { section: "many", name: MANY, case, generators, qubits, kind: kind.name(), figures };
     print::cost(&row);
     rows.push(row);
+}
+
+/// What a claim costs in times of membership of the same element, ours alone.
+fn claims(options: &Options, rows: &mut Vec<Row>) {
+    for case in CLAIMS.iter().filter(|case| options.only.as_deref().is_none_or(|only| only == case.name)) {
+        for size in each_size(options.plan, case.call) {
+            let claims: Vec<Request> = (0..turn(options.plan, case, size)).map(|number| make(case, size, number)).collect();
+            let elements: Vec<Request> = claims.iter().map(membership_of).collect();
+            check_claims(case, size, claims.iter().zip(&elements));
+            let count = claims.len();
+            let figures = compare(options.plan, count, in_turn(elements), in_turn(claims));
+            let (name, case, Size { generators, qubits, kind }) = (case.name, case.case, size);
+            let row = Row { section: "claims", name, case, generators, qubits, kind: kind.name(), figures };
+            print::cost(&row);
+            rows.push(row);
+        }
+    }
+}
+
+/// Stops the run unless every claim is accepted and agrees with membership.
+fn check_claims<'a>(case: &Case, size: Size, pairs: impl Iterator<Item = (&'a Request, &'a Request)>) {
+    let mut areas = Areas::new();
+    for (claim, element) in pairs {
+        let (told, member) = (areas.call(claim), areas.call(element));
+        if told != ([1, 0, 0], 0) || member.0[0] != u64::from(case.call == Call::MembershipClaim) {
+            stop(&format!("not the case that was meant: {} {size:?}: {told:?}, membership {member:?}", case.name));
+        }
+    }
+}
+
+fn in_turn(requests: Vec<Request>) -> impl FnMut() {
+    let mut areas = Areas::new();
+    move || {
+        for request in &requests {
+            black_box(areas.call(black_box(request)));
+        }
+    }
 }
 
 /// Products of Paulis that lie on one qubit.
@@ -112,13 +143,7 @@ fn high_numbers(options: &Options, rows: &mut Vec<Row>) {
     for (call, name) in [(Call::CheckRoll, "check_roll"), (Call::Join, "join"), (Call::StandardGenerators, "standard_generators")] {
         let case = CASES.iter().find(|case| case.call == call).unwrap();
         let from = |by: u32| {
-            let requests: Vec<Request> = (0..options.plan.shortest).map(|number| raised(make(case, size, number), by)).collect();
-            let mut areas = Areas::new();
-            move || {
-                for request in &requests {
-                    black_box(areas.call(black_box(request)));
-                }
-            }
+            in_turn((0..options.plan.shortest).map(|number| raised(make(case, size, number), by)).collect())
         };
         let figures = compare(options.plan, options.plan.shortest, from(0), from((1 << 31) - 64));
         let (Size { generators, qubits, kind }, case) = (size, "numbers around 2^31 / around 0");
@@ -177,6 +202,7 @@ fn run(options: &Options) {
     if asked(MANY) {
         forty(options, &mut rows);
     }
+    claims(options, &mut rows);
     if asked("one_qubit") {
         one_qubit(options, &mut areas, &mut rows);
     }
@@ -218,7 +244,7 @@ fn ours_alone(words: &[String]) {
     let kind = Kind::named(kind).unwrap_or_else(|| stop("no such kind"));
     let (name, told) = name.split_once(',').unwrap_or((name, ""));
     let fits = |case: &&Case| case.name == name && (told.is_empty() || case.case == told);
-    let case = CASES.iter().find(fits).unwrap_or_else(|| stop("no such call"));
+    let case = CASES.iter().chain(&CLAIMS).find(fits).unwrap_or_else(|| stop("no such call"));
     let request = make(case, Size { generators, qubits, kind }, 0);
     let mut areas = Areas::new();
     for _ in 0..count {

@@ -92,6 +92,11 @@ impl Areas {
             Call::Factorizations(_) => {
                 memberships(howhiruke::indexed_factorizations_of(left, right, NONE, work, out))
             }
+            Call::MembershipClaim => {
+                let claim = &request.claim;
+                yes(howhiruke::accepts_membership(left, right, request.number, &claim.indexes, claim.exponent, NONE, work))
+            }
+            Call::AbsenceClaim => yes(howhiruke::accepts_absence(left, right, request.number, &request.claim.witness, 0)),
             Call::Elements(start) => roll(howhiruke::elements(left, NONE, start, 128, work, out)),
             Call::JoinedSizes => sizes(howhiruke::joined_sizes(left, right)),
             Call::StandardBound => number(howhiruke::standard_bound(left)),

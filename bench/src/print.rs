@@ -2,8 +2,9 @@
 use crate::timing::Figures;
 use std::fmt::Write;
 
-/// One measurement. `section` is `calls`, `one qubit`, `growth`, `many`, `numbers` or `matrices`. In `many` and `numbers` both times are ours, `theirs` that of the dearer. In
-/// `matrices` the `generators` are rows and `qubits` half of the columns.
+/// One measurement. `section` is `calls`, `one qubit`, `growth`, `many`, `claims`, `numbers` or `matrices`. In `many`, `claims` and `numbers`
+/// both times are ours, `theirs` that of the many elements, of the claim or of the high numbers. In `matrices` the `generators` are rows and
+/// `qubits` half of the columns.
 pub struct Row {
     pub section: &'static str,
     pub name: &'static str,
@@ -35,7 +36,7 @@ pub fn line(row: &Row) {
     );
 }
 
-/// Ours alone: what the dearer of two costs in times of the other.
+/// Ours alone: what one costs in times of another.
 pub fn cost(row: &Row) {
     let f = &row.figures;
     let size = format!("{} generators, {} qubits, {}", row.generators, row.qubits, row.kind);

@@ -2,9 +2,10 @@
 use crate::lists::{self, Kind};
 use crate::ours::REFUSED;
 use crate::random::Random;
-use driver::answer::{group_of, to_sparse};
+use driver::answer::{group_of, to_plain, to_sparse};
 use driver::roll::{self, Plain};
-use paulimer::pauli_group::PauliGroup;
+use paulimer::pauli::commutes_with;
+use paulimer::pauli_group::{centralizer_within, PauliGroup};
 
 #[derive(Clone, Copy, PartialEq, Eq, Debug)]
 pub enum Call {
@@ -20,6 +21,8 @@ pub enum Call {
     Factorization,
     /// So many elements, members and others in turn.
     Factorizations(usize),
+    MembershipClaim,
+    AbsenceClaim,
     Elements(u32),
     JoinedSizes,
     StandardBound,
@@ -94,6 +97,7 @@ pub const MANY: &str = "indexed_factorizations_of";
 
 pub const JOINED: &str = "A|B";
 pub const QUOTIENT: &str = "(A|B)/A";
+pub const CLAIM: &str = "claim / membership";
 
 pub const CASES: [Case; 34] = [
     case(Call::CheckRoll, "check_roll", "", Relation::None),
@@ -132,6 +136,12 @@ pub const CASES: [Case; 34] = [
     case(Call::ClosingReport, "closing_report", "8 elements", Relation::None),
 ];
 
+/// Calls that the Rust does not have.
+pub const CLAIMS: [Case; 2] = [
+    case(Call::MembershipClaim, "accepts_membership", CLAIM, Relation::Member),
+    case(Call::AbsenceClaim, "accepts_absence", CLAIM, Relation::NoMember),
+];
+
 #[derive(Clone, Copy, Debug)]
 pub struct Size {
     pub generators: usize,
@@ -140,6 +150,7 @@ pub struct Size {
 }
 
 /// `left` is the only roll of a call on one list; `right` is the roll of elements, too. The closing listing has its input in `left`.
+#[derive(Clone)]
 pub struct Request {
     pub call: Call,
     pub left: Vec<u8>,
@@ -148,6 +159,15 @@ pub struct Request {
     pub named: Vec<u32>,
     pub number: usize,
     pub other: usize,
+    pub claim: Claim,
+}
+
+/// What a claim brings: indexes and an exponent, or the roll of a witness.
+#[derive(Clone, Default)]
+pub struct Claim {
+    pub indexes: Vec<u16>,
+    pub exponent: u32,
+    pub witness: Vec<u8>,
 }
 
 const MOST_PAULIS: usize = 128;
@@ -174,7 +194,7 @@ pub fn most_qubits(call: Call) -> usize {
 pub fn make(case: &Case, size: Size, number: usize) -> Request {
     let seed = ((size.generators * 1000 + size.qubits) * 8 + size.kind as usize) * 100 + number;
     let random = &mut Random(seed as u64);
-    let (left, right) = match (case.call, case.relation) {
+    let (left, mut right) = match (case.call, case.relation) {
         (Call::ClosingReport, _) => return closing(random, size),
         (Call::Factorizations(count), _) => {
             let list = one_list(random, size);
@@ -196,7 +216,44 @@ pub fn make(case: &Case, size: Size, number: usize) -> Request {
     // A product takes a Pauli from the middle of either list; an element is the only one of its roll.
     let (number, other) = if case.call == Call::Product { (left.len() / 2, right.len() / 2) } else { (0, 0) };
     let named = if case.call == Call::CentralizerWithin { half_and_further(size, &left) } else { vec![] };
-    Request { call: case.call, left: roll::write(&left), right: roll::write(&right), named, number, other }
+    let claim = match case.call {
+        Call::MembershipClaim => member_claim(&left, &right[0]),
+        Call::AbsenceClaim => absence_claim(size, &left, &mut right[0]),
+        _ => Claim::default(),
+    };
+    Request { call: case.call, left: roll::write(&left), right: roll::write(&right), named, number, other, claim }
+}
+
+/// The request of membership of a claim's element.
+pub fn membership_of(claim: &Request) -> Request {
+    Request { call: Call::Factorization, ..claim.clone() }
+}
+
+/// The claim that the Rust's membership tells.
+fn member_claim(list: &[Plain], element: &Plain) -> Claim {
+    let found = group_of(None, list).indexed_factorization_of(&to_sparse(element));
+    let (indexes, exponent) = found.expect("the element is a member");
+    Claim { indexes: indexes.iter().map(|&i| i as u16).collect(), exponent: u32::from(exponent), ..Claim::default() }
+}
+
+/// The first of the Rust's generators of what commutes with the list that shows the element's absence; where there is none, the element gets
+/// a further qubit.
+fn absence_claim(size: Size, list: &[Plain], element: &mut Plain) -> Claim {
+    let further = size.qubits as u32;
+    let witness = witness_of(list, element).unwrap_or_else(|| {
+        if !element.x.contains(&further) {
+            element.x.push(further);
+        }
+        lists::one(0, vec![], vec![further])
+    });
+    Claim { witness: roll::write(&[witness]), ..Claim::default() }
+}
+
+fn witness_of(list: &[Plain], element: &Plain) -> Option<Plain> {
+    let support: Vec<usize> = lists::support(list).iter().map(|&qubit| qubit as usize).collect();
+    let commuting = centralizer_within(&support, &group_of(None, list));
+    let absent = to_sparse(element);
+    commuting.generators().iter().find(|witness| !commutes_with(*witness, &absent)).map(to_plain)
 }
 
 /// The same with every qubit number so much higher.
@@ -297,7 +354,7 @@ fn closing(random: &mut Random, size: Size) -> Request {
         input.extend(generators);
         input.extend(roll::write(&elements));
         if input.len() <= MOST_INPUT {
-            return Request { call: Call::ClosingReport, left: input, right: vec![], named: vec![], number: 0, other: 0 };
+            return Request { call: Call::ClosingReport, left: input, right: vec![], named: vec![], number: 0, other: 0, claim: Claim::default() };
         }
         list.truncate(list.len() - 8);
     }

@@ -66,6 +66,7 @@ fn on_two(request: &Request) -> Told {
             None => ([REFUSED, 11, 0], Vec::new()),
         },
         Call::Combine(line) => combine(line, &group(left), &group(right)),
+        Call::MembershipClaim | Call::AbsenceClaim => unreachable!("the Rust has no such call"),
         _ => common(left, right),
     }
 }
