@@ -46,6 +46,7 @@ extern "C" {
 #define HOWHIRUKE_MOST_TOGETHER 63      /* distinct qubits of a list and of the named support of its centralizer */
 #define HOWHIRUKE_LONGEST_LINE 256      /* bytes of a line that combines lists */
 #define HOWHIRUKE_DEEPEST_LINE 4        /* parentheses in parentheses of a line */
+#define HOWHIRUKE_WIDEST_WINDOW 64      /* checks inside a window */
 
 /* Sizes. How long an output has to be can be asked before the call: for howhiruke_join howhiruke_joined_sizes tells it exactly; for
  * howhiruke_standard_generators what howhiruke_standard_bound tells is enough; a page of howhiruke_elements has as many Paulis as
@@ -59,6 +60,7 @@ extern "C" {
 #define HOWHIRUKE_LARGEST_RESULTS 33280 /* bytes of the results of 128 elements */
 #define HOWHIRUKE_LARGEST_INPUT 65536   /* bytes of the longest input of the closing listing */
 #define HOWHIRUKE_LARGEST_LISTING 53924 /* bytes of the longest closing listing */
+#define HOWHIRUKE_WINDOW_BYTES 66184    /* bytes of a window */
 
 /* Refusals, in the order in which they are looked for: 1 to 7 for each roll, left before right and generators before elements; then 2 and
  * 7 for both lists together, where a call counts them so; then 8 to 12. Within a roll: under 2 bytes (1), 2, table cut (1), each entry's
@@ -79,7 +81,9 @@ enum {
     HOWHIRUKE_REFUSED_SUPPORT = 13,  /* named support not strictly rising, or over 63 qubits with the list's own */
     HOWHIRUKE_REFUSED_LINE = 14,     /* line empty, too long, ill-formed, or naming a roll that was not sent */
     HOWHIRUKE_REFUSED_DEPTH = 15,    /* line with parentheses deeper than 4 */
-    HOWHIRUKE_REFUSED_CLAIM = 16     /* claim with indexes not strictly rising or past the list, or an exponent above 3 */
+    HOWHIRUKE_REFUSED_CLAIM = 16,    /* claim with indexes not strictly rising or past the list, or an exponent above 3 */
+    HOWHIRUKE_REFUSED_WIDTH = 17,    /* width of a window outside 1 to 64 */
+    HOWHIRUKE_REFUSED_CHECKS = 18    /* roll that is sent to a window without exactly one Pauli */
 };
 
 /* refusal is 0 for an answer, which is in first, second and third; what a call does not name is 0. At a refusal, place is the
@@ -258,6 +262,30 @@ howhiruke_answer howhiruke_bitand(const uint8_t *left, size_t left_len, const ui
 howhiruke_answer howhiruke_combine(const uint8_t *line, size_t line_len, const uint8_t *a, size_t a_len, const uint8_t *b, size_t b_len,
                                    const uint8_t *c, size_t c_len, const uint8_t *d, size_t d_len,
                                    uint64_t *work, size_t work_len, uint8_t *out, size_t out_len);
+
+/* ---- a window of the last checks */
+
+/* It holds the last checks that were sent, as many as its width at most. The caller keeps it where it likes; only these calls make or change it.
+ * Bytes of any other origin are read as some window, or refused as a roll is (1 to 7): every call ends and stays within bounds. */
+typedef struct {
+    uint8_t bytes[HOWHIRUKE_WINDOW_BYTES];
+} howhiruke_window;
+
+/* Makes a window without checks, of a width from 1 to 64, whatever it held before. Refusal 17, which changes nothing. */
+howhiruke_answer howhiruke_window_make(howhiruke_window *window, size_t width);
+
+/* Sends the one check of a roll: it enters, and with as many inside as the width the oldest leaves first. Refusals 1 to 7 of the roll, 18, then 7
+ * for more than 128 distinct qubits inside, counted after the oldest has left. A refused check changes nothing. No work area. */
+howhiruke_answer howhiruke_window_send(howhiruke_window *window, const uint8_t *roll, size_t roll_len);
+
+/* Of the checks inside, oldest first, without promise: what the calls of these names without `window_` answer and write of their roll, with
+ * their refusals and work areas. A window without checks is the empty list. */
+howhiruke_answer howhiruke_window_standard_generators(const howhiruke_window *window, uint64_t *work, size_t work_len,
+                                                      uint8_t *out, size_t out_len);
+howhiruke_answer howhiruke_window_rank(const howhiruke_window *window, uint64_t *work, size_t work_len);
+howhiruke_answer howhiruke_window_phases(const howhiruke_window *window, uint64_t *work, size_t work_len);
+howhiruke_answer howhiruke_window_indexed_factorization_of(const howhiruke_window *window, const uint8_t *elements, size_t elements_len,
+                                                           size_t number, uint64_t *work, size_t work_len, uint8_t *out, size_t out_len);
 
 /* ---- the report */
 

@@ -333,6 +333,65 @@ static void lines(void)
     refused_with("line 12", CALL(combine, TEXT("A"), ROLL(xx), NOT_SENT, NOT_SENT, NOT_SENT, LINE_AREA, out, xx.n - 1), 12, 0, line_used);
 }
 
+/* Claims of other programs. */
+#define INDEXES(...) (const uint16_t[]){__VA_ARGS__}, sizeof((uint16_t[]){__VA_ARGS__}) / sizeof(uint16_t)
+
+static void claims(void)
+{
+    pauli minus_yy = {0, {0, 1, E}, {0, 1, E}}, yy = {2, {0, 1, E}, {0, 1, E}};
+    roll bell = LIST(XX, ZZ), elements = LIST(minus_yy, yy, Z), three = LIST(XX, ZZ, minus_yy), witnesses = LIST(ZZ, X, XX);
+    worked("claim", CALL(accepts_membership, ROLL(bell), ROLL(elements), 0, INDEXES(0, 1), 0, 0, WORK), 1);
+    worked("claim of another sign", CALL(accepts_membership, ROLL(bell), ROLL(elements), 1, INDEXES(0, 1), 0, 0, WORK), 0);
+    worked("claim of a power not in the group", CALL(accepts_membership, ROLL(bell), ROLL(elements), 1, INDEXES(0, 1), 2, 0, WORK), 0);
+    worked("claim, other indexes", CALL(accepts_membership, ROLL(three), ROLL(elements), 0, INDEXES(2), 0, 0, WORK), 1);
+    worked("claim of no index", CALL(accepts_membership, ROLL(bell), ROLL(bell), 0, (const uint16_t[1]){0}, 0, 0, 0, WORK), 0);
+    refused("claim 8", CALL(accepts_membership, ROLL(bell), ROLL(elements), 3, INDEXES(1, 0), 4, 0, WORK), 8, 0);
+    refused_with("claim 16, twice", CALL(accepts_membership, ROLL(bell), ROLL(elements), 0, INDEXES(0, 0), 0, 0, work, WORDS - 1), 16, 0, untouched);
+    refused_with("claim 16, past", CALL(accepts_membership, ROLL(bell), ROLL(elements), 0, INDEXES(0, 2), 0, 0, WORK), 16, 0, untouched);
+    refused_with("claim 16, exponent", CALL(accepts_membership, ROLL(bell), ROLL(elements), 0, INDEXES(0, 1), 4, 0, WORK), HOWHIRUKE_REFUSED_CLAIM, 0, untouched);
+    refused("claim 9", CALL(accepts_membership, ROLL(bell), ROLL(elements), 0, INDEXES(0, 1), 0, 0, work, WORDS - 1), 9, 0);
+    told("absence", CALL(accepts_absence, ROLL(bell), ROLL(elements), 2, ROLL(witnesses), 2), 1, 0, 0);
+    told("absence, clash with a check", CALL(accepts_absence, ROLL(bell), ROLL(elements), 2, ROLL(witnesses), 1), 0, 0, 0);
+    told("absence, no clash", CALL(accepts_absence, ROLL(bell), ROLL(elements), 2, ROLL(witnesses), 0), 0, 0, 0);
+    told("absence of a wrong sign", CALL(accepts_absence, ROLL(bell), ROLL(elements), 1, ROLL(witnesses), 2), 0, 0, 0);
+    refused("absence 1 before 8", CALL(accepts_absence, ROLL(bell), ROLL(elements), 3, witnesses.b, 1, 0), 1, 0);
+    refused("absence 8", CALL(accepts_absence, ROLL(bell), ROLL(elements), 3, ROLL(witnesses), 0), 8, 0);
+    refused("absence 8 of the witness", CALL(accepts_absence, ROLL(bell), ROLL(elements), 2, ROLL(witnesses), 3), 8, 0);
+}
+
+/* A window of the last checks. */
+static void windows(void)
+{
+    static howhiruke_window window, before;
+    roll x = LIST(X), z = LIST(Z), xx = LIST(XX), two = LIST(X, Z), none = of(0, NULL);
+    memset(&window, 0x33, sizeof window);
+    before = window;
+    refused_with("window 17", CALL(window_make, &window, 0), HOWHIRUKE_REFUSED_WIDTH, 0, untouched);
+    refused_with("window 17, wide", CALL(window_make, &window, HOWHIRUKE_WIDEST_WINDOW + 1), 17, 0, untouched);
+    holds("window 17", !memcmp(&window, &before, sizeof window));
+    told("window", CALL(window_make, &window, 2), 0, 0, 0);
+    worked("rank of no checks", CALL(window_rank, &window, WORK), 0);
+    listed("generators of no checks", CALL(window_standard_generators, &window, WORK, OUT), LIST(I));
+    told("sent", CALL(window_send, &window, ROLL(x)), 0, 0, 0);
+    told("sent", CALL(window_send, &window, ROLL(z)), 0, 0, 0);
+    worked("rank of two checks", CALL(window_rank, &window, WORK), 2);
+    worked("phases of two checks", CALL(window_phases, &window, WORK), 2);
+    before = window;
+    refused_with("window 18", CALL(window_send, &window, ROLL(two)), HOWHIRUKE_REFUSED_CHECKS, 0, untouched);
+    refused_with("window 18, none", CALL(window_send, &window, ROLL(none)), 18, 0, untouched);
+    refused_with("window 1", CALL(window_send, &window, two.b, two.n - 1), 1, 0, untouched);
+    holds("window 18", !memcmp(&window, &before, sizeof window));
+    told("sent, the oldest leaves", CALL(window_send, &window, ROLL(xx)), 0, 0, 0);
+    listed("generators of the last checks", CALL(window_standard_generators, &window, WORK, OUT), LIST(XX, Z));
+    told("no member any more", CALL(window_indexed_factorization_of, &window, ROLL(x), 0, WORK, OUT), 0, 0, 0);
+    told("member", CALL(window_indexed_factorization_of, &window, ROLL(z), 0, WORK, OUT), 1, 1, 0);
+    refused("window 8", CALL(window_indexed_factorization_of, &window, ROLL(z), 1, WORK, OUT), 8, 0);
+    refused("window 9", CALL(window_rank, &window, work, WORDS - 1), 9, 0);
+    refused("window 12", CALL(window_standard_generators, &window, WORK, out, 10), 12, 0);
+    memset(&window, 0xff, sizeof window);
+    refused_with("forged window", CALL(window_send, &window, ROLL(x)), 2, 0, untouched);
+}
+
 /* What is told before the work. */
 static void sizes(void)
 {
@@ -467,6 +526,8 @@ int main(void)
     many_elements();
     centralizers();
     lines();
+    claims();
+    windows();
     sizes();
     common_and_report();
     refusals();

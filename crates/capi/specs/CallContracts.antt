@@ -12,8 +12,10 @@ use Rattle.pauli_group.specs.Calls.{told_member, member_left}
 use Rattle.factorizations.specs.Calls.{told_results}
 use Rattle.factorizations.specs.Records.{results_bytes}
 use Rattle.combined_lists.specs.Combining.{checked_line, combine_call, line_area_after}
+use Rattle.window.specs.History.{or_same}
+use Rattle.window.specs.Layout.{front}
 use Rattle.capi.specs.declared.answer.Answer.{Answer}
-use Rattle.capi.specs.Code.{code_number, code_product, code_body, code_member, code_results, code_form}
+use Rattle.capi.specs.Code.{code_done, code_number, code_product, code_body, code_member, code_results, code_form}
 
 -- a call that writes a roll, and uses no work area
 pub record Writing (result : Told (List ℕ)) (out : List ℕ) (r : Answer) (out' : List ℕ) : Type 0 where
@@ -29,6 +31,11 @@ pub record Multiplying (l : List ℕ) (i : ℕ) (r : List ℕ) (j : ℕ) (out : 
 pub record Telling {A : Type 0} (code : Answer) (checked : Told A) (work : List ℕ) (r : Answer) (work' : List ℕ) : Type 0 where
   pub told : r ≡ code
   pub area : work' ≡ area_after checked work
+
+-- a call that makes or changes a window
+pub record Changing (bytes : Told (List ℕ)) (w : List ℕ) (r : Answer) (w' : List ℕ) : Type 0 where
+  pub told : r ≡ code_done (map_told (λ bytes. tt) bytes)
+  pub left : front w' ≡ or_same (front w) bytes
 
 -- a call that writes a roll, with a work area
 pub record Listing {A : Type 0} (result : Told (List ℕ)) (checked : Told A) (work out : List ℕ) (r : Answer) (work' out' : List ℕ) : Type 0 where

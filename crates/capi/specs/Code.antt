@@ -23,6 +23,11 @@ abbrev pub code_number : Told ℕ → Answer
 code_number (answer n) = code_values n 0 0
 code_number (refused n p) = code_refusal n p
 
+-- nothing but that it was done
+abbrev pub code_done : Told Unit → Answer
+code_done (answer done) = code_values 0 0 0
+code_done (refused n p) = code_refusal n p
+
 -- 1 for accepted, 0 for not accepted
 abbrev pub code_accepted : Told Bool → Answer
 code_accepted (answer accepted) = code_values (yes_number accepted) 0 0

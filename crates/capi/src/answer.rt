@@ -6,7 +6,7 @@ ghost use Rattle.pauli.specs.Refusals.{number_of, told_of, told_by};
 ghost use Rattle.pauli_group.specs.Answers.{phases_told, yes_number, factored_in, order_of};
 ghost use Rattle.factorizations.specs.Answers.{totals_in};
 ghost use Rattle.sizes.specs.Answers.{sizes_in};
-ghost use Rattle.capi.specs.Code.{code_refusal, code_values, code_number, code_accepted, code_product, code_phases, code_looked, code_member, code_results, code_sizes, order_number, code_order, code_form};
+ghost use Rattle.capi.specs.Code.{code_refusal, code_values, code_number, code_done, code_accepted, code_product, code_phases, code_looked, code_member, code_results, code_sizes, order_number, code_order, code_form};
 
 use factorizations::answers::Results;
 use pauli::lookup::JoinedEntry;
@@ -59,6 +59,12 @@ pub(crate) fn code_number(told: Result<usize, Refusal>) -> Answer
     ensures { result ≡ code_number (told_of told) }
 {
     told.map_or_else(code_refusal, |n| code_values(n, 0, 0))
+}
+
+pub(crate) fn code_done(done: Result<(), Refusal>) -> Answer
+    ensures { result ≡ code_done (told_of done) }
+{
+    done.map_or_else(code_refusal, |_| code_values(0, 0, 0))
 }
 
 pub(crate) fn code_decided(decided: Result<bool, Refusal>) -> Answer

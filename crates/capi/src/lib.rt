@@ -16,6 +16,8 @@ pub mod line_calls;
 pub mod centralizer_calls;
 // The calls that check claims.
 pub mod claim_calls;
+// The calls on a window of recent checks.
+pub mod window_calls;
 // The calls that tell sizes before the work.
 pub mod size_calls;
 // The echelon form of a matrix.

@@ -3,12 +3,12 @@ use Rattle.std.specs.Prelude.{if◌then◌else◌}
 use Rattle.std.proofs.Common.{◌≡◌, refl, inl, inr, eqb, List, [], ◌∷◌, length, ℕ, Option, Some, None, arith, Bool, true, false}
 use Rattle.std.proofs.Math.Option.{Option as MathOption, some, none}
 use Rattle.pauli.specs.declared.refusal.Reason.{Reason}
-use Rattle.pauli.specs.declared.refusal.Reason.TheVariants.{Length, Paulis, Entry, Exponent, Rising, Qubits, Number, Work, Listing, Subgroup, Output, Support, Line, Depth, Claim}
+use Rattle.pauli.specs.declared.refusal.Reason.TheVariants.{Length, Paulis, Entry, Exponent, Rising, Qubits, Number, Work, Listing, Subgroup, Output, Support, Line, Depth, Claim, Width, Checks}
 use Rattle.pauli.specs.JoinCalls.{Lists, read_both, few_qubits, within, factors_of, product_of, made_with, made_of, joined_of, join_of, entry_of, stretch_of}
 use Rattle.pauli.specs.OneQubit.{one_qubit_call}
 use Rattle.pauli.specs.Refusals.{number_of}
 use Rattle.pauli.specs.Roll.{Sparse, support, read, count_of}
-use Rattle.pauli.specs.Told.{Told, answer, refused}
+use Rattle.pauli.specs.Told.{Told, answer, refused, and_then}
 use Rattle.pauli.specs.Writing.{told_bytes}
 use Rattle.pauli.specs.Pauli.{Pauli}
 use Rattle.pauli.proofs.roll.Told.{Never, never, never_answer, never_test, never_on, never_then, never_map}
@@ -28,6 +28,8 @@ use Rattle.combined_lists.specs.Reader.{tree_of}
 use Rattle.combined_lists.specs.Work.{value_of}
 use Rattle.combined_lists.specs.Combining.{all_read, checked_line, single_call, line_bytes, combine_call}
 use Rattle.claims.specs.Calls.{formed, member_checked, member_call, absence_checked, absence_call}
+use Rattle.window.specs.History.{only_one, check_in, few_inside, allowed_width}
+use Rattle.window.specs.Layout.{roll_in, made, sent}
 use Rattle.closing_report.specs.InputRolls.{rolls_in}
 use Rattle.closing_report.specs.Listing.{or_refused_in, listing, text_of}
 use Rattle.demand_three.specs.NeverFive.{NoFiveIn, CallsNeverFive}
@@ -205,6 +207,20 @@ absence_never b e n ws m =
     never_map 5 _ _ (never_then 5 (read_both b e) _ (both_never b e) λ l. never_then 5 (read ws) _ (read_never ws) λ sent.
     within_never n l.right _ (within_never m sent _ (never_answer 5 _)))
 
+-- ---- a window
+
+only_never : (ps : List Sparse) → Never 5 (only_one ps)
+unfolding Never only_one
+only_never [] = omega arith
+only_never (p ∷ []) = tt
+only_never (p ∷ q ∷ ps) = omega arith
+
+sent_never : (w b : List ℕ) → Never 5 (sent w b)
+unfolding sent check_in few_inside
+sent_never w b =
+    never_then 5 (and_then (read b) only_one) _ (never_then 5 (read b) _ (read_never b) only_never) λ p.
+    never_then 5 (read (roll_in w)) _ (read_never (roll_in w)) λ ps. never_test 5 _ 7 0 _ (omega arith) (never_answer 5 _)
+
 -- ---- the report
 
 rolls_never : (input : List ℕ) → Never 5 (rolls_in input)
@@ -240,9 +256,11 @@ reasons_never Support e = omega arith
 reasons_never Line e = omega arith
 reasons_never Depth e = omega arith
 reasons_never Claim e = omega arith
+reasons_never Width e = omega arith
+reasons_never Checks e = omega arith
 
 pub calls_never_five : CallsNeverFive
-unfolding count_of one_qubit_call stretch_of standard_generators rank_call phases_call abelian_call stabilizer_call size_call factorization_call symplectic_call order_call modulo_call factorizations_call joined_sizes standard_bound listing
+unfolding made allowed_width count_of one_qubit_call stretch_of standard_generators rank_call phases_call abelian_call stabilizer_call size_call factorization_call symplectic_call order_call modulo_call factorizations_call joined_sizes standard_bound listing
 calls_never_five =
     record {
       check_roll = λ b. never 5 _ (never_map 5 length (read b) (read_never b));
@@ -273,6 +291,8 @@ calls_never_five =
       combine = λ line rolls words out. never 5 _ (bytes_never _ out (combine_never line rolls words));
       accepts_membership = λ promise b e n c words. never 5 _ (claim_never promise b e n c words);
       accepts_absence = λ b e n ws m. never 5 _ (absence_never b e n ws m);
+      window_make = λ w width. never 5 _ (never_test 5 _ 17 0 _ (omega arith) (never_test 5 _ 17 0 _ (omega arith) (never_answer 5 _)));
+      window_send = λ w b. never 5 _ (sent_never w b);
       closing_report = λ input words out. never 5 _ (bytes_never _ out (enough_never words _ (never_answer 5 (text_of input))));
       report_text = text_never;
       reasons = reasons_never;

@@ -16,6 +16,7 @@ use Rattle.sizes.specs.Calls.{joined_sizes, standard_bound, page_call}
 use Rattle.centralizer.specs.Calls.{own_call, within_call}
 use Rattle.combined_lists.specs.Combining.{combine_call}
 use Rattle.claims.specs.Calls.{member_call, absence_call}
+use Rattle.window.specs.Layout.{made, sent}
 use Rattle.closing_report.specs.Lines.{refused_line}
 use Rattle.closing_report.specs.Listing.{report, listing, text_of}
 
@@ -57,6 +58,8 @@ pub record CallsNeverFive : Type 0 where
   pub combine : (line : List ℕ) (rolls : List (List ℕ)) (words : ℕ) (out : List ℕ) → NeverFive (told_bytes (combine_call line rolls words) out)
   pub accepts_membership : (promise : Promise) (b e : List ℕ) (n : ℕ) (c : Claim) (words : ℕ) → NeverFive (member_call promise b e n c words)
   pub accepts_absence : (b e : List ℕ) (n : ℕ) (ws : List ℕ) (m : ℕ) → NeverFive (absence_call b e n ws m)
+  pub window_make : (w : List ℕ) (width : ℕ) → NeverFive (made w width)
+  pub window_send : (w b : List ℕ) → NeverFive (sent w b)
   pub closing_report : (input : List ℕ) (words : ℕ) (out : List ℕ) → NeverFive (told_bytes (listing input words) out)
   -- nor is a roll of the report's input
   pub report_text : (input : List ℕ) → NoFiveIn (text_of input)

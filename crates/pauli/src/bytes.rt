@@ -3,7 +3,7 @@ ghost use Rattle.std.specs.Prelude.{◌≡◌, ◌+◌, ◌*◌, ◌<◌, ◌≤
 ghost use Rattle.pauli.specs.Bytes.{u16_at, u32_at, numbers_at, u32s_in};
 
 // The number that the two bytes from byte i on write.
-pub(crate) fn u16_at(b: &[u8], i: usize) -> usize
+pub fn u16_at(b: &[u8], i: usize) -> usize
     requires { i + 1 < length b.now }
     ensures { (result ≡ u16_at b.now i) × (result < 65536) }
 {

@@ -1,5 +1,5 @@
 // The joined roll.
-ghost use Rattle.std.specs.Prelude.{◌≡◌, ◌+◌, ◌*◌, ◌<◌, ◌≤◌, ◌++◌, map, length};
+ghost use Rattle.std.specs.Prelude.{◌≡◌, ◌+◌, ◌-◌, ◌*◌, ◌<◌, ◌≤◌, ◌++◌, map, length, drop};
 ghost use Rattle.pauli.specs.Roll.{numbers, by_value, table, bodies, write};
 ghost use Rattle.pauli.specs.Condense.{list_of};
 ghost use Rattle.pauli.specs.JoinContract.{JoinCall};
@@ -10,33 +10,30 @@ use crate::refusal::{Reason, Refusal};
 use crate::roll::Roll;
 use crate::write::{put_entry, put_u16};
 
-// Writes the entries of a roll from byte at on, where `before` qubit numbers stand in earlier bodies. By number: entry i of the
-// roll is entry i from there on.
-fn copy_entries(out: &mut [u8], at: usize, roll: Roll, before: usize)
-    requires { (at + 10 * roll.count ≤ length out.old) × (before ≤ 16777216) }
-    ensures { out.new ≡ put_bytes out.old at (table before (map by_value (list_of roll.entry.bytes.now))) }
+// Writes the entries of a roll's Paulis from number `from` on, from byte at on, where `before` qubit numbers stand in earlier bodies;
+// tells how many stand before and in these bodies. By number: entry i of the roll is the next one there.
+pub fn copy_entries(out: &mut [u8], at: usize, roll: Roll, from: usize, before: usize) -> usize
+    requires { (from ≤ roll.count) × (at + 10 * (roll.count - from) ≤ length out.old) × (before ≤ 16777216) }
+    ensures left { out.new ≡ put_bytes out.old at (table before (map by_value (drop from (list_of roll.entry.bytes.now)))) }
+    ensures numbers { result ≡ before + length (numbers (drop from (list_of roll.entry.bytes.now))) }
 {
     let mut start = before;
-    for i in 0..roll.count {
+    let mut to = at;
+    for i in from..roll.count {
         let e = roll.entry(i);
-        put_entry(
-            out,
-            at + 10 * i,
-            e.exponent,
-            start as u32,
-            e.xcount,
-            e.zcount,
-        );
+        put_entry(out, to, e.exponent, start as u32, e.xcount, e.zcount);
         start += e.xcount + e.zcount;
+        to += 10;
     }
+    start
 }
 
-// Writes the bodies of a roll from byte at on.
-fn copy_bodies(out: &mut [u8], at: usize, roll: Roll)
-    requires { at + 4 * length (numbers (list_of roll.bytes.now)) ≤ length out.old }
-    ensures { out.new ≡ put_bytes out.old at (bodies (list_of roll.entry.bytes.now)) }
+// Writes the bodies of a roll, but for the first `past` of its qubit numbers, from byte at on.
+pub fn copy_bodies(out: &mut [u8], at: usize, roll: Roll, past: usize)
+    requires { (past ≤ length (numbers (list_of roll.bytes.now))) × (at + 4 * (length (numbers (list_of roll.bytes.now)) - past) ≤ length out.old) }
+    ensures { out.new ≡ put_bytes out.old at (drop (4 * past) (bodies (list_of roll.entry.bytes.now))) }
 {
-    let bodies = roll.bodies();
+    let bodies = roll.bodies(past);
     out[at..at + bodies.len()].copy_from_slice(bodies);
 }
 
@@ -49,10 +46,10 @@ fn put_joined(out: &mut [u8], left: Roll, right: Roll)
     let middle = 2 + 10 * left.count;
     let end = middle + 10 * right.count;
     put_u16(out, 0, left.count + right.count);
-    copy_entries(out, 2, left, 0);
-    copy_entries(out, middle, right, kl);
-    copy_bodies(out, end, left);
-    copy_bodies(out, end + 4 * kl, right);
+    copy_entries(out, 2, left, 0, 0);
+    copy_entries(out, middle, right, 0, kl);
+    copy_bodies(out, end, left, 0);
+    copy_bodies(out, end + 4 * kl, right, 0);
 }
 
 // Writes the joined roll, if the output has room.

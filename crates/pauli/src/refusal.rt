@@ -37,6 +37,10 @@ pub enum Reason {
     Depth = 15,
     // A claim's indexes do not rise strictly or pass the list, or its exponent is above 3.
     Claim = 16,
+    // A window's width is outside 1 to 64.
+    Width = 17,
+    // A roll that is sent to a window does not have exactly one Pauli.
+    Checks = 18,
 }
 
 // A refusal's reason and its place: the Pauli's index in its own roll, or 0.

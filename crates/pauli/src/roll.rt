@@ -1,5 +1,5 @@
 // Rolls: the reader. It uses no work area, and indexes nothing by a qubit number.
-ghost use Rattle.std.specs.Prelude.{◌≡◌, ℕ, suc, ◌+◌, ◌*◌, ◌<◌, ◌≤◌, min, [], length, slice_index, IfOk};
+ghost use Rattle.std.specs.Prelude.{◌≡◌, ℕ, suc, ◌+◌, ◌*◌, ◌<◌, ◌≤◌, min, [], length, drop, slice_index, IfOk};
 ghost use Rattle.pauli.specs.Bytes.{u32s_in};
 ghost use Rattle.pauli.specs.Roll.{most_paulis, entry_at, entries_at, paulis_at, check_entries, check_set, check_sets, numbers, bodies, count_of};
 ghost use Rattle.pauli.specs.Support.{most_qubits, insert_all};
@@ -179,11 +179,12 @@ impl<'a> Roll<'a> {
         (self.bytes.len() - (2 + 10 * self.count)) / 4
     }
 
-    // Its bodies, which are what follows the table.
-    pub fn bodies(self) -> &'a [u8]
-        ensures { result.now ≡ bodies (list_of self.entry.bytes.now) }
+    // Its bodies, which are what follows the table, but for the first `past` qubit numbers.
+    pub fn bodies(self, past: usize) -> &'a [u8]
+        requires { past ≤ length (numbers (list_of self.bytes.now)) }
+        ensures { result.now ≡ drop (4 * past) (bodies (list_of self.entry.bytes.now)) }
     {
-        &self.bytes[2 + 10 * self.count..]
+        &self.bytes[2 + 10 * self.count + 4 * past..]
     }
 
     // Puts its qubits in among those that are known.

@@ -23,7 +23,7 @@ pub fn put_u16(out: &mut [u8], at: usize, v: usize)
 }
 
 // Writes a number as four bytes. Beside `put_u16`: the two have one line each, and are given numbers of two types.
-fn put_u32(out: &mut [u8], at: usize, number: u32)
+pub fn put_u32(out: &mut [u8], at: usize, number: u32)
     requires { at + 4 ≤ length out.old }
     ensures { out.new ≡ put_bytes out.old at (le32 number) }
 {

@@ -1,4 +1,4 @@
-// Calls in, one line out for each: operations 0 to 28 and 30.
+// Calls in, one line out for each, of a window's script one for each step: operations 0 to 30.
 //
 // A request is 28 bytes, little-endian, and two byte strings. Byte 0 is the operation, bytes 1 and 2 the promises, byte 3 the
 // byte that fills the output and the work area before the call; from byte 4 on six numbers of four bytes: a, b, the bytes of
@@ -10,6 +10,7 @@ ghost use Rattle.std.specs.Prelude.{◌≤◌, IfOk, length};
 
 use crate::request::{Operation, Request, strings_of};
 use crate::runs::{MOST_NAMED, run};
+use crate::script::run_script;
 use pauli::bytes::u32_at;
 use std::io;
 use std::io::{Read, Write};
@@ -22,6 +23,8 @@ mod request;
 mod tells;
 // The calls.
 mod runs;
+// A window's script.
+mod script;
 
 const MOST_BYTES: usize = 262144;
 
@@ -101,6 +104,9 @@ fn answer<R: Read, W: Write>(
     let request = Request::new(head, &buffers.first[..n], second, strings);
     let work = &mut buffers.work[..];
     let out = &mut buffers.out[..];
+    if matches!(operation, Operation::Script) {
+        return run_script(to, request, &mut work[..words], &mut out[..lent]);
+    }
     run(to, operation, request, &mut work[..words], &mut out[..lent])?;
     Ok(true)
 }

@@ -1,4 +1,6 @@
 // A request: which call it asks for, and what it gives the call.
+ghost use Rattle.std.specs.Prelude.{◌<◌, IfSome, length};
+
 use pauli::bytes::u32_at;
 use pauli_group::promise::{Promise, Promises};
 
@@ -57,6 +59,8 @@ pub(crate) enum Operation {
     Line,
     // a claim of membership
     Claim,
+    // a window's script
+    Script,
 }
 
 // No operation has the number.
@@ -97,6 +101,7 @@ impl TryFrom<u8> for Operation {
             26 => Ok(Operation::Line),
             27 => Ok(Operation::Claim),
             28 => Ok(Operation::OnRolls(OnRolls::Absence)),
+            29 => Ok(Operation::Script),
             30 => Ok(Operation::OnRolls(OnRolls::OneQubit)),
             _ => Err(Unknown),
         }
@@ -104,7 +109,9 @@ impl TryFrom<u8> for Operation {
 }
 
 // The string behind its length of four bytes, and what follows it.
-fn string_at(b: &[u8]) -> Option<(&[u8], &[u8])> {
+pub(crate) fn string_at(b: &[u8]) -> Option<(&[u8], &[u8])>
+    ensures { IfSome result (λ parts. length parts.1.now < length b.now) }
+{
     let (size, rest) = b.split_first_chunk::<4>()?;
     rest.split_at_checked(u32::from_le_bytes(*size) as usize)
 }

@@ -215,6 +215,7 @@ pub(crate) fn run<W: Write>(
     work.fill(u64::from_le_bytes([fill; 8]));
     out.fill(fill);
     let n = match operation {
+        Operation::Script => 0,
         Operation::OnRolls(call) => {
             let n = run_rolls(to, call, request, out)?;
             return end_line(to, out, n, fill);

@@ -45,6 +45,18 @@ pub(crate) fn print_decided<W: Write>(
     }
 }
 
+// A word, or the refusal.
+pub(crate) fn print_done<W: Write>(
+    to: &mut W,
+    word: &str,
+    done: Result<(), Refusal>,
+) -> io::Result<()> {
+    match done {
+        Ok(()) => write!(to, "{word}"),
+        Err(refusal) => write!(to, "{refusal}"),
+    }
+}
+
 pub(crate) fn print_accepted<W: Write>(
     to: &mut W,
     accepted: Result<bool, Refusal>,

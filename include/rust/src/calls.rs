@@ -50,6 +50,17 @@ extern "C" {
     pub fn howhiruke_accepts_absence(
         generators: *const u8, n: usize, elements: *const u8, m: usize, number: usize, witnesses: *const u8, l: usize, witness: usize,
     ) -> Answer;
+    pub fn howhiruke_window_make(window: *mut [u8; crate::WINDOW_BYTES], width: usize) -> Answer;
+    pub fn howhiruke_window_send(window: *mut [u8; crate::WINDOW_BYTES], roll: *const u8, n: usize) -> Answer;
+    pub fn howhiruke_window_standard_generators(
+        window: *const [u8; crate::WINDOW_BYTES], work: *mut u64, words: usize, out: *mut u8, room: usize,
+    ) -> Answer;
+    pub fn howhiruke_window_rank(window: *const [u8; crate::WINDOW_BYTES], work: *mut u64, words: usize) -> Answer;
+    pub fn howhiruke_window_phases(window: *const [u8; crate::WINDOW_BYTES], work: *mut u64, words: usize) -> Answer;
+    pub fn howhiruke_window_indexed_factorization_of(
+        window: *const [u8; crate::WINDOW_BYTES], elements: *const u8, m: usize, number: usize, work: *mut u64, words: usize,
+        out: *mut u8, room: usize,
+    ) -> Answer;
     pub fn howhiruke_elements(
         roll: *const u8, n: usize, promise: u64, start: u32, count: u32, work: *mut u64, words: usize, out: *mut u8, room: usize,
     ) -> Answer;

@@ -44,6 +44,10 @@ pub const MOST_TOGETHER: usize = 63;
 pub const LONGEST_LINE: usize = 256;
 /// Parentheses in parentheses of a line.
 pub const DEEPEST_LINE: usize = 4;
+/// Checks inside a window.
+pub const WIDEST_WINDOW: usize = 64;
+/// Bytes of a window.
+pub const WINDOW_BYTES: usize = 66_184;
 
 /// Why a call is refused.
 #[derive(Clone, Copy, Debug, PartialEq, Eq)]
@@ -79,6 +83,10 @@ pub enum Reason {
     Depth,
     /// 16: a claim's indexes do not rise strictly or pass the list, or its exponent is above 3.
     Claim,
+    /// 17: a window's width is outside 1 to 64.
+    Width,
+    /// 18: a roll that is sent to a window does not have exactly one Pauli.
+    Checks,
     /// A number that this crate does not know: the library is of another version.
     Unknown(u64),
 }
@@ -102,6 +110,8 @@ impl Reason {
             Reason::Line => 14,
             Reason::Depth => 15,
             Reason::Claim => 16,
+            Reason::Width => 17,
+            Reason::Checks => 18,
             Reason::Unknown(number) => number,
         }
     }
@@ -123,6 +133,8 @@ impl Reason {
             14 => Reason::Line,
             15 => Reason::Depth,
             16 => Reason::Claim,
+            17 => Reason::Width,
+            18 => Reason::Checks,
             _ => Reason::Unknown(number),
         }
     }
@@ -146,6 +158,8 @@ impl fmt::Display for Reason {
             Reason::Line => "the line is empty, too long or ill-formed, or names a roll that was not sent",
             Reason::Depth => "the line's parentheses are too deep",
             Reason::Claim => "the claim's indexes do not rise or pass the list, or its exponent is above 3",
+            Reason::Width => "the window's width is outside 1 to 64",
+            Reason::Checks => "the roll does not have exactly one Pauli",
             Reason::Unknown(_) => "a reason that this version does not know",
         })
     }
@@ -333,12 +347,16 @@ pub fn rank(roll: &[u8], work: &mut [u64]) -> Result<usize, Refusal> {
 /// The powers of i that are in the group. Reasons 1 to 7 and 9.
 pub fn phases(roll: &[u8], promise: Promise, work: &mut [u64]) -> Result<Phases, Refusal> {
     let a = told(unsafe { calls::howhiruke_phases(roll.as_ptr(), roll.len(), promise as u64, work.as_mut_ptr(), work.len()) })?;
-    Ok(match a.first {
+    Ok(phases_counted(a.first))
+}
+
+fn phases_counted(count: u64) -> Phases {
+    match count {
         1 => Phases::Zero,
         2 => Phases::ZeroTwo,
         4 => Phases::All,
         other => unreachable!("{other} phases"),
-    })
+    }
 }
 
 /// Whether no two Paulis of the list anticommute. Reasons 1 to 7 and 9.
@@ -382,10 +400,14 @@ pub fn indexed_factorization_of(
             out.len(),
         )
     })?;
+    Ok(membership(a))
+}
+
+fn membership(a: Answer) -> Membership {
     if a.first == 0 {
-        return Ok(Membership::NotMember);
+        return Membership::NotMember;
     }
-    Ok(Membership::Member { count: a.second as usize, exponent: a.third as u8 })
+    Membership::Member { count: a.second as usize, exponent: a.third as u8 }
 }
 
 /// What [`indexed_factorization_of`] tells of every Pauli of the roll `elements`, written in their order, one behind the other: byte 0 for no
@@ -647,6 +669,68 @@ pub fn combine(line: &[u8], rolls: [&[u8]; 4], work: &mut [u64], out: &mut [u8])
             out.len(),
         )
     })
+}
+
+/// A window: the last checks that were sent to it, as many as its width at most, in bytes that the caller lends, on the heap for example. No
+/// other than its own functions changes it.
+pub struct Window<'a> {
+    bytes: &'a mut [u8; WINDOW_BYTES],
+}
+
+impl<'a> Window<'a> {
+    /// Makes a window without checks, of a width from 1 to 64, whatever the bytes hold. Reason 17.
+    pub fn make(bytes: &'a mut [u8; WINDOW_BYTES], width: usize) -> Result<Window<'a>, Refusal> {
+        told(unsafe { calls::howhiruke_window_make(bytes, width) })?;
+        Ok(Window { bytes })
+    }
+
+    /// Sends the one check of a roll: it enters, and with as many inside as the width the oldest leaves first. Reasons 1 to 7 of the roll, 18,
+    /// then 7 for the qubits of the checks inside, counted after the oldest has left. A refused check changes nothing.
+    pub fn send(&mut self, roll: &[u8]) -> Result<(), Refusal> {
+        told(unsafe { calls::howhiruke_window_send(self.bytes, roll.as_ptr(), roll.len()) })?;
+        Ok(())
+    }
+
+    /// What [`standard_generators`] writes and tells of the checks inside, oldest first.
+    pub fn standard_generators(&self, work: &mut [u64], out: &mut [u8]) -> Result<usize, Refusal> {
+        number(unsafe {
+            calls::howhiruke_window_standard_generators(self.bytes, work.as_mut_ptr(), work.len(), out.as_mut_ptr(), out.len())
+        })
+    }
+
+    /// What [`rank`] tells of them.
+    pub fn rank(&self, work: &mut [u64]) -> Result<usize, Refusal> {
+        number(unsafe { calls::howhiruke_window_rank(self.bytes, work.as_mut_ptr(), work.len()) })
+    }
+
+    /// What [`phases`] tells of them, without promise.
+    pub fn phases(&self, work: &mut [u64]) -> Result<Phases, Refusal> {
+        let a = told(unsafe { calls::howhiruke_window_phases(self.bytes, work.as_mut_ptr(), work.len()) })?;
+        Ok(phases_counted(a.first))
+    }
+
+    /// What [`indexed_factorization_of`] writes and tells, with them as the generators and without promise.
+    pub fn indexed_factorization_of(
+        &self,
+        elements: &[u8],
+        element: usize,
+        work: &mut [u64],
+        out: &mut [u8],
+    ) -> Result<Membership, Refusal> {
+        let a = told(unsafe {
+            calls::howhiruke_window_indexed_factorization_of(
+                self.bytes,
+                elements.as_ptr(),
+                elements.len(),
+                element,
+                work.as_mut_ptr(),
+                work.len(),
+                out.as_mut_ptr(),
+                out.len(),
+            )
+        })?;
+        Ok(membership(a))
+    }
 }
 
 /// Writes the closing listing of an input: a 4-byte length, a generator roll of that length, an element roll; the text's length. Reasons 9

@@ -138,6 +138,49 @@ fn lines() {
 }
 
 #[test]
+fn claims() {
+    let (none, bell) = (Promise::None, roll(&[XX, ZZ]));
+    let minus_yy: Pauli = (0, &[0, 1], &[0, 1]);
+    let elements = roll(&[minus_yy, (2, &[0, 1], &[0, 1]), Z]);
+    let member = |number: usize, indexes: &[u16], exponent: u32| {
+        accepts_membership(&bell, &elements, number, indexes, exponent, none, &mut work())
+    };
+    assert_eq!(member(0, &[0, 1], 0), Ok(true));
+    assert_eq!(member(1, &[0, 1], 0), Ok(false));
+    assert_eq!(member(1, &[0, 1], 2), Ok(false));
+    assert_eq!(member(0, &[1, 0], 0), refused(Reason::Claim, 0));
+    assert_eq!(member(0, &[0, 2], 0), refused(Reason::Claim, 0));
+    assert_eq!(member(0, &[0, 1], 4), refused(Reason::Claim, 0));
+    assert_eq!(member(3, &[1, 0], 4), refused(Reason::Number, 0));
+    let three = roll(&[XX, ZZ, minus_yy]);
+    assert_eq!(accepts_membership(&three, &elements, 0, &[2], 0, none, &mut work()), Ok(true));
+    let absent = |number: usize, witness: usize| accepts_absence(&bell, &elements, number, &roll(&[ZZ, X, XX]), witness);
+    assert_eq!(absent(2, 2), Ok(true));
+    assert_eq!(absent(2, 1), Ok(false));
+    assert_eq!(absent(2, 0), Ok(false));
+    assert_eq!(absent(1, 2), Ok(false));
+    assert_eq!(absent(2, 3), refused(Reason::Number, 0));
+}
+
+#[test]
+fn windows() {
+    let mut bytes = Box::new([0x33; WINDOW_BYTES]);
+    assert!(matches!(Window::make(&mut bytes, 65), Err(Refusal { reason: Reason::Width, place: 0 })));
+    assert!(bytes.iter().all(|b| *b == 0x33));
+    let mut window = Window::make(&mut bytes, 2).unwrap();
+    assert_eq!(window.rank(&mut work()), Ok(0));
+    assert_eq!(window.send(&roll(&[X])), Ok(()));
+    assert_eq!(window.send(&roll(&[Z])), Ok(()));
+    assert_eq!(window.phases(&mut work()), Ok(Phases::ZeroTwo));
+    assert_eq!(window.send(&roll(&[X, Z])), refused(Reason::Checks, 0));
+    assert_eq!(window.send(&roll(&[XX])), Ok(()));
+    assert_eq!(written(|w, o| window.standard_generators(w, o)), Ok(roll(&[XX, Z])));
+    let asked = |p: Pauli| window.indexed_factorization_of(&roll(&[p]), 0, &mut work(), &mut [0; 64]);
+    assert_eq!(asked(X), Ok(Membership::NotMember));
+    assert_eq!(asked(Z), Ok(Membership::Member { count: 1, exponent: 0 }));
+}
+
+#[test]
 fn sizes() {
     let (none, bell, x1) = (Promise::None, roll(&[XX, ZZ]), roll(&[X1]));
     assert_eq!(joined_sizes(&bell, &x1), Ok(JoinedSizes { bytes: 52, paulis: 3, qubits: 2 }));

@@ -1,5 +1,5 @@
 -- Laws of two rolls joined: what is told of them, where a joined generator stands, and the roll that is written.
-use Rattle.std.proofs.Common.{◌≡◌, ℕ, suc, ◌+◌, ◌-◌, ◌*◌, ◌%◌, ◌<◌, ◌≤◌, min, Bool, true, false, ltb, List, [], ◌∷◌, ◌++◌, map, length, get_or, take, drop, sym, refl, ap, ◌∙◌, subst, ap₂, append_assoc, append-nil, add-zero, zero-add, add-one, arith, length-append, drop_of_length-le, drop-cons, get_or-append-add, ltb-false, le-ltb, lt-ltb, le-leb, Result}
+use Rattle.std.proofs.Common.{◌≡◌, ℕ, suc, ◌+◌, ◌-◌, ◌*◌, ◌%◌, ◌<◌, ◌≤◌, min, Bool, true, false, ltb, List, [], ◌∷◌, ◌++◌, map, length, get_or, take, drop, sym, refl, ap, ◌∙◌, subst, ap₂, append_assoc, append-nil, add-zero, zero-add, add-one, arith, length-append, length-drop, take-append-drop, drop_at, drop_of_length-le, drop-cons, get_or-append-add, ltb-false, le-ltb, lt-ltb, le-leb, Result}
 use mathlib.Core.List.{map-append}
 use borrow.Author.Tests.{lt-leb}
 use lib.ListN.{length-map, get_or-append}
@@ -18,7 +18,7 @@ use Rattle.pauli.specs.JoinCalls.{Lists, read_both, few_qubits, within, joined_o
 use Rattle.pauli.specs.Writing.{put_bytes, entry_bytes, told_bytes, left_in}
 use Rattle.pauli.proofs.roll.Told.{refused_none, test_pass, test_refuses, test_passed}
 use Rattle.pauli.proofs.support.Lists.{AllBytes}
-use Rattle.pauli.proofs.roll.BytesLaws.{length_numbers, length_le16, le32s_append, numbers_written}
+use Rattle.pauli.proofs.roll.BytesLaws.{length_numbers, length_le16, length_le32s, le32s_append, numbers_written}
 use Rattle.pauli.proofs.support.SupportLaws.{insert_all_append}
 use Rattle.pauli.proofs.roll.ListSupport.{numbers_append, numbers_by_value}
 use Rattle.pauli.proofs.roll.Paulis.{table_entries, length_entries_of, length_bodies}
@@ -365,36 +365,57 @@ module _ (l r out : List ℕ) where
 
 -- ---- entries, copied one by one
 
-module _ {first whole out : List ℕ} (at : ℕ) (b : List ℕ) (n : ℕ) (e : count_of b ≡ answer n) (i : ℕ) (h : i < n) (a : CodeEntry)
-    (f : told_entry a ≡ entry_at b (2 + 10 * i)) (before : ℕ) (l : Left first at whole out (at + 10 * i) (table before (map by_value (drop i (list_of b))))) where
+module _ {first whole out : List ℕ} {at to : ℕ} (b : List ℕ) (n : ℕ) (e : count_of b ≡ answer n) (i : ℕ) (h : i < n) (a : CodeEntry)
+    (f : told_entry a ≡ entry_at b (2 + 10 * i)) (before : ℕ) (l : Left first at whole out to (table before (map by_value (drop i (list_of b))))) where
   abbrev piece : List ℕ
   piece = entry_bytes a.exponent before a.xcount a.zcount
 
   abbrev more : List ℕ
   more = table (before + (a.xcount + a.zcount)) (map by_value (drop (i + 1) (list_of b)))
 
-  pub entry_fits : at + 10 * i + 10 ≤ length out
+  pub entry_fits : to + 10 ≤ length out
   entry_fits = left_room l piece more 10 (accepted_next b n e i h a f before) (length_entry_bytes a.exponent before a.xcount a.zcount)
 
-  pub entry_copied : (u : List ℕ) → u ≡ put_bytes out (at + 10 * i) piece → length u ≡ length out → Left first at whole u (at + 10 * (i + 1)) more
+  pub entry_copied : (u : List ℕ) → u ≡ put_bytes out to piece → length u ≡ length out → Left first at whole u (to + 10) more
   entry_copied u d k =
-      let next : at + 10 * i + 10 ≡ at + 10 * (i + 1) = omega arith in
-      subst (λ (j : ℕ). Left first at whole u j more) next
-      (left_step l piece more 10 (accepted_next b n e i h a f before) (length_entry_bytes a.exponent before a.xcount a.zcount) u d k)
+      left_step l piece more 10 (accepted_next b n e i h a f before) (length_entry_bytes a.exponent before a.xcount a.zcount) u d k
 
 module _ (b : List ℕ) (n : ℕ) (e : count_of b ≡ answer n) where
-  pub entries_length : (before : ℕ) → length (table before (map by_value (list_of b))) ≡ 10 * n
-  entries_length before = length_table before (map by_value (list_of b)) ∙ ap (10 *◌) (length-map (list_of b) by_value ∙ (accepted b n e).1)
+  pub entries_length : (before from : ℕ) → length (table before (map by_value (drop from (list_of b)))) ≡ 10 * (n - from)
+  entries_length before from =
+      length_table before (map by_value (drop from (list_of b)))
+      ∙ ap (10 *◌) (length-map (drop from (list_of b)) by_value ∙ length-drop from (list_of b) ∙ ap (◌- from) (accepted b n e).1)
 
-  pub entries_start : (first : List ℕ) (at before : ℕ) → at + 10 * n ≤ length first
-      → Left first at (table before (map by_value (list_of b))) first (at + 10 * 0) (table before (map by_value (drop 0 (list_of b))))
-  entries_start first at before h =
-      let here : at ≡ at + 10 * 0 = omega arith in
-      subst (λ (j : ℕ). Left first at (table before (map by_value (list_of b))) first j (table before (map by_value (list_of b)))) here
-      (left_start first at (table before (map by_value (list_of b))) (table before (map by_value (list_of b))) refl (rw (entries_length before) h))
+  pub entries_start : (first : List ℕ) (at from before : ℕ) → at + 10 * (n - from) ≤ length first
+      → let rest = table before (map by_value (drop from (list_of b))) in Left first at rest first at rest
+  entries_start first at from before h = left_start first at _ _ refl (rw (entries_length before from) h)
+
+  none_left : (i : ℕ) → n ≤ i → drop i (list_of b) ≡ []
+  none_left i h = drop_of_length-le (list_of b) (rw (accepted b n e).1 h)
 
   pub entries_done : (before i : ℕ) → n ≤ i → table before (map by_value (drop i (list_of b))) ≡ []
   unfolding table
-  entries_done before i h =
-      let past : length (list_of b) ≤ i = rw (accepted b n e).1 h in
-      ap (λ (ps : List Sparse). table before (map by_value ps)) (drop_of_length-le (list_of b) past)
+  entries_done before i h = ap (λ (ps : List Sparse). table before (map by_value ps)) (none_left i h)
+
+  -- how many qubit numbers the bodies from Pauli i on hold
+  pub numbers_next : (i : ℕ) → i < n → (a : CodeEntry) → told_entry a ≡ entry_at b (2 + 10 * i)
+      → length (numbers (drop i (list_of b))) ≡ a.xcount + a.zcount + length (numbers (drop (i + 1) (list_of b)))
+  unfolding numbers
+  numbers_next i h a f =
+      rw (drop-cons (list_of b) i nothing (rw (accepted b n e).1 h), add-one i)
+      (simp length-append (omega (arith, x_count b n e i h a f, z_count b n e i h a f)))
+
+  pub numbers_done : (i : ℕ) → n ≤ i → length (numbers (drop i (list_of b))) ≡ 0
+  unfolding numbers
+  numbers_done i h = rw (none_left i h)
+
+  -- those of the first Paulis stand before them
+  pub later_bodies : (from : ℕ) → drop (4 * (length (numbers (list_of b)) - length (numbers (drop from (list_of b))))) (bodies (list_of b)) ≡ bodies (drop from (list_of b))
+  unfolding bodies
+  later_bodies from =
+      let all : numbers (list_of b) ≡ numbers (take from (list_of b)) ++ numbers (drop from (list_of b)) =
+      ap numbers (sym (take-append-drop from (list_of b))) ∙ numbers_append (take from (list_of b)) (drop from (list_of b)) in
+      let past : 4 * (length (numbers (list_of b)) - length (numbers (drop from (list_of b)))) ≡ length (le32s (numbers (take from (list_of b)))) =
+      omega (arith, ap length all ∙ length-append (numbers (take from (list_of b))) (numbers (drop from (list_of b))), length_le32s (numbers (take from (list_of b)))) in
+      ap₂ (λ (k : ℕ) (l : List ℕ). drop k l) past (ap le32s all ∙ le32s_append (numbers (take from (list_of b))) (numbers (drop from (list_of b))))
+      ∙ drop_at (le32s (numbers (take from (list_of b)))) (le32s (numbers (drop from (list_of b)))) _ refl

@@ -45,7 +45,7 @@ module _ (out : List ℕ) (i : ℕ) (a : List ℕ) (room : i + length a ≤ leng
       ap (λ (k : ℕ). take (k + length a) (take i out ++ (a ++ drop (i + length a) out))) (sym front)
       ∙ take-append-add (take i out) (a ++ drop (i + length a) out) (length a) ∙ ap (take i out ++◌) (take_at a (drop (i + length a) out) (length a) refl)
 
-  put_drop : (k : ℕ) → drop (i + length a + k) (put_bytes out i a) ≡ drop (i + length a + k) out
+  pub put_drop : (k : ℕ) → drop (i + length a + k) (put_bytes out i a) ≡ drop (i + length a + k) out
   unfolding put_bytes
   put_drop k =
       ap (λ (j : ℕ). drop j (take i out ++ (a ++ drop (i + length a) out))) (add_assoc i (length a) k ∙ ap (◌+ (length a + k)) (sym front))

@@ -1,0 +1,5 @@
+pub mod History
+pub mod Layout
+pub mod CallContracts
+pub mod WindowTheorems
+pub mod Inner
