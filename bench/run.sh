@@ -3,7 +3,7 @@
 #
 # SOURCES is the folder of the Rust's sources (compare/oracle/README.md). WORDS:
 #   --quick                                  fewer sizes, fewer and shorter repeats: under half a minute, not a few minutes
-#   --only NAME                              one call by its name in include/howhiruke.h without howhiruke_; one_qubit, growth, numbers
+#   --only NAME                              one call by its name in include/howhiruke.h without howhiruke_; one_qubit, growth, numbers, windows
 #   --record                                 measures everything, and rewrites the figures and plots of docs/PERFORMANCE.md
 #   --ours NAME GENERATORS QUBITS KIND N     ours alone, N times, for a profiler; KIND is sparse, dense or commuting; NAME may be
 #                                            call,case; for echelon_form, GENERATORS are rows and QUBITS half of the columns
@@ -24,8 +24,10 @@
 # standard_bound are beside the oracle's reader alone; joined_sizes and page_size beside the Rust's own joining and listing, since it has
 # no call for sizes; joined_entry and joined_body have no call in the Rust. Nor have the claims: what accepts_membership and accepts_absence
 # cost is printed in times of our own membership of the same element. The claim of a member is the one that the Rust's membership tells; an
-# absence is shown by one of the Rust's generators of the centralizer, and the element has a further qubit where none shows it. M4RI reduces
-# [A | I]; copying the input into place is timed on both sides.
+# absence is shown by one of the Rust's generators of the centralizer, and the element has a further qubit where none shows it. Windows are
+# filled, 1, 16 and 64 wide, on 128 qubits; a question is beside the same call on the roll of the checks inside and beside the Rust on that
+# roll, a sent check beside joining the roll of the checks that stay with its own. M4RI reduces [A | I]; copying the input into place is timed
+# on both sides.
 #
 # The library is $HOWHIRUKE_LIB/libcapi.a if that is set, else target/staticlib/libcapi.a, which is proved and built.
 # Everything is written to target/bench: ratios.csv, tables.md, ratios.svg and growth.svg besides the build.

@@ -97,6 +97,18 @@ def claims(rows):
     return spans(part, "membership and claim there, µs") if part else ""
 
 
+def windows(rows):
+    """A filled window beside the call on the roll of the checks inside, ours alone, and beside the Rust."""
+    part = of(rows, "windows")
+    at = {(row["call"], row["kind"], row["generators"], row["case"]): row for row in part}
+    widths = once(row["generators"] for row in part)
+    cells = []
+    for name, kind in once((row["call"], row["kind"]) for row in part):
+        pairs = [[at[name, kind, width, case] for case in ("window / roll", "beside the Rust")] for width in widths]
+        cells.append([name, kind] + [f"{short(number(roll, 'theirs_us'))}; {ratio(roll)}; {ratio(rust)}" for roll, rust in pairs])
+    return table(["call", "checks"] + widths, cells) if cells else ""
+
+
 def spans(rows, times_of):
     cells = []
     for name in once(title(row) for row in rows):
@@ -141,7 +153,8 @@ def matrices(rows):
     return table(["matrix", "M4RI's way", "ours, µs", "M4RI, µs", "ratio (quartiles)"], cells) if cells else ""
 
 
-PARTS = {"measured": measured, "bars": bars, "by call": by_call, "claims": claims, "every size": every_size, "growth": growth, "matrices": matrices}
+PARTS = {"measured": measured, "bars": bars, "by call": by_call, "claims": claims, "windows": windows,
+         "every size": every_size, "growth": growth, "matrices": matrices}
 
 
 def replaced(text, name, part):
@@ -166,7 +179,7 @@ def main():
             text = replaced(text, name, part(rows))
         args.into.write_text(text)
         return
-    for name in ("every size", "claims", "growth", "matrices"):
+    for name in ("every size", "claims", "windows", "growth", "matrices"):
         part = PARTS[name](rows)
         if part:
             print(part + "\n")

@@ -8,6 +8,7 @@ mod random;
 mod requests;
 mod theirs;
 mod timing;
+mod windows;
 
 use lists::Kind;
 use ours::Areas;
@@ -203,6 +204,7 @@ fn run(options: &Options) {
         forty(options, &mut rows);
     }
     claims(options, &mut rows);
+    windows::measure(options.plan, |name| asked(name) || asked(windows::WINDOWS), &mut rows);
     if asked("one_qubit") {
         one_qubit(options, &mut areas, &mut rows);
     }

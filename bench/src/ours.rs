@@ -1,6 +1,6 @@
 //! Requests answered by the static library.
 use crate::requests::{Call, Request};
-use howhiruke::{JoinedSizes, Membership, Order, Phases, Product, Promise, Refusal, Results};
+use howhiruke::{JoinedSizes, Membership, Order, Phases, Product, Promise, Refusal, Results, Window};
 
 /// What a call tells: up to three numbers, and how many bytes it wrote.
 pub type Told = ([u64; 3], usize);
@@ -110,6 +110,18 @@ impl Areas {
             Call::Bitand => roll(howhiruke::bitand(left, right, NONE, NONE, work, out)),
             Call::ClosingReport => roll(howhiruke::closing_report(left, work, out)),
             Call::Combine(_) => unreachable!("it has an area of its own"),
+        }
+    }
+
+    /// The same question about the checks inside a window; a request's left list is not read.
+    pub fn of_window(&mut self, window: &Window, request: &Request) -> Told {
+        let (work, out) = (&mut self.work[..howhiruke::WORK_WORDS], &mut self.out[..]);
+        match request.call {
+            Call::StandardGenerators => roll(window.standard_generators(work, out)),
+            Call::Rank => number(window.rank(work)),
+            Call::Phases => phases(window.phases(work)),
+            Call::Factorization => membership(window.indexed_factorization_of(&request.right, request.number, work, out)),
+            other => unreachable!("a window has no {other:?}"),
         }
     }
 }

@@ -2,9 +2,9 @@
 use crate::timing::Figures;
 use std::fmt::Write;
 
-/// One measurement. `section` is `calls`, `one qubit`, `growth`, `many`, `claims`, `numbers` or `matrices`. In `many`, `claims` and `numbers`
-/// both times are ours, `theirs` that of the many elements, of the claim or of the high numbers. In `matrices` the `generators` are rows and
-/// `qubits` half of the columns.
+/// One measurement. `section` is `calls`, `one qubit`, `growth`, `many`, `claims`, `windows`, `numbers` or `matrices`. In `many`, `claims` and
+/// `numbers`, and in `windows` beside a roll, both times are ours, `theirs` that of the many elements, of the claim, of the high numbers or of the
+/// window. In `windows` the `generators` are the checks inside. In `matrices` the `generators` are rows and `qubits` half of the columns.
 pub struct Row {
     pub section: &'static str,
     pub name: &'static str,

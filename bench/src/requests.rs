@@ -162,6 +162,13 @@ pub struct Request {
     pub claim: Claim,
 }
 
+impl Request {
+    /// A call on these rolls and nothing further.
+    pub fn of_two(call: Call, left: Vec<u8>, right: Vec<u8>) -> Request {
+        Request { call, left, right, named: vec![], number: 0, other: 0, claim: Claim::default() }
+    }
+}
+
 /// What a claim brings: indexes and an exponent, or the roll of a witness.
 #[derive(Clone, Default)]
 pub struct Claim {
@@ -354,7 +361,7 @@ fn closing(random: &mut Random, size: Size) -> Request {
         input.extend(generators);
         input.extend(roll::write(&elements));
         if input.len() <= MOST_INPUT {
-            return Request { call: Call::ClosingReport, left: input, right: vec![], named: vec![], number: 0, other: 0, claim: Claim::default() };
+            return Request::of_two(Call::ClosingReport, input, vec![]);
         }
         list.truncate(list.len() - 8);
     }
