@@ -47,6 +47,7 @@ extern "C" {
 #define HOWHIRUKE_LONGEST_LINE 256      /* bytes of a line that combines lists */
 #define HOWHIRUKE_DEEPEST_LINE 4        /* parentheses in parentheses of a line */
 #define HOWHIRUKE_WIDEST_WINDOW 64      /* checks inside a window */
+#define HOWHIRUKE_MOST_MARKS 8          /* marks that a window holds */
 
 /* Sizes. How long an output has to be can be asked before the call: for howhiruke_join howhiruke_joined_sizes tells it exactly; for
  * howhiruke_standard_generators what howhiruke_standard_bound tells is enough; a page of howhiruke_elements has as many Paulis as
@@ -60,7 +61,7 @@ extern "C" {
 #define HOWHIRUKE_LARGEST_RESULTS 33280 /* bytes of the results of 128 elements */
 #define HOWHIRUKE_LARGEST_INPUT 65536   /* bytes of the longest input of the closing listing */
 #define HOWHIRUKE_LARGEST_LISTING 53924 /* bytes of the longest closing listing */
-#define HOWHIRUKE_WINDOW_BYTES 66184    /* bytes of a window */
+#define HOWHIRUKE_WINDOW_BYTES 595777   /* bytes of a window with its marks */
 
 /* Refusals, in the order in which they are looked for: 1 to 7 for each roll, left before right and generators before elements; then 2 and
  * 7 for both lists together, where a call counts them so; then 8 to 12. Within a roll: under 2 bytes (1), 2, table cut (1), each entry's
@@ -83,7 +84,9 @@ enum {
     HOWHIRUKE_REFUSED_DEPTH = 15,    /* line with parentheses deeper than 4 */
     HOWHIRUKE_REFUSED_CLAIM = 16,    /* claim with indexes not strictly rising or past the list, or an exponent above 3 */
     HOWHIRUKE_REFUSED_WIDTH = 17,    /* width of a window outside 1 to 64 */
-    HOWHIRUKE_REFUSED_CHECKS = 18    /* roll that is sent to a window without exactly one Pauli */
+    HOWHIRUKE_REFUSED_CHECKS = 18,   /* roll that is sent to a window without exactly one Pauli */
+    HOWHIRUKE_REFUSED_MARK = 19,     /* no mark of a window has the name */
+    HOWHIRUKE_REFUSED_MARKS = 20     /* new name while a window holds eight marks */
 };
 
 /* refusal is 0 for an answer, which is in first, second and third; what a call does not name is 0. At a refusal, place is the
@@ -271,7 +274,7 @@ typedef struct {
     uint8_t bytes[HOWHIRUKE_WINDOW_BYTES];
 } howhiruke_window;
 
-/* Makes a window without checks, of a width from 1 to 64, whatever it held before. Refusal 17, which changes nothing. */
+/* Makes a window without checks and marks, at round 0, of a width from 1 to 64, whatever it held before. Refusal 17, which changes nothing. */
 howhiruke_answer howhiruke_window_make(howhiruke_window *window, size_t width);
 
 /* Sends the one check of a roll: it enters, and with as many inside as the width the oldest leaves first. Refusals 1 to 7 of the roll, 18, then 7
@@ -286,6 +289,19 @@ howhiruke_answer howhiruke_window_rank(const howhiruke_window *window, uint64_t 
 howhiruke_answer howhiruke_window_phases(const howhiruke_window *window, uint64_t *work, size_t work_len);
 howhiruke_answer howhiruke_window_indexed_factorization_of(const howhiruke_window *window, const uint8_t *elements, size_t elements_len,
                                                            size_t number, uint64_t *work, size_t work_len, uint8_t *out, size_t out_len);
+
+/* Marks to return to, each under a name of 8 bytes, zeros included: the checks inside and the round, which is how many checks were accepted in
+ * the window's history. Saving under a used name replaces that mark. Refusal 20 for a new name while eight are held. */
+howhiruke_answer howhiruke_window_save(howhiruke_window *window, const uint8_t name[8]);
+
+/* Restores the checks inside and the round of a mark; all marks stay. Refusal 19 for an unknown name. */
+howhiruke_answer howhiruke_window_return(howhiruke_window *window, const uint8_t name[8]);
+
+/* Deletes a mark, which frees it for another name. Refusal 19 for an unknown name. Refusals 19 and 20 change nothing. */
+howhiruke_answer howhiruke_window_delete(howhiruke_window *window, const uint8_t name[8]);
+
+/* first: the round; it stops at 2^64 - 1. No refusal. */
+howhiruke_answer howhiruke_window_round(const howhiruke_window *window);
 
 /* ---- the report */
 

@@ -388,6 +388,28 @@ static void windows(void)
     refused("window 8", CALL(window_indexed_factorization_of, &window, ROLL(z), 1, WORK, OUT), 8, 0);
     refused("window 9", CALL(window_rank, &window, work, WORDS - 1), 9, 0);
     refused("window 12", CALL(window_standard_generators, &window, WORK, out, 10), 12, 0);
+    static const uint8_t names[9][8] = {"a", "b", "c", "d", "e", "f", "g", "1234567", {'1', '2', '3', '4', '5', '6', '7', '8'}};
+    told("window again", CALL(window_make, &window, 2), 0, 0, 0);
+    told("round 0", CALL(window_round, &window), 0, 0, 0);
+    told("sent", CALL(window_send, &window, ROLL(x)), 0, 0, 0);
+    for (int k = 0; k < 8; k++)
+        told("saved", CALL(window_save, &window, names[k]), 0, 0, 0);
+    told("sent", CALL(window_send, &window, ROLL(z)), 0, 0, 0);
+    told("round 2", CALL(window_round, &window), 2, 0, 0);
+    before = window;
+    refused_with("window 20", CALL(window_save, &window, names[8]), HOWHIRUKE_REFUSED_MARKS, 0, untouched);
+    refused_with("window 19", CALL(window_return, &window, names[8]), HOWHIRUKE_REFUSED_MARK, 0, untouched);
+    refused_with("window 19, delete", CALL(window_delete, &window, names[8]), 19, 0, untouched);
+    holds("window 19, 20", !memcmp(&window, &before, sizeof window));
+    told("saved again", CALL(window_save, &window, names[7]), 0, 0, 0);
+    told("returned", CALL(window_return, &window, names[0]), 0, 0, 0);
+    told("round 1", CALL(window_round, &window), 1, 0, 0);
+    worked("rank at the mark", CALL(window_rank, &window, WORK), 1);
+    told("returned to a later mark", CALL(window_return, &window, names[7]), 0, 0, 0);
+    worked("rank at the later mark", CALL(window_rank, &window, WORK), 2);
+    told("deleted", CALL(window_delete, &window, names[0]), 0, 0, 0);
+    refused_with("no mark any more", CALL(window_return, &window, names[0]), 19, 0, untouched);
+    told("saved in its place", CALL(window_save, &window, names[8]), 0, 0, 0);
     memset(&window, 0xff, sizeof window);
     refused_with("forged window", CALL(window_send, &window, ROLL(x)), 2, 0, untouched);
 }

@@ -37,6 +37,11 @@ pub record Changing (bytes : Told (List ℕ)) (w : List ℕ) (r : Answer) (w' : 
   pub told : r ≡ code_done (map_told (λ bytes. tt) bytes)
   pub left : front w' ≡ or_same (front w) bytes
 
+-- a call on a window's marks: all its bytes
+pub record Marking (bytes : Told (List ℕ)) (w : List ℕ) (r : Answer) (w' : List ℕ) : Type 0 where
+  pub told : r ≡ code_done (map_told (λ bytes. tt) bytes)
+  pub left : w' ≡ or_same w bytes
+
 -- a call that writes a roll, with a work area
 pub record Listing {A : Type 0} (result : Told (List ℕ)) (checked : Told A) (work out : List ℕ) (r : Answer) (work' out' : List ℕ) : Type 0 where
   pub told : r ≡ code_number (told_bytes result out)

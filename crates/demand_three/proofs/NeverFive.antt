@@ -3,7 +3,7 @@ use Rattle.std.specs.Prelude.{if◌then◌else◌}
 use Rattle.std.proofs.Common.{◌≡◌, refl, inl, inr, eqb, List, [], ◌∷◌, length, ℕ, Option, Some, None, arith, Bool, true, false}
 use Rattle.std.proofs.Math.Option.{Option as MathOption, some, none}
 use Rattle.pauli.specs.declared.refusal.Reason.{Reason}
-use Rattle.pauli.specs.declared.refusal.Reason.TheVariants.{Length, Paulis, Entry, Exponent, Rising, Qubits, Number, Work, Listing, Subgroup, Output, Support, Line, Depth, Claim, Width, Checks}
+use Rattle.pauli.specs.declared.refusal.Reason.TheVariants.{Length, Paulis, Entry, Exponent, Rising, Qubits, Number, Work, Listing, Subgroup, Output, Support, Line, Depth, Claim, Width, Checks, Mark, Marks}
 use Rattle.pauli.specs.JoinCalls.{Lists, read_both, few_qubits, within, factors_of, product_of, made_with, made_of, joined_of, join_of, entry_of, stretch_of}
 use Rattle.pauli.specs.OneQubit.{one_qubit_call}
 use Rattle.pauli.specs.Refusals.{number_of}
@@ -30,6 +30,8 @@ use Rattle.combined_lists.specs.Combining.{all_read, checked_line, single_call, 
 use Rattle.claims.specs.Calls.{formed, member_checked, member_call, absence_checked, absence_call}
 use Rattle.window.specs.History.{only_one, check_in, few_inside, allowed_width}
 use Rattle.window.specs.Layout.{roll_in, made, sent}
+use Rattle.window.specs.MarkHistory.{Named, kept_at, keep_few, known}
+use Rattle.window.specs.MarkLayout.{marks_in, state, saved, returned, deleted}
 use Rattle.closing_report.specs.InputRolls.{rolls_in}
 use Rattle.closing_report.specs.Listing.{or_refused_in, listing, text_of}
 use Rattle.demand_three.specs.NeverFive.{NoFiveIn, CallsNeverFive}
@@ -221,6 +223,16 @@ sent_never w b =
     never_then 5 (and_then (read b) only_one) _ (never_then 5 (read b) _ (read_never b) only_never) λ p.
     never_then 5 (read (roll_in w)) _ (read_never (roll_in w)) λ ps. never_test 5 _ 7 0 _ (omega arith) (never_answer 5 _)
 
+module _ {A : Type 0} where
+  keep_never : (n : List ℕ) (a : A) (ms : List (Named A)) → Never 5 (keep_few n a ms)
+  unfolding keep_few
+  keep_never n a ms = never_test 5 _ 20 0 _ (omega arith) (never_answer 5 _)
+
+  known_never : (o : Option A) → Never 5 (known o)
+  unfolding Never known
+  known_never None = omega arith
+  known_never (Some a) = tt
+
 -- ---- the report
 
 rolls_never : (input : List ℕ) → Never 5 (rolls_in input)
@@ -258,9 +270,11 @@ reasons_never Depth e = omega arith
 reasons_never Claim e = omega arith
 reasons_never Width e = omega arith
 reasons_never Checks e = omega arith
+reasons_never Mark e = omega arith
+reasons_never Marks e = omega arith
 
 pub calls_never_five : CallsNeverFive
-unfolding made allowed_width count_of one_qubit_call stretch_of standard_generators rank_call phases_call abelian_call stabilizer_call size_call factorization_call symplectic_call order_call modulo_call factorizations_call joined_sizes standard_bound listing
+unfolding saved returned deleted made allowed_width count_of one_qubit_call stretch_of standard_generators rank_call phases_call abelian_call stabilizer_call size_call factorization_call symplectic_call order_call modulo_call factorizations_call joined_sizes standard_bound listing
 calls_never_five =
     record {
       check_roll = λ b. never 5 _ (never_map 5 length (read b) (read_never b));
@@ -293,6 +307,9 @@ calls_never_five =
       accepts_absence = λ b e n ws m. never 5 _ (absence_never b e n ws m);
       window_make = λ w width. never 5 _ (never_test 5 _ 17 0 _ (omega arith) (never_test 5 _ 17 0 _ (omega arith) (never_answer 5 _)));
       window_send = λ w b. never 5 _ (sent_never w b);
+      window_save = λ w name. never 5 _ (never_map 5 _ _ (keep_never name (state w) (marks_in w)));
+      window_return = λ w name. never 5 _ (never_map 5 _ _ (known_never (kept_at name (marks_in w))));
+      window_delete = λ w name. never 5 _ (never_map 5 _ _ (known_never (kept_at name (marks_in w))));
       closing_report = λ input words out. never 5 _ (bytes_never _ out (enough_never words _ (never_answer 5 (text_of input))));
       report_text = text_never;
       reasons = reasons_never;

@@ -17,6 +17,7 @@ use Rattle.centralizer.specs.Calls.{own_call, within_call}
 use Rattle.combined_lists.specs.Combining.{combine_call}
 use Rattle.claims.specs.Calls.{member_call, absence_call}
 use Rattle.window.specs.Layout.{made, sent}
+use Rattle.window.specs.MarkLayout.{saved, returned, deleted}
 use Rattle.closing_report.specs.Lines.{refused_line}
 use Rattle.closing_report.specs.Listing.{report, listing, text_of}
 
@@ -60,6 +61,9 @@ pub record CallsNeverFive : Type 0 where
   pub accepts_absence : (b e : List ℕ) (n : ℕ) (ws : List ℕ) (m : ℕ) → NeverFive (absence_call b e n ws m)
   pub window_make : (w : List ℕ) (width : ℕ) → NeverFive (made w width)
   pub window_send : (w b : List ℕ) → NeverFive (sent w b)
+  pub window_save : (w name : List ℕ) → NeverFive (saved w name)
+  pub window_return : (w name : List ℕ) → NeverFive (returned w name)
+  pub window_delete : (w name : List ℕ) → NeverFive (deleted w name)
   pub closing_report : (input : List ℕ) (words : ℕ) (out : List ℕ) → NeverFive (told_bytes (listing input words) out)
   -- nor is a roll of the report's input
   pub report_text : (input : List ℕ) → NoFiveIn (text_of input)

@@ -1,7 +1,7 @@
 -- What a refusal tells.
 use Rattle.std.specs.Prelude.{ℕ, Result, Ok, Err}
 use Rattle.pauli.specs.declared.refusal.Reason.{Reason}
-use Rattle.pauli.specs.declared.refusal.Reason.TheVariants.{Length, Paulis, Entry, Exponent, Rising, Qubits, Number, Work, Listing, Subgroup, Output, Support, Line, Depth, Claim, Width, Checks}
+use Rattle.pauli.specs.declared.refusal.Reason.TheVariants.{Length, Paulis, Entry, Exponent, Rising, Qubits, Number, Work, Listing, Subgroup, Output, Support, Line, Depth, Claim, Width, Checks, Mark, Marks}
 use Rattle.pauli.specs.declared.refusal.Refusal.{Refusal}
 use Rattle.pauli.specs.Told.{Told, answer, refused}
 
@@ -24,6 +24,8 @@ number_of Depth = 15
 number_of Claim = 16
 number_of Width = 17
 number_of Checks = 18
+number_of Mark = 19
+number_of Marks = 20
 
 -- "A refusal carries its number and its place"
 abbrev pub told_refusal : {A : Type 0} → Refusal → Told A

@@ -41,6 +41,10 @@ pub enum Reason {
     Width = 17,
     // A roll that is sent to a window does not have exactly one Pauli.
     Checks = 18,
+    // No mark of a window has the name.
+    Mark = 19,
+    // A window holds eight marks, and none has the new name.
+    Marks = 20,
 }
 
 // A refusal's reason and its place: the Pauli's index in its own roll, or 0.

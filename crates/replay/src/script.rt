@@ -9,6 +9,7 @@ use std::io;
 use std::io::Write;
 use window::calls::{indexed_factorization_of, make, phases, rank, send, standard_generators};
 use window::layout::WINDOW_BYTES;
+use window::marks::{delete, return_to, round, save};
 
 // A step, with what it takes.
 #[derive(Clone, Copy)]
@@ -18,6 +19,10 @@ enum Step<'a> {
     Rank,
     Phases,
     Member(u32, &'a [u8]),
+    Save(&'a [u8; 8]),
+    Return(&'a [u8; 8]),
+    Delete(&'a [u8; 8]),
+    Round,
 }
 
 // The step at the front of a script, and what follows it.
@@ -38,6 +43,19 @@ fn step_at(b: &[u8]) -> Option<(Step<'_>, &[u8])>
             let (elements, rest) = string_at(rest)?;
             Some((Step::Member(u32::from_le_bytes(*number), elements), rest))
         }
+        6 => {
+            let (name, rest) = rest.split_first_chunk::<8>()?;
+            Some((Step::Save(name), rest))
+        }
+        7 => {
+            let (name, rest) = rest.split_first_chunk::<8>()?;
+            Some((Step::Return(name), rest))
+        }
+        8 => {
+            let (name, rest) = rest.split_first_chunk::<8>()?;
+            Some((Step::Delete(name), rest))
+        }
+        9 => Some((Step::Round, rest)),
         _ => None,
     }
 }
@@ -54,6 +72,22 @@ fn run_step<W: Write>(
     let n = match step {
         Step::Send(roll) => {
             print_done(to, "sent", send(window, roll))?;
+            return end_line(to, out, 0, fill);
+        }
+        Step::Save(name) => {
+            print_done(to, "saved", save(window, name))?;
+            return end_line(to, out, 0, fill);
+        }
+        Step::Return(name) => {
+            print_done(to, "returned", return_to(window, name))?;
+            return end_line(to, out, 0, fill);
+        }
+        Step::Delete(name) => {
+            print_done(to, "deleted", delete(window, name))?;
+            return end_line(to, out, 0, fill);
+        }
+        Step::Round => {
+            write!(to, "round {}", round(window))?;
             return end_line(to, out, 0, fill);
         }
         Step::Generators => print_wrote(to, standard_generators(window, work, out))?,

@@ -1,3 +1,4 @@
 pub mod CallLaws
+pub mod BehindLaws
 pub mod HistoryLaws
 pub mod WindowLaw

@@ -3,3 +3,7 @@ pub mod Layout
 pub mod CallContracts
 pub mod WindowTheorems
 pub mod Inner
+pub mod MarkHistory
+pub mod MarkLayout
+pub mod MarkContracts
+pub mod MarkTheorems

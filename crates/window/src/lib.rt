@@ -7,5 +7,9 @@ pub mod layout;
 pub(crate) mod later;
 // A check that enters.
 pub(crate) mod entering;
-// The calls.
+// The round.
+pub(crate) mod round;
+// The calls on the checks.
 pub mod calls;
+// The calls on the marks.
+pub mod marks;

@@ -52,6 +52,10 @@ extern "C" {
     ) -> Answer;
     pub fn howhiruke_window_make(window: *mut [u8; crate::WINDOW_BYTES], width: usize) -> Answer;
     pub fn howhiruke_window_send(window: *mut [u8; crate::WINDOW_BYTES], roll: *const u8, n: usize) -> Answer;
+    pub fn howhiruke_window_save(window: *mut [u8; crate::WINDOW_BYTES], name: *const [u8; 8]) -> Answer;
+    pub fn howhiruke_window_return(window: *mut [u8; crate::WINDOW_BYTES], name: *const [u8; 8]) -> Answer;
+    pub fn howhiruke_window_delete(window: *mut [u8; crate::WINDOW_BYTES], name: *const [u8; 8]) -> Answer;
+    pub fn howhiruke_window_round(window: *const [u8; crate::WINDOW_BYTES]) -> Answer;
     pub fn howhiruke_window_standard_generators(
         window: *const [u8; crate::WINDOW_BYTES], work: *mut u64, words: usize, out: *mut u8, room: usize,
     ) -> Answer;

@@ -46,8 +46,10 @@ pub const LONGEST_LINE: usize = 256;
 pub const DEEPEST_LINE: usize = 4;
 /// Checks inside a window.
 pub const WIDEST_WINDOW: usize = 64;
-/// Bytes of a window.
-pub const WINDOW_BYTES: usize = 66_184;
+/// Marks that a window holds.
+pub const MOST_MARKS: usize = 8;
+/// Bytes of a window with its marks.
+pub const WINDOW_BYTES: usize = 595_777;
 
 /// Why a call is refused.
 #[derive(Clone, Copy, Debug, PartialEq, Eq)]
@@ -87,6 +89,10 @@ pub enum Reason {
     Width,
     /// 18: a roll that is sent to a window does not have exactly one Pauli.
     Checks,
+    /// 19: no mark of a window has the name.
+    Mark,
+    /// 20: a new name while a window holds eight marks.
+    Marks,
     /// A number that this crate does not know: the library is of another version.
     Unknown(u64),
 }
@@ -112,6 +118,8 @@ impl Reason {
             Reason::Claim => 16,
             Reason::Width => 17,
             Reason::Checks => 18,
+            Reason::Mark => 19,
+            Reason::Marks => 20,
             Reason::Unknown(number) => number,
         }
     }
@@ -135,6 +143,8 @@ impl Reason {
             16 => Reason::Claim,
             17 => Reason::Width,
             18 => Reason::Checks,
+            19 => Reason::Mark,
+            20 => Reason::Marks,
             _ => Reason::Unknown(number),
         }
     }
@@ -160,6 +170,8 @@ impl fmt::Display for Reason {
             Reason::Claim => "the claim's indexes do not rise or pass the list, or its exponent is above 3",
             Reason::Width => "the window's width is outside 1 to 64",
             Reason::Checks => "the roll does not have exactly one Pauli",
+            Reason::Mark => "no mark has the name",
+            Reason::Marks => "eight marks are held, and the name is new",
             Reason::Unknown(_) => "a reason that this version does not know",
         })
     }
@@ -678,7 +690,7 @@ pub struct Window<'a> {
 }
 
 impl<'a> Window<'a> {
-    /// Makes a window without checks, of a width from 1 to 64, whatever the bytes hold. Reason 17.
+    /// Makes a window without checks and marks, at round 0, of a width from 1 to 64, whatever the bytes hold. Reason 17.
     pub fn make(bytes: &'a mut [u8; WINDOW_BYTES], width: usize) -> Result<Window<'a>, Refusal> {
         told(unsafe { calls::howhiruke_window_make(bytes, width) })?;
         Ok(Window { bytes })
@@ -689,6 +701,29 @@ impl<'a> Window<'a> {
     pub fn send(&mut self, roll: &[u8]) -> Result<(), Refusal> {
         told(unsafe { calls::howhiruke_window_send(self.bytes, roll.as_ptr(), roll.len()) })?;
         Ok(())
+    }
+
+    /// Saves the checks inside and the round under a name, whose 8 bytes all count; a mark of that name is replaced. Reason 20.
+    pub fn save(&mut self, name: &[u8; 8]) -> Result<(), Refusal> {
+        told(unsafe { calls::howhiruke_window_save(self.bytes, name) })?;
+        Ok(())
+    }
+
+    /// Restores the checks inside and the round of a mark; all marks stay. Reason 19.
+    pub fn return_to(&mut self, name: &[u8; 8]) -> Result<(), Refusal> {
+        told(unsafe { calls::howhiruke_window_return(self.bytes, name) })?;
+        Ok(())
+    }
+
+    /// Deletes a mark, which frees it for another name. Reason 19.
+    pub fn delete(&mut self, name: &[u8; 8]) -> Result<(), Refusal> {
+        told(unsafe { calls::howhiruke_window_delete(self.bytes, name) })?;
+        Ok(())
+    }
+
+    /// The round: how many checks were accepted, those of the mark that was returned to and those sent since. It stops at the largest number.
+    pub fn round(&self) -> u64 {
+        unsafe { calls::howhiruke_window_round(self.bytes) }.first
     }
 
     /// What [`standard_generators`] writes and tells of the checks inside, oldest first.

@@ -175,6 +175,19 @@ fn windows() {
     assert_eq!(window.send(&roll(&[X, Z])), refused(Reason::Checks, 0));
     assert_eq!(window.send(&roll(&[XX])), Ok(()));
     assert_eq!(written(|w, o| window.standard_generators(w, o)), Ok(roll(&[XX, Z])));
+    assert_eq!(window.save(b"returned"), Ok(()));
+    assert_eq!(window.send(&roll(&[X1])), Ok(()));
+    assert_eq!(window.round(), 4);
+    assert_eq!(window.return_to(b"returneD"), refused(Reason::Mark, 0));
+    assert_eq!(window.return_to(b"returned"), Ok(()));
+    assert_eq!(window.round(), 3);
+    for k in 1..8 {
+        assert_eq!(window.save(&[k; 8]), Ok(()));
+    }
+    assert_eq!(window.save(&[8; 8]), refused(Reason::Marks, 0));
+    assert_eq!(window.delete(&[7; 8]), Ok(()));
+    assert_eq!(window.delete(&[7; 8]), refused(Reason::Mark, 0));
+    assert_eq!(window.save(&[8; 8]), Ok(()));
     let asked = |p: Pauli| window.indexed_factorization_of(&roll(&[p]), 0, &mut work(), &mut [0; 64]);
     assert_eq!(asked(X), Ok(Membership::NotMember));
     assert_eq!(asked(Z), Ok(Membership::Member { count: 1, exponent: 0 }));

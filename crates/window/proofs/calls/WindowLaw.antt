@@ -21,7 +21,7 @@ use Rattle.window.proofs.layout.LayoutLaws.{width_put, empty_length, hold_length
 
 -- ---- a refusal changes nothing
 
-same_front : (v v' : List ℕ) (t : Told (List ℕ)) (r : Result Unit Refusal) (n p : ℕ) → told_of r ≡ map_told (λ bytes. tt {0}) t → v' ≡ or_same v t → told_of r ≡ refused n p → v' ≡ v
+pub same_front : (v v' : List ℕ) (t : Told (List ℕ)) (r : Result Unit Refusal) (n p : ℕ) → told_of r ≡ map_told (λ bytes. tt {0}) t → v' ≡ or_same v t → told_of r ≡ refused n p → v' ≡ v
 unfolding or_same
 same_front v v' t r n p told left e =
     let is : t ≡ refused n p = map_refused (λ bytes. tt {0}) t n p (sym told ∙ e) in
@@ -49,7 +49,7 @@ module _ (w : List ℕ) (width : ℕ) (r : Result Unit Refusal) (w' : List ℕ) 
 
 module _ (w : ℕ) (low : w ≤ widest) where
   -- what holds of the bytes at the front
-  record Stands (ps : List Sparse) (v : List ℕ) : Type 0 where
+  pub record Stands (ps : List Sparse) (v : List ℕ) : Type 0 where
     pub kept : Kept w ps
     pub holds : Holds w ps (front v)
 
@@ -66,15 +66,44 @@ module _ (w : ℕ) (low : w ≤ widest) where
       ran u' more z run ps
       (record { kept = s.kept; holds = subst (Holds w ps) (sym (same_front (front u) (front u') _ r n p c.told c.left e)) s.holds })
 
+-- ---- what holds of bytes that stand so
+
+module _ (width : ℕ) (low : width ≤ widest) (ps : List Sparse) (w : List ℕ) (stand : Stands width low ps w) where
+  inside : roll_in w ≡ write (last_of width ps)
+  inside = sym (front_roll w) ∙ stand.holds.roll
+
+  next : (b : List ℕ) (r : Result Unit Refusal) (w' : List ℕ) → SendCall w b r w' → told_of r ≡ map_told (λ ps. tt {0}) (accept width ps b)
+  next b r w' s =
+      s.told ∙ ap (map_told (λ bytes. tt)) (sent_is width low ps stand.kept (front w) stand.holds b)
+      ∙ map_twice (λ (qs : List Sparse). holding (front w) (write (last_of width qs))) (accept width ps b)
+
+  pub history_law : HistoryLaw width ps w
+  history_law = record {
+    inside = inside;
+    read_back = ap read inside ∙ kept_fresh width ps stand.kept low;
+    few = last_few width ps;
+    qubits = stand.kept.qubits;
+    keeps_width = sym (front_width w) ∙ stand.holds.width;
+    next = next;
+    never_short = λ b r w' p s e. never 12 (accept width ps b) (accept_never width ps b) p (map_refused (λ ps. tt) (accept width ps b) 12 p (sym (next b r w' s) ∙ e));
+    unchanged = λ b r w' n p s e. same_front (front w) (front w') _ r n p s.told s.left e;
+    questions = record {
+      standard_generators = λ work out r work' out' s. subst (λ (b : List ℕ). StandardCall b work out r work' out') inside s;
+      rank = λ work r work' s. subst (λ (b : List ℕ). RankCall b work r work') inside s;
+      phases = λ work r work' s. subst (λ (b : List ℕ). PhasesCall none b work r work') inside s;
+      membership = λ e n work out r work' out' s. subst (λ (b : List ℕ). MemberCall none b e n work out r work' out') inside s;
+    };
+  }
+
 -- ---- from the making on
 
 module _ (width : ℕ) (bs : List (List ℕ)) (w : List ℕ) (c : Window width bs w) where
-  record Begun : Type 0 where
+  pub record Begun : Type 0 where
     pub one : 1 ≤ width
     pub few : width ≤ widest
     pub bytes : front c.begun ≡ holding (put_bytes (front c.lent) width_at (le16 width)) (write [])
 
-  begun : Begun
+  pub begun : Begun
   unfolding made allowed_width or_same
   begun =
       let lent = front c.lent in
@@ -84,7 +113,7 @@ module _ (width : ℕ) (bs : List (List ℕ)) (w : List ℕ) (c : Window width b
       let bytes : u ≡ holding (put_bytes lent width_at (le16 width)) (write []) = cc in
       record { one = ltb-false width 1 narrow; few = ltb-false widest width wide; bytes = c.promised.left ∙ rw is bytes }
 
-  stands : Stands width begun.few [] c.begun
+  pub stands : Stands width begun.few [] c.begun
   unfolding last_of
   stands =
       let b = begun in
@@ -100,38 +129,12 @@ module _ (width : ℕ) (bs : List (List ℕ)) (w : List ℕ) (c : Window width b
         });
       }
 
-  abbrev all : List Sparse
-  all = accepted width bs
-
-  after : Stands width begun.few all w
+  after : Stands width begun.few (accepted width bs) w
   unfolding accepted
   after = ran width begun.few c.begun bs w c.run [] stands
 
-  inside : roll_in w ≡ write (last_of width all)
-  inside = sym (front_roll w) ∙ after.holds.roll
-
-  next : (b : List ℕ) (r : Result Unit Refusal) (w' : List ℕ) → SendCall w b r w' → told_of r ≡ map_told (λ ps. tt {0}) (accept width all b)
-  next b r w' s =
-      s.told ∙ ap (map_told (λ bytes. tt)) (sent_is width begun.few all after.kept (front w) after.holds b)
-      ∙ map_twice (λ (qs : List Sparse). holding (front w) (write (last_of width qs))) (accept width all b)
-
-  history_law : HistoryLaw width all w
-  history_law = record {
-    inside = inside;
-    read_back = ap read inside ∙ kept_fresh width all after.kept begun.few;
-    few = last_few width all;
-    qubits = after.kept.qubits;
-    keeps_width = sym (front_width w) ∙ after.holds.width;
-    next = next;
-    never_short = λ b r w' p s e. never 12 (accept width all b) (accept_never width all b) p (map_refused (λ ps. tt) (accept width all b) 12 p (sym (next b r w' s) ∙ e));
-    unchanged = λ b r w' n p s e. same_front (front w) (front w') _ r n p s.told s.left e;
-    questions = record {
-      standard_generators = λ work out r work' out' s. subst (λ (b : List ℕ). StandardCall b work out r work' out') inside s;
-      rank = λ work r work' s. subst (λ (b : List ℕ). RankCall b work r work') inside s;
-      phases = λ work r work' s. subst (λ (b : List ℕ). PhasesCall none b work r work') inside s;
-      membership = λ e n work out r work' out' s. subst (λ (b : List ℕ). MemberCall none b e n work out r work' out') inside s;
-    };
-  }
+  window_history : HistoryLaw width (accepted width bs) w
+  window_history = history_law width begun.few (accepted width bs) w after
 
 none_inside : (width : ℕ) → last_of width (accepted width []) ≡ []
 unfolding accepted accepted_after last_of
@@ -140,6 +143,6 @@ none_inside width = drop_nil (0 - width)
 pub window_law : WindowLaw
 window_law = record {
   making = make_law;
-  before_first = λ width w c. (history_law width [] w c).read_back ∙ ap answer (none_inside width);
-  history = history_law;
+  before_first = λ width w c. (window_history width [] w c).read_back ∙ ap answer (none_inside width);
+  history = window_history;
 }

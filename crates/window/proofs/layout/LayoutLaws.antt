@@ -19,7 +19,7 @@ pub roll_part : (w : List ℕ) (n : ℕ) → n ≡ min (u32_at w 0) room_bytes �
 unfolding roll_in
 roll_part w n e = let s : 4 + n - 4 ≡ min (u32_at w 0) room_bytes = omega arith in rw s refl
 
-pub roll_few : (w : List ℕ) → length w ≡ window_bytes → length (roll_in w) ≤ room_bytes
+pub roll_few : (w : List ℕ) → window_bytes ≤ length w → length (roll_in w) ≤ room_bytes
 unfolding roll_in
 roll_few w size =
     let n = min (u32_at w 0) room_bytes in
@@ -74,16 +74,16 @@ module _ (w : List ℕ) (size : length w ≡ window_bytes) where
 
 -- ---- what is held is read back
 
+pub first_byte : (l : List ℕ) (j : ℕ) → get_or l j 0 ≡ get_or (drop j l) 0 0
+first_byte l j = sym (get_or-drop j l 0 0 ∙ ap (λ (i : ℕ). get_or l i 0) (add-zero j))
+
 -- a byte behind what is put is as it was
-behind : (w : List ℕ) (i : ℕ) (bs : List ℕ) → i + length bs ≤ length w → (k : ℕ) → i + length bs ≤ k → get_or (put_bytes w i bs) k 0 ≡ get_or w k 0
+pub behind : (w : List ℕ) (i : ℕ) (bs : List ℕ) → i + length bs ≤ length w → (k : ℕ) → i + length bs ≤ k → get_or (put_bytes w i bs) k 0 ≡ get_or w k 0
 behind w i bs room k h =
     let at : k ≡ i + length bs + (k - (i + length bs)) = omega arith in
     let n = i + length bs + (k - (i + length bs)) in
     ap (λ (j : ℕ). get_or (put_bytes w i bs) j 0) at
-    ∙ first (put_bytes w i bs) n ∙ ap (λ (l : List ℕ). get_or l 0 0) (put_drop w i bs room (k - (i + length bs))) ∙ sym (first w n) ∙ ap (λ (j : ℕ). get_or w j 0) (sym at)
-  where
-    first : (l : List ℕ) (j : ℕ) → get_or l j 0 ≡ get_or (drop j l) 0 0
-    first l j = sym (get_or-drop j l 0 0 ∙ ap (λ (i : ℕ). get_or l i 0) (add-zero j))
+    ∙ first_byte (put_bytes w i bs) n ∙ ap (λ (l : List ℕ). get_or l 0 0) (put_drop w i bs room (k - (i + length bs))) ∙ sym (first_byte w n) ∙ ap (λ (j : ℕ). get_or w j 0) (sym at)
 
 drop_put : (w : List ℕ) (i : ℕ) (bs : List ℕ) → i ≤ length w → drop i (put_bytes w i bs) ≡ bs ++ drop (i + length bs) w
 unfolding put_bytes

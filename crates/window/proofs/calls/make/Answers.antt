@@ -1,17 +1,28 @@
-use Rattle.std.proofs.Common.{ap}
-use Rattle.pauli.specs.Refusals.{told_refusal}
-use Rattle.window.proofs.calls.CallLaws.{make_narrow, make_wide, make_done}
+use Rattle.std.proofs.Common.{refl}
+use Rattle.pauli.proofs.refusal.HandedOn.{handed_on}
+use Rattle.window.proofs.calls.BehindLaws.{make_call, make_refused, make_done}
 use Rattle.window.proofs.calls.make.Goals as goal
-use Rattle.window.proofs.calls.make.Goals.{then-width-lt1-via-then-width-lt1, then-width-lt1-via-else-width-lt1+then-width-gt-WIDEST}
 
-pub returns-then-width-lt1 : goal.returns-then-width-lt1
-returns-then-width-lt1 c =
-    let told = ap told_refusal c.into.ensures in
-    elim c.then-width-lt1.branch [
-      | then-width-lt1-via-then-width-lt1 w ↦ make_narrow c.args.w.now c.told-w c.args.width w.if-width-lt1.true _ told
-      | then-width-lt1-via-else-width-lt1+then-width-gt-WIDEST w ↦ make_wide c.args.w.now c.told-w c.args.width w.if-width-lt1.false w.if-width-gt-WIDEST.true _ told
-    ]
+pub returns-in_err-make_front-clause-call : goal.returns-in_err-make_front-clause-call
+returns-in_err-make_front-clause-call c =
+    let w = c.args.w.now in
+    let long = c.make_front.ensures.size in
+    rw (handed_on c.from_residual.result _ c.from_residual.ensures.1) (make_call w c.make_front.new.w c.told-w long c.front_of.result.now c.front_of.ensures.value _ c.args.width c.in_err-make_front.ensures.call _)
 
-pub returns : goal.returns
-returns c =
-    make_done c.args.w.now c.told-w c.args.width c.if-width-lt1.false c.if-width-gt-WIDEST.false _ _ _ c.put_u16.ensures c.put_u16-2.ensures c.put_u32.ensures
+pub returns-in_err-make_front-clause-behind : goal.returns-in_err-make_front-clause-behind
+returns-in_err-make_front-clause-behind c =
+    let w = c.args.w.now in
+    let long = c.make_front.ensures.size in
+    make_refused w c.make_front.new.w c.told-w long c.front_of.result.now c.front_of.ensures.value _ c.args.width c.in_err-make_front.ensures.call _ _ refl
+
+pub returns-clause-call : goal.returns-clause-call
+returns-clause-call c =
+    let w = c.args.w.now in
+    let long = c.make_front.ensures.size in
+    (make_done w c.make_front.new.w c.told-w long c.front_of.result.now c.front_of.ensures.value _ c.args.width c.in_ok-make_front.ensures.call refl c.put_round.new.w c.put_round.ensures).0
+
+pub returns-clause-behind : goal.returns-clause-behind
+returns-clause-behind c =
+    let w = c.args.w.now in
+    let long = c.make_front.ensures.size in
+    (make_done w c.make_front.new.w c.told-w long c.front_of.result.now c.front_of.ensures.value _ c.args.width c.in_ok-make_front.ensures.call refl c.put_round.new.w c.put_round.ensures).1

@@ -38,19 +38,19 @@ pub put_joined-requires : goal.put_joined-requires
 put_joined-requires c =
     let roll = c.in_ok-inside.inside in
     enter_room c.args.w.now c.args.b.now c.requires roll.count (sym (c.in_ok-inside.ensures.count ∙ ap count_of c.roll_in.ensures.0)) c.leaving.result
-    (c.leaving.ensures ∙ ap (λ (v : ℕ). roll.count + 1 - v) c.width_in.ensures.0) roll.bytes.now (ap (λ r. r.now) c.in_ok-inside.ensures.bytes ∙ c.roll_in.ensures.0)
+    (c.leaving.ensures ∙ ap (λ (v : ℕ). roll.count + 1 - v) c.width_in-width.ensures.0) roll.bytes.now (ap (λ r. r.now) c.in_ok-inside.ensures.bytes ∙ c.roll_in.ensures.0)
     _ c.write_later-size.new.out c.write_later-size.ensures.left c.write_later-size.result c.write_later-size.ensures.size
 
 pub returns-clause-told : goal.returns-clause-told
 returns-clause-told c =
     let roll = c.in_ok-inside.inside in
     c.put_joined.ensures.told ∙ enter_told c.args.w.now c.args.b.now c.requires roll.count (sym (c.in_ok-inside.ensures.count ∙ ap count_of c.roll_in.ensures.0)) c.leaving.result
-    (c.leaving.ensures ∙ ap (λ (v : ℕ). roll.count + 1 - v) c.width_in.ensures.0) roll.bytes.now (ap (λ r. r.now) c.in_ok-inside.ensures.bytes ∙ c.roll_in.ensures.0)
+    (c.leaving.ensures ∙ ap (λ (v : ℕ). roll.count + 1 - v) c.width_in-width.ensures.0) roll.bytes.now (ap (λ r. r.now) c.in_ok-inside.ensures.bytes ∙ c.roll_in.ensures.0)
     _ c.write_later-size.new.out c.write_later-size.ensures.left c.write_later-size.result c.write_later-size.ensures.size
 
 pub returns-clause-left : goal.returns-clause-left
 returns-clause-left c =
     let roll = c.in_ok-inside.inside in
     c.put_joined.ensures.left ∙ enter_left c.args.w.now c.args.b.now c.requires roll.count (sym (c.in_ok-inside.ensures.count ∙ ap count_of c.roll_in.ensures.0)) c.leaving.result
-    (c.leaving.ensures ∙ ap (λ (v : ℕ). roll.count + 1 - v) c.width_in.ensures.0) roll.bytes.now (ap (λ r. r.now) c.in_ok-inside.ensures.bytes ∙ c.roll_in.ensures.0)
+    (c.leaving.ensures ∙ ap (λ (v : ℕ). roll.count + 1 - v) c.width_in-width.ensures.0) roll.bytes.now (ap (λ r. r.now) c.in_ok-inside.ensures.bytes ∙ c.roll_in.ensures.0)
     _ c.write_later-size.new.out c.write_later-size.ensures.left c.write_later-size.result c.write_later-size.ensures.size

@@ -6,4 +6,4 @@ use Rattle.window.proofs.layout.roll_in.Goals as goal
 pub returns : goal.returns
 returns c =
     let e = roll_part c.args.w.now _ (c.min-size.ensures ∙ ap (λ n. min n room_bytes) c.u32_at.ensures) in
-    (e, rw e (roll_few c.args.w.now c.told-w))
+    (e, rw e (roll_few c.args.w.now c.requires))
