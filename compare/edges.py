@@ -33,7 +33,7 @@ def listings(op):
         for power, more in I.items():
             size = PHASES[power] * 2**rank
             for a in (0, size - 2, size - 1, size, size + 1, 2**32 - 1):
-                for b in (0, 1, 16, 17, 127, 128, 129, 2**32 - 1):
+                for b in (0, 1, 16, 17, 63, 64, 65, 127, 128, 129, 2**32 - 1):
                     yield request(op, max(a, 0), b, singles(rank) + more)
 
 

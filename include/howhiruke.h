@@ -41,7 +41,7 @@ extern "C" {
 #define HOWHIRUKE_MOST_QUBITS 128       /* distinct ones, of a roll and of two lists joined */
 #define HOWHIRUKE_HIGHEST_QUBIT 4294967295u /* the largest qubit number: all numbers of 32 bits are taken */
 #define HOWHIRUKE_MOST_LISTED_RANK 16   /* of a group whose elements are listed */
-#define HOWHIRUKE_DEFAULT_PAGE 16       /* elements of a page with count 0 */
+#define HOWHIRUKE_DEFAULT_PAGE 64       /* elements of a page with count 0 */
 #define HOWHIRUKE_LARGEST_PAGE 128      /* elements of a page with a count of 128 or more */
 #define HOWHIRUKE_MOST_TOGETHER 63      /* distinct qubits of a list and of the named support of its centralizer */
 #define HOWHIRUKE_LONGEST_LINE 256      /* bytes of a line that combines lists */
@@ -172,7 +172,7 @@ howhiruke_answer howhiruke_indexed_factorizations_of(const uint8_t *generators, 
                                                      uint8_t *out, size_t out_len);
 
 /* Writes a page of the group's elements: subsets of the standard generators by size, then lexicographic, phases fastest; count of
- * them from number start on (count 0 means 16, above 128 means 128). A start past the end gives an empty roll. first: the roll's
+ * them from number start on (count 0 means 64, above 128 means 128). A start past the end gives an empty roll. first: the roll's
  * length. Also 10 and 12. */
 howhiruke_answer howhiruke_elements(const uint8_t *roll, size_t roll_len, uint64_t promise, uint32_t start, uint32_t count,
                                     uint64_t *work, size_t work_len, uint8_t *out, size_t out_len);

@@ -230,7 +230,7 @@ static void others(void)
     told("joined entry", CALL(joined_entry, ROLL(bell), ROLL(x1), 1), 0, 0, 2);
     told("joined body", CALL(joined_body, ROLL(bell), ROLL(x1), 1), 0, 30, 8);
     told("joined body of right", CALL(joined_body, ROLL(bell), ROLL(x1), 2), 1, 12, 4);
-    listed("elements", CALL(elements, ROLL(xx), HOWHIRUKE_PROMISE_NONE, 0, 0, WORK, OUT), LIST(I, XX));
+    listed("elements", CALL(elements, ROLL(xx), HOWHIRUKE_PROMISE_NONE, 0, 16, WORK, OUT), LIST(I, XX));
     listed("elements past the end", CALL(elements, ROLL(xx), HOWHIRUKE_PROMISE_NONE, 2, 0, WORK, OUT), of(0, NULL));
     uint64_t words[] = {3, 9, 1, 9, 7, 7, 5};
     told("echelon form", howhiruke_echelon_form(words, 7, 1, 2, 2), 1, 2, 0);
@@ -423,8 +423,8 @@ static void sizes(void)
     told("bound of none", CALL(standard_bound, ROLL(none)), 12, 0, 0);
     told("bound", CALL(standard_bound, ROLL(bell)), 54, 0, 0);
     refused("bound 1", CALL(standard_bound, bell.b, 1), 1, 0);
-    worked("page", CALL(page_size, ROLL(bell), HOWHIRUKE_PROMISE_NONE, 1, 0, WORK), 3);
-    worked("page past the end", CALL(page_size, ROLL(bell), HOWHIRUKE_PROMISE_NONE, 4, 0, WORK), 0);
+    worked("page", CALL(page_size, ROLL(bell), HOWHIRUKE_PROMISE_NONE, 1, 16, WORK), 3);
+    worked("page past the end", CALL(page_size, ROLL(bell), HOWHIRUKE_PROMISE_NONE, 4, 16, WORK), 0);
     worked("page of two", CALL(page_size, ROLL(bell), HOWHIRUKE_PROMISE_NONE, 1, 2, WORK), 2);
     refused("page 9", CALL(page_size, ROLL(bell), HOWHIRUKE_PROMISE_NONE, 1, 2, work, WORDS - 1), 9, 0);
 }
@@ -496,6 +496,14 @@ static void edges(void)
     howhiruke_answer a = howhiruke_elements(ROLL(listable), 0, 65535, 1, WORK, OUT);
     told("rank 16", a, 2 + 10 + 4 * 16, 0, 0);
     refused("rank 17", CALL(elements, ROLL(larger), 0, 0, 1, WORK, OUT), 10, 0);
+    roll seven = of(7, ps);
+    worked("page of 16", CALL(page_size, ROLL(seven), 0, 0, 16, WORK), 16);
+    worked("page of count 0", CALL(page_size, ROLL(seven), 0, 0, 0, WORK), HOWHIRUKE_DEFAULT_PAGE);
+    worked("page of count 0, the rest", CALL(page_size, ROLL(seven), 0, 100, 0, WORK), 28);
+    worked("page above 128", CALL(page_size, ROLL(seven), 0, 0, 129, WORK), HOWHIRUKE_LARGEST_PAGE);
+    lend();
+    a = howhiruke_elements(ROLL(seven), 0, 0, 0, WORK, OUT);
+    holds("elements of count 0", !a.refusal && out[0] == 64 && out[1] == 0 && kept(a.first) && used());
     worked("page of rank 16", CALL(page_size, ROLL(listable), 0, 65535, 2, WORK), 1);
     refused("page of rank 17", CALL(page_size, ROLL(larger), 0, 0, 1, WORK), 10, 0);
 }

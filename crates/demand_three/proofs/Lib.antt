@@ -8,5 +8,6 @@ pub mod CommonDemand
 pub mod ClaimsDemand
 pub mod ManyElements
 pub mod Sizes
+pub mod DefaultPage
 pub mod NeverFive
 pub mod NamedLimit

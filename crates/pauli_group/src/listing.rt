@@ -33,7 +33,7 @@ use pauli::write::write_roll;
 // The highest rank whose group is listed.
 pub const MOST_LISTED: usize = 16;
 // The size of a page that asks for none.
-const DEFAULT_PAGE: usize = 16;
+const DEFAULT_PAGE: usize = 64;
 // The largest page.
 const LARGEST_PAGE: usize = 128;
 

@@ -9,11 +9,22 @@ use lib.Seq.{take_all, take-nil, take-add, drop-drop, get_or-take, get_or-drop}
 use Rattle.pauli_theory.specs.Standard.{if_zero}
 use Rattle.pauli_theory.specs.Listing.{default_page, largest_page, page_size, page}
 use Rattle.pauli_theory.specs.ListingTheorems.{pages_from, PageLaw}
-use Rattle.pauli_theory.proofs.IfZero.{if_zero_more}
+use Rattle.pauli_theory.proofs.IfZero.{if_zero_zero, if_zero_more}
 
-size_asked : (count : ℕ) → 0 < count → count ≤ largest_page → page_size count ≡ count
-unfolding page_size
-size_asked count h k = if_zero_more count default_page (min count largest_page) h ∙ omega arith
+module _ (count : ℕ) where
+  size_given : 0 < count → page_size count ≡ min count 128
+  unfolding page_size largest_page
+  size_given h = if_zero_more count default_page (min count 128) h
+
+  pub size_asked : 0 < count → count ≤ 128 → page_size count ≡ count
+  size_asked h k = size_given h ∙ omega arith
+
+  pub size_above : 128 < count → page_size count ≡ 128
+  size_above h = size_given (omega arith) ∙ omega arith
+
+  pub size_default : count ≡ 0 → page_size count ≡ 64
+  unfolding page_size default_page
+  size_default e = if_zero_zero 64 (min count largest_page) e
 
 size_limit : (count : ℕ) → page_size count ≤ largest_page
 unfolding page_size if_zero default_page largest_page
@@ -40,5 +51,7 @@ module _ {A : Type 0} where
     at_number = λ i d h. get_or-take c (drop start es) i d (omega (arith, length-take c (drop start es))) ∙ get_or-drop start es i d;
     limit = size_limit count;
     as_asked = size_asked count;
+    above = size_above count;
+    by_default = size_default count;
     whole = λ n h. pages_are n 0 count es ∙ take_all (n * c) es h;
   }

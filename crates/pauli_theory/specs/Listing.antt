@@ -77,9 +77,9 @@ elements_of promise gs = flat_map (with_phases (phases_of promise gs)) (subsets 
 
 -- ---- pages
 
--- "count 0 means 16, above 128 means 128"
+-- "count 0 means 16, above 128 means 128"; document 02, L13: "Count 0 in a listing shall mean 64 elements instead of 16"
 unfoldable pub default_page : ℕ
-default_page = 16
+default_page = 64
 
 unfoldable pub largest_page : ℕ
 largest_page = 128

@@ -54,8 +54,11 @@ pub record PageLaw {A : Type 0} (start count : ℕ) (es : List A) : Type 0 where
   pub past : length es ≤ start → page start count es ≡ []
   pub at_number : (i : ℕ) (d : A) → i < length (page start count es) → get_or (page start count es) i d ≡ get_or es (start + i) d
   pub limit : page_size count ≤ largest_page
-  -- a size from 1 to 128 is taken as it is; and enough pages in a row, from the start, are the whole list
-  pub as_asked : 0 < count → count ≤ largest_page → page_size count ≡ count
+  -- a size from 1 to 128 is taken as it is, above 128 means 128, 0 means 64
+  pub as_asked : 0 < count → count ≤ 128 → page_size count ≡ count
+  pub above : 128 < count → page_size count ≡ 128
+  pub by_default : count ≡ 0 → page_size count ≡ 64
+  -- enough pages in a row, from the start, are the whole list
   pub whole : (n : ℕ) → length es ≤ n * page_size count → pages_from n 0 count es ≡ es
 
 -- 4. Elements by number, for any promise: the generators taken are the first ones, as many as the rank; there are 2^k elements, k the

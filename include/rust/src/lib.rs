@@ -35,7 +35,7 @@ pub const HIGHEST_QUBIT: u32 = u32::MAX;
 /// The rank up to which [`elements`] lists a group.
 pub const MOST_LISTED_RANK: usize = 16;
 /// Elements of a page with count 0.
-pub const DEFAULT_PAGE: u32 = 16;
+pub const DEFAULT_PAGE: u32 = 64;
 /// Elements of a page with a count of 128 or more.
 pub const LARGEST_PAGE: u32 = 128;
 /// Distinct qubits of a list and of the named support of its centralizer.

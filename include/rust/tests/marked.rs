@@ -200,9 +200,15 @@ fn sizes() {
     assert_eq!(joined_sizes(&bell, &x1[..1]), refused(Reason::Length, 0));
     assert_eq!(standard_bound(&roll(&[])), Ok(12));
     assert_eq!(standard_bound(&bell), Ok(54));
-    assert_eq!(page_size(&bell, none, 1, 0, &mut work()), Ok(3));
-    assert_eq!(page_size(&bell, none, 4, 0, &mut work()), Ok(0));
+    assert_eq!(page_size(&bell, none, 1, 16, &mut work()), Ok(3));
+    assert_eq!(page_size(&bell, none, 4, 16, &mut work()), Ok(0));
     assert_eq!(page_size(&bell, none, 1, 2, &mut work()), Ok(2));
+    let qubits: Vec<[u32; 1]> = (0..7).map(|q| [q]).collect();
+    let seven = roll(&qubits.iter().map(|q| (0, &[] as &[u32], &q[..])).collect::<Vec<Pauli>>());
+    assert_eq!(page_size(&seven, none, 0, 16, &mut work()), Ok(16));
+    assert_eq!(page_size(&seven, none, 0, 0, &mut work()), Ok(DEFAULT_PAGE as usize));
+    assert_eq!(page_size(&seven, none, 0, 129, &mut work()), Ok(LARGEST_PAGE as usize));
+    assert_eq!(check_roll(&written(|w, o| elements(&seven, none, 0, 0, w, o)).unwrap()), Ok(64));
     assert_eq!(page_size(&bell, none, 1, 2, &mut work()[1..]), refused(Reason::Work, 0));
 }
 
@@ -248,7 +254,7 @@ fn lists() {
     let three = roll(&[X, Z, X1]);
     assert_eq!(written(|w, o| symplectic_form_of(&three, w, o)), Ok(roll(&[Z, X, X1])));
     let xx = roll(&[XX]);
-    assert_eq!(written(|w, o| elements(&xx, Promise::None, 0, 0, w, o)), Ok(roll(&[I, XX])));
+    assert_eq!(written(|w, o| elements(&xx, Promise::None, 0, 16, w, o)), Ok(roll(&[I, XX])));
     assert_eq!(rank(&three, &mut work()), Ok(3));
     assert_eq!(is_abelian(&three, Promise::None, &mut work()), Ok(false));
     assert_eq!(is_stabilizer_group(&xx, Promise::None, &mut work()), Ok(true));

@@ -8,28 +8,6 @@ use Rattle.pauli_theory.proofs.ListingSubsets.{binomial_zero, binomial_past}
 use Rattle.pauli_theory.proofs.ListingNumbers.{at_with, at_without, sizes_below, sizes_past}
 use Rattle.pauli_group.specs.Inner.Listed.{RowOf}
 
--- ---- the size of a page
-
-module _ (count : ℕ) where
-  pub page_default : count ≡ 0 → page_size count ≡ 16
-  unfolding page_size default_page
-  page_default e = if_zero_zero 16 (min count largest_page) e
-
-  module _ (some : count ≡ 0 → ⊥) where
-    asked : page_size count ≡ min count 128
-    unfolding page_size largest_page
-    asked = if_zero_more count default_page (min count 128) (go count some)
-      where
-        go : (n : ℕ) → (n ≡ 0 → ⊥) → 0 < n
-        go zero d = absurd (d refl)
-        go (suc n) d = omega arith
-
-    pub page_largest : 128 < count → page_size count ≡ 128
-    page_largest h = asked ∙ omega arith
-
-    pub page_asked : count ≤ 128 → page_size count ≡ count
-    page_asked h = asked ∙ omega arith
-
 -- ---- a row of Pascal's triangle
 
 pub binomial_le : (n k : ℕ) → binomial n k ≤ 2 ^ n

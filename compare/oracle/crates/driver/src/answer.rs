@@ -109,7 +109,7 @@ fn reply(words: &[&str]) -> Option<String> {
             let group = group(p, r)?;
             let start: u32 = start.parse().ok()?;
             let count = match count.parse::<u32>().ok()? {
-                0 => 16,
+                0 => 64,
                 count => count.min(128),
             };
             (group.binary_rank() <= 16).then_some(())?;

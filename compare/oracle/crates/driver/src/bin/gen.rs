@@ -317,7 +317,7 @@ impl Make {
                     2 => self.prng.below(1 << (list.len() + 1)),
                     _ => self.prng.next() as u32 as usize,
                 };
-                let count = self.prng.pick(&[0, 0, 1, 5, 16, 100, 128, 129, 4_000_000_000usize]);
+                let count = self.prng.pick(&[0, 0, 1, 5, 16, 64, 100, 128, 129, 4_000_000_000usize]);
                 format!("elements {} {roll} {start} {count}", self.promise())
             }
             "join" => format!("join {roll} {}", hexed(&self.partner(&list, &universe, most))),
