@@ -37,6 +37,15 @@ use Rattle.demand_three.proofs.DemandMember.{member_when, member_only}
 use Rattle.demand_three.proofs.DemandStandard.{told_test, bytes_are}
 use Rattle.demand_three.proofs.ReadBack.{read_back}
 
+-- within the limits of demand 3 two lists are those of their rolls, but for the area
+pub two_within : (A B : Generators) → Limits A B → (words : ℕ)
+    → two_lists A.roll B.roll words ≡ refuse_if (ltb words 4096) 9 0 (answer (record { left = list A; right = list B }))
+unfolding most_paulis most_qubits
+two_within A B l words =
+    two_is A.roll B.roll A.held B.held A.accepted B.accepted words
+    ∙ test_pass _ 2 0 _ (le-ltb 128 (length A.held + length B.held) (omega (arith, l.left, l.right)))
+    ∙ test_pass _ 7 0 _ (le-ltb 128 (length (support (A.held ++ B.held))) l.qubits)
+
 module _ (A B : Generators) where
   abbrev part : List Pauli
   part = whole_common (list A) (list B)
@@ -62,16 +71,14 @@ module _ (A B : Generators) where
 
   -- ---- what every call tells
   told : Limits A B → (n : ℕ) × ((c : Meeting A B) → told_of c.wrote ≡ if_area c.work (if_room c.out n n))
-  unfolding if_area common_call common_bytes map_told most_paulis most_qubits
-  told l = (length (list_bytes part), λ c. c.promised.told ∙ ap (λ t. told_bytes t c.out) (tests (length c.work)) ∙ told_test (ltb (length c.work) 4096) (list_bytes part) c.out)
-    where
-      tests : (words : ℕ) → common_call A.roll B.roll words ≡ refuse_if (ltb words 4096) 9 0 (answer (list_bytes part))
-      tests words =
-          ap (map_told common_bytes)
-          (two_is A.roll B.roll A.held B.held A.accepted B.accepted words
-          ∙ test_pass _ 2 0 _ (le-ltb 128 (length A.held + length B.held) (omega (arith, l.left, l.right)))
-          ∙ test_pass _ 7 0 _ (le-ltb 128 (length (support (A.held ++ B.held))) l.qubits))
-          ∙ map_test common_bytes (ltb words 4096) 9 0 _
+  unfolding if_area common_call common_bytes map_told
+  told l = (
+    length (list_bytes part),
+    λ c. c.promised.told
+        ∙ ap (λ t. told_bytes t c.out)
+        (ap (map_told common_bytes) (two_within A B l (length c.work)) ∙ map_test common_bytes (ltb (length c.work) 4096) 9 0 _)
+        ∙ told_test (ltb (length c.work) 4096) (list_bytes part) c.out,
+  )
 
 -- ---- the list of its roll
 

@@ -96,7 +96,7 @@ module _ (A B J : Generators) (j : JoinedList A B J) where
   held_is : J.held ≡ map by_value (A.held ++ B.held)
   held_is = cc (joined_list A B j.call j.size j.told)
 
-  group_is : SameGroup (list A ++ list B) (list J)
+  pub group_is : SameGroup (list A ++ list B) (list J)
   group_is =
       let s = by_value_group (A.held ++ B.held) in
       rw held_is (rw (paulis_append A.held B.held) at s)

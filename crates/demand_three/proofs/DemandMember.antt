@@ -64,7 +64,7 @@ told_found none = refl
 told_found (some f) = refl
 
 -- n words
-room : (n : ℕ) → (l : List ℕ) × (length l ≡ n)
+pub room : (n : ℕ) → (l : List ℕ) × (length l ≡ n)
 room n = (replicate n 0, length-replicate n 0)
 
 -- ---- a question to a list, whatever is promised

@@ -11,3 +11,7 @@ pub mod Sizes
 pub mod DefaultPage
 pub mod NeverFive
 pub mod NamedLimit
+pub mod ListedPages
+pub mod ListedModulo
+pub mod FalsePromises
+pub mod ListedGroup

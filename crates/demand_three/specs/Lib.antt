@@ -7,3 +7,4 @@ pub mod Sizes
 pub mod DefaultPage
 pub mod NeverFive
 pub mod NamedLimit
+pub mod ListedGroup
