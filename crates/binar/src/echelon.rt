@@ -67,7 +67,12 @@ pub(crate) fn echelonize(w: &mut [u64], shape: Layout) -> usize
 {
     let stride = shape.stride;
     let mut next = Cell { row: 0, col: 0 };
-    while let Some(found) = pivot_of(w, shape, next) {
+    // Where each row has a pivot there is nothing to look for, and the columns left may be any number: a matrix without rows fits any
+    // slice.
+    while next.row < shape.rows {
+        let Some(found) = pivot_of(w, shape, next) else {
+            break;
+        };
         let pivot = Cell {
             row: next.row,
             ..found

@@ -64,7 +64,7 @@ module _ (l : List ℕ) (s n cols r c : ℕ) where
   abbrev Stops : Type 0
   Stops = left l s n cols r c ≡ record { rows = matrix s n l; pivots = [] }
 
-  stops_end : n ≤ r → Stops
+  pub stops_end : n ≤ r → Stops
   unfolding left echelonize_from
   stops_end h = let e : n - r ≡ 0 = omega arith in rw e
 

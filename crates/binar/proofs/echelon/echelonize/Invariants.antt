@@ -6,8 +6,8 @@ use lib.ListN.{length}
 use mathlib.Core.Path.{◌≡◌}
 use Rattle.binar.proofs.echelon.echelonize.Given as goal
 
-abbrev pub invariant-loop-found : goal.invariant-loop-found
-invariant-loop-found l =
+abbrev pub invariant-loop-next : goal.invariant-loop-next
+invariant-loop-next l =
     let s = l.shape.stride in
     let n = l.shape.rows in
     let cols = l.shape.cols in
@@ -18,5 +18,5 @@ invariant-loop-found l =
     × (final l.initial.w s n cols 0 0 ≡ final l.w s n cols l.next.row l.next.col)
     × (total l.initial.w s n cols 0 0 ≡ total l.w s n cols l.next.row l.next.col)
 
-abbrev pub decreases-loop-found : goal.decreases-loop-found
-decreases-loop-found l = l.shape.rows - l.next.row
+abbrev pub decreases-loop-next : goal.decreases-loop-next
+decreases-loop-next l = l.shape.rows - l.next.row
