@@ -9,12 +9,17 @@ use Rattle.binar.proofs.matrix_form.Solving.{told_rows, form_left}
 use Rattle.binar.proofs.matrix_form.Sweep.{get_put_before}
 use Rattle.matrices.specs.Room.{SameBefore}
 
--- after `echelon_form` has told a rank, a target right behind the pivots' words can be solved for
-pub form_solvable : (l x : List ℕ) (width s n cols r : ℕ) → FormIs l width n cols (Some r) x → s ≡ width + (n + 63) / 64
+-- after `echelon_form` has told a rank, targets behind the pivots can be solved for
+pub form_solvable : (l x : List ℕ) (width n cols r place : ℕ) → FormIs l width n cols (Some r) x
+    → n * form_stride width n + n ≤ place → place + form_stride width n ≤ length x → FormLeft x (form_stride width n) n cols r place
+form_solvable l x width n cols r place F before inside = form_left l x width n cols r F place (omega (arith, told_rows l x width n cols r F, before)) inside
+
+-- so can one right behind the pivots' words
+pub solvable_behind : (l x : List ℕ) (width s n cols r : ℕ) → FormIs l width n cols (Some r) x → s ≡ width + (n + 63) / 64
     → n * (width + (n + 63) / 64) + n + (width + (n + 63) / 64) ≤ length x → FormLeft x s n cols r (n * s + n)
 unfolding form_stride
-form_solvable l x width s n cols r F e inside =
-    rw e (form_left l x width n cols r F (n * form_stride width n + n) (omega (arith, told_rows l x width n cols r F)) inside)
+solvable_behind l x width s n cols r F e inside =
+    rw e (form_solvable l x width n cols r (n * form_stride width n + n) F (omega arith) inside)
 
 pub solvable_kept : (l x : List ℕ) (s n cols r place : ℕ) → length x ≡ length l → SameBefore place l x → FormLeft l s n cols r place → FormLeft x s n cols r place
 solvable_kept l x s n cols r place e same S = left_alike s n cols r place l x e (λ k a b. same k (omega (arith, S.pivots))) S

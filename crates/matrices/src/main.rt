@@ -9,6 +9,7 @@ ghost use Rattle.std.specs.Prelude.{◌≡◌, ◌+◌, ◌*◌, ◌/◌, ◌^�
 ghost use Rattle.binar.specs.Layout.{FormLeft};
 ghost use Rattle.matrices.specs.Room.{Room, SameBefore};
 
+use arrayvec::ArrayVec;
 use binar::echelon::Layout;
 use binar::kernel::kernel_basis_matrix;
 use binar::matrix_form::{echelon_form, transpose_solve};
@@ -17,17 +18,65 @@ use binar::sum::bitxor_assign;
 use std::io;
 use std::io::Write;
 
+// ---- lines
+
+// Holds what is written until a line ends or 1,024 bytes are full, and then writes it on in one call. std's `LineWriter` allocates.
+#[derive(Drop)]
+struct Lines<W: Write + Drop> {
+    to: W,
+    line: ArrayVec<u8, 1024>,
+}
+
+impl<W: Write + Drop> Lines<W> {
+    fn new(to: W) -> Self {
+        Lines {
+            to,
+            line: ArrayVec::new(),
+        }
+    }
+
+    fn write_held(&mut self) -> io::Result<()> {
+        let result = self.to.write_all(self.line.as_slice());
+        self.line.clear();
+        result
+    }
+}
+
+impl<W: Write + Drop> Write for Lines<W> {
+    fn write(&mut self, buf: &[u8]) -> io::Result<usize> {
+        let n = self.line.write(buf)?;
+        if self.line.is_full() || buf[..n].ends_with(b"\n") {
+            self.write_held()?;
+        }
+        Ok(n)
+    }
+
+    fn flush(&mut self) -> io::Result<()> {
+        self.write_held()?;
+        self.to.flush()
+    }
+}
+
 // ---- the form
 
-// The first cols bits of the row at word at, or `-`.
+// The first cols bits of the row at word at, or `-`. They go out by 64: a `write!` for each would cost more than all the rest.
 fn print_bits<W: Write>(out: &mut W, w: &[u64], at: usize, cols: usize) -> io::Result<()>
     requires { at + (cols + 63) / 64 ≤ length w.now }
 {
     if cols == 0 {
         return write!(out, "-");
     }
-    for k in 0..cols {
-        write!(out, "{}", index(w, at, k))?;
+    let mut digits = [0u8; 64];
+    for start in (0..cols).step_by(64) {
+        let n = (cols - start).min(64);
+        for k in 0..n {
+            digits[k] = if index(w, at, start + k) == 1 {
+                b'1'
+            } else {
+                b'0'
+            };
+        }
+        out.write_all(&digits[..n])?;
     }
     Ok(())
 }
@@ -279,7 +328,7 @@ fn repeated<W: Write>(out: &mut W, seed: u32) -> io::Result<()> {
 }
 
 fn main(rt: HostRuntime) -> io::Result<()> {
-    let mut out = io::writer(&rt);
+    let mut out = Lines::new(io::writer(&rt));
     given(&mut out, 0, 0, 0, b"")?;
     given(&mut out, 1, 0, 5, b"")?;
     given(&mut out, 0, 3, 0, b"")?;
@@ -300,5 +349,5 @@ fn main(rt: HostRuntime) -> io::Result<()> {
     random(&mut out, 4, 40, 256, 2)?;
     random(&mut out, 4, 128, 256, 3)?;
     repeated(&mut out, 4)?;
-    Ok(())
+    out.flush()
 }
