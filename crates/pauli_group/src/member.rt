@@ -40,7 +40,7 @@ pub struct IndexSet {
 }
 
 // Whether the numbers are all in the support. A set that rises is looked up by one walk. The support is a slice that rises
-// (`Rising`), here and in is_supported, as `factor` is given it: a `&Support` would ask more of its callers.
+// (`Rising`), here and in is_supported, as `factor` cuts it from what it is given: a `&Support` would ask more of its callers.
 fn covers(numbers: &[[u8; 4]], support: &[u32]) -> bool
     requires { Rising 0 support.now }
     ensures { result ≡ covered support.now (u32s_in numbers.now) }
@@ -96,7 +96,7 @@ pub(crate) fn solve(w: &mut [u64; WORK_WORDS], group: Group, p: Pauli) -> Option
     }
 }
 
-// Factors Pauli i of a roll by a group that is in the work area, which has these phases.
+// Factors Pauli i of a roll by a group that is in the work area, which has these phases. `known` begins with the group's support.
 pub fn factor(
     roll: Roll,
     i: usize,
@@ -109,10 +109,11 @@ pub fn factor(
     ensures told { (g : Asked known.now w.old group.count group.places group.rank group.total (step_told phases)) → factoring_told result ≡ factorization_of g.promise g.list (pauli_of (slice_index_or (list_of roll.entry.bytes.now) i nothing)) }
     ensures rest { Outside target_at (stride_of group.count) w.old w.new }
 {
-    if !is_supported(roll, i, known) {
+    let support = &known[..group.places];
+    if !is_supported(roll, i, support) {
         return None;
     }
-    let p = condense_from(roll, i, known);
+    let p = condense_from(roll, i, support);
     let set = solve(w, group, p)?;
     let product = indexed_product(group.generators().paulis(w), set);
     let left = p.exponent.wrapping_sub(product.exponent) % 4;

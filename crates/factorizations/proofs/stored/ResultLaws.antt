@@ -41,7 +41,7 @@ storable promise gs p (some f) e = phased promise gs p _ f (if_zero_some (outsid
 module _ {known first : List ℕ} {n places r total step : ℕ} (g : Asked known first n places r total step) (es : List Sparse) where
   -- the results of the first k elements are in the area w, and the group still is
   pub record Factored (k : ℕ) (w : List ℕ) : Type 0 where
-    pub grouped : Grouped g.list known w places r total
+    pub grouped : Grouped g.list (take places known) w places r total
     pub results : stored_in w further_at k ≡ map (λ e. factorization_of g.promise g.list (pauli_of e)) (take k es)
 
   pub factored_start : Factored 0 first

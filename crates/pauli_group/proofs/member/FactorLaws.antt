@@ -1,5 +1,5 @@
 -- Laws of an element put to the group of a list: when its qubits are in the support, and what the answer is.
-use Rattle.std.proofs.Common.{◌≡◌, ℕ, suc, ◌+◌, ◌-◌, ◌*◌, ◌%◌, ◌^◌, ◌<◌, ◌≤◌, Bool, true, false, cond, ltb, List, [], ◌∷◌, ◌++◌, map, length, get_or, take, drop, sym, refl, ap, ◌∙◌, ap₂, ⊎_elim, arith, get_or-drop, get_or-take, ltb-true, lt-ltb, ne_eqb}
+use Rattle.std.proofs.Common.{◌≡◌, ℕ, suc, ◌+◌, ◌-◌, ◌*◌, ◌%◌, ◌^◌, ◌<◌, ◌≤◌, Bool, true, false, cond, ltb, List, [], ◌∷◌, ◌++◌, map, length, get_or, take, drop, take_all, sym, refl, ap, ◌∙◌, ap₂, ⊎_elim, arith, get_or-drop, get_or-take, ltb-true, lt-ltb, ne_eqb}
 use mathlib.Core.List.Memᴰ
 use mathlib.Core.List.Memᴰ.{append_cases as in-append}
 use mathlib.Core.List.Memᴰ.{head as here}
@@ -129,6 +129,9 @@ module _ {gs : List Pauli} {known x : List ℕ} {places r total : ℕ} (G : Grou
   pub known_rises : Rising 0 known
   known_rises = rw G.support (support_rises gs)
 
+  pub grouped_front : Grouped gs (take places known) x places r total
+  grouped_front = rw (take_all places known (omega (arith, places_known))) G
+
   form_is : form_in (stride_of (length gs)) (length gs) row_words (2 * places) r x ≡ form_of gs
   unfolding over_support
   form_is = G.form ∙ places_form gs
@@ -171,23 +174,26 @@ module _ {known w : List ℕ} {n places r total step : ℕ} (g : Asked known w n
   abbrev gs : List Pauli
   gs = g.list
 
+  abbrev front : List ℕ
+  front = take places known
+
   pub asked_solvable : n ≤ 128 → places ≤ 128 → length w ≡ 4096 → FormLeft w (stride_of n) n (2 * places) r target_at
   asked_solvable few small size =
       rw g.size (grouped_solvable g.grouped (rw (← g.size) few) small size)
 
   -- the element e of a roll
   module _ (e : Sparse) where
-    pub factored_off : covered known (e.xs ++ e.zs) ≡ false → none ≡ factorization_of g.promise gs (pauli_of e)
+    pub factored_off : covered front (e.xs ++ e.zs) ≡ false → none ≡ factorization_of g.promise gs (pauli_of e)
     factored_off c =
         sym (off_factorization g.promise gs (pauli_of e) (covered_off (support_of gs) e (rw g.grouped.support at c)))
 
-    module _ (c : covered known (e.xs ++ e.zs) ≡ true) (p : Held)
-        (hp : held p ≡ condensed known (pauli_of e)) where
+    module _ (c : covered front (e.xs ++ e.zs) ≡ true) (p : Held)
+        (hp : held p ≡ condensed front (pauli_of e)) where
       pub asked_on : ((held p).x < 2 ^ places) × ((held p).z < 2 ^ places)
       unfolding condensed
       asked_on =
-          let size : length known ≡ places = ap length g.grouped.support ∙ sym g.grouped.size in
-          rw hp (rw size at (condense_lt known (pauli_of e).x), rw size at (condense_lt known (pauli_of e).z))
+          let size : length front ≡ places = ap length g.grouped.support ∙ sym g.grouped.size in
+          rw hp (rw size at (condense_lt front (pauli_of e).x), rw size at (condense_lt front (pauli_of e).z))
 
       abbrev p' : Pauli
       p' = normal (condensed (support_of gs) (pauli_of e))
@@ -254,6 +260,6 @@ module _ (ps : List Sparse) (n : ℕ) (e : Counted ps n) {known x : List ℕ} {p
     list = paulis ps;
     promise = promise;
     size = sym (list_length ps n e);
-    grouped = G;
+    grouped = grouped_front G;
     step_is = (described G promise step clash stable ec es et).step_is;
   }

@@ -1,5 +1,5 @@
 -- Membership in the work area.
-use Rattle.std.specs.Prelude.{◌≡◌, ℕ, Option as CodeOption, Some, None, Bool, true, false, cond, List, [], ◌∷◌, length, nat_lt}
+use Rattle.std.specs.Prelude.{◌≡◌, ℕ, Option as CodeOption, Some, None, Bool, true, false, cond, List, [], ◌∷◌, length, take, nat_lt}
 use Rattle.std.proofs.Math.Option.{Option, some, none}
 use Rattle.pauli.specs.Pauli.{Pauli}
 use Rattle.pauli.specs.Known.{place_of}
@@ -29,11 +29,11 @@ abbrev pub factoring_told : CodeOption IndexSet → Option Factorization
 factoring_told (Some f) = some (factors_told f)
 factoring_told None = none
 
--- a list of n Paulis and a promise that an element is put to: the group of the list is in the area x, as in `Grouped`, and its
--- phases have this step
+-- a list of n Paulis and a promise that an element is put to: the group of the list is in the area x, as in `Grouped`, the first
+-- numbers of `known` are its support, and its phases have this step
 pub record Asked (known x : List ℕ) (n places rank total step : ℕ) : Type 0 where
   pub list : List Pauli
   pub promise : Promise
   pub size : n ≡ length list
-  pub grouped : Grouped list known x places rank total
+  pub grouped : Grouped list (take places known) x places rank total
   pub step_is : step ≡ phase_step promise list
