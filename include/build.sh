@@ -5,7 +5,7 @@ set -eu
 here=$(cd "$(dirname "$0")" && pwd)
 root=$(dirname "$here")
 made=$root/target/include
-for program in rt gcc cargo; do
+for program in rt gcc nm cargo; do
     command -v $program > /dev/null || { echo "include/build.sh: $program is missing" >&2; exit 1; }
 done
 cd "$root"
@@ -13,6 +13,9 @@ mkdir -p "$made"
 echo "proving capi and what it rests on: some minutes from nothing, seconds where all is proved; log: target/capi.log"
 sh tools/make.sh capi
 echo "wrote target/staticlib/libcapi.a"
+names=$(nm -u target/staticlib/libcapi.a | awk 'NF == 2 && $1 == "U" { print $2 }' | sort -u)
+[ "$names" = memset ] || { echo "include/build.sh: the library takes from outside: $names" >&2; exit 1; }
+echo "the library takes memset from outside, and no other name"
 for name in example test; do
     gcc -std=c99 -O1 -Wall -Wextra -Werror -I "$here" "$here/$name.c" target/staticlib/libcapi.a -o "$made/$name"
 done

@@ -5,6 +5,7 @@ ghost use Rattle.closing_report.specs.Decimal.{digits};
 ghost use Rattle.closing_report.specs.Lines.{labelled};
 
 use itoa::Buffer;
+use pauli::write::put_slice;
 
 // How many decimal digits a number has.
 pub(crate) fn number_length(n: usize) -> usize
@@ -17,9 +18,8 @@ pub(crate) fn put_text(out: &mut [u8], at: usize, text: &[u8]) -> usize
     requires { at + length text.now ≤ length out.old }
     ensures { Put out.old at text.now out.new result }
 {
-    let end = at + text.len();
-    out[at..end].copy_from_slice(text);
-    end
+    put_slice(out, at, text);
+    at + text.len()
 }
 
 // Puts the decimal digits of a number.

@@ -5,7 +5,7 @@ ghost use Rattle.combined_lists.specs.Line.{quotient, common, joined};
 ghost use Rattle.combined_lists.specs.Inner.Worked.{Kept};
 ghost use Rattle.combined_lists.specs.Inner.Slots.{SlotHolds, SomeSlot, Operates, FurtherKeeps, SomeFurtherKeeps, LentPair, Pairs, list_read};
 
-use crate::slot::{SLOT_WORDS, SLOTS, keep, kept_list, numbers_of};
+use crate::slot::{SLOT_WORDS, SLOTS, keep, kept_list, lend_numbers};
 use pauli::refusal::Refusal;
 use pauli::roll::Roll;
 use pauli::support::{MOST_QUBITS, Support};
@@ -48,12 +48,18 @@ pub(crate) fn load(
     keep_further(n, &known, w, slots, top);
 }
 
-// The qubits' numbers of the lists in slot left and in the next one.
-fn both_numbers(slots: &[[u64; SLOT_WORDS]; SLOTS], left: usize) -> [[u32; MOST_QUBITS]; 2]
+// Puts the qubits' numbers of the lists in slot left and in the next one to the fronts of numbers. In place: for an array of this size that is
+// answered the library for C would take memcpy from outside.
+fn both_numbers(
+    slots: &[[u64; SLOT_WORDS]; SLOTS],
+    left: usize,
+    numbers: &mut [[u32; MOST_QUBITS]; 2],
+)
     requires { (left + 1 < 16) × SomeSlot slots.now left × SomeSlot slots.now (left + 1) }
-    ensures { LentPair slots.now left result }
+    ensures { LentPair slots.now left numbers.new }
 {
-    [numbers_of(&slots[left]), numbers_of(&slots[left + 1])]
+    lend_numbers(&slots[left], &mut numbers[0]);
+    lend_numbers(&slots[left + 1], &mut numbers[1]);
 }
 
 // The lists in slot left and in the next one, lent with their qubits' numbers, if they can be joined.
@@ -80,7 +86,8 @@ pub(crate) fn join_slots(
     requires { (left + 1 < 16) × SomeSlot slots.old left × SomeSlot slots.old (left + 1) }
     ensures { Operates joined left slots.old result slots.new }
 {
-    let numbers = both_numbers(slots, left);
+    let mut numbers = [[0; MOST_QUBITS]; 2];
+    both_numbers(slots, left, &mut numbers);
     let pair = pair_of(slots, left, &numbers)?;
     let mut joint = Support::new();
     let n = read_two(pair, &mut joint, w);
@@ -97,12 +104,16 @@ pub(crate) fn common_slots(
     requires { (left + 1 < 16) × SomeSlot slots.old left × SomeSlot slots.old (left + 1) }
     ensures { Operates common left slots.old result slots.new }
 {
-    let numbers = both_numbers(slots, left);
+    let mut numbers = [[0; MOST_QUBITS]; 2];
+    both_numbers(slots, left, &mut numbers);
     let pair = pair_of(slots, left, &numbers)?;
     let mut joint = Support::new();
     match common_of(pair, &mut joint, w) {
         Common::Left => {}
-        Common::Right => slots[left] = slots[left + 1],
+        Common::Right => {
+            let n = read_one(pair.right, &mut joint, w);
+            keep_further(n, &joint, w, slots, left);
+        }
         Common::Further(n) => keep_further(n, &joint, w, slots, left),
     }
     Ok(())
@@ -117,7 +128,8 @@ pub(crate) fn quotient_slots(
     requires { (left + 1 < 16) × SomeSlot slots.old left × SomeSlot slots.old (left + 1) }
     ensures { Operates quotient left slots.old result slots.new }
 {
-    let numbers = both_numbers(slots, left);
+    let mut numbers = [[0; MOST_QUBITS]; 2];
+    both_numbers(slots, left, &mut numbers);
     let pair = pair_of(slots, left, &numbers)?;
     let mut joint = Support::new();
     let promises = Promises {

@@ -29,15 +29,23 @@ const NUMBERS: usize = 2;
 // Where the Paulis stand.
 const PAULIS: usize = 130;
 
+// Puts the qubits' numbers of the list in a slot to the front of numbers.
+pub(crate) fn lend_numbers(slot: &[u64; SLOT_WORDS], numbers: &mut [u32; MOST_QUBITS])
+    requires { NumbersFit slot.now }
+    ensures { Lent slot.now numbers.new }
+{
+    for i in 0..slot[1] as usize {
+        numbers[i] = slot[NUMBERS + i] as u32;
+    }
+}
+
 // The qubits' numbers of the list in a slot, at the front.
 pub(crate) fn numbers_of(slot: &[u64; SLOT_WORDS]) -> [u32; MOST_QUBITS]
     requires { NumbersFit slot.now }
     ensures { Lent slot.now result }
 {
     let mut numbers = [0u32; MOST_QUBITS];
-    for i in 0..slot[1] as usize {
-        numbers[i] = slot[NUMBERS + i] as u32;
-    }
+    lend_numbers(slot, &mut numbers);
     numbers
 }
 

@@ -8,7 +8,7 @@ ghost use Rattle.pauli.specs.Writing.{put_bytes};
 use crate::joined::{Pair, joined_bytes};
 use crate::refusal::{Reason, Refusal};
 use crate::roll::Roll;
-use crate::write::{put_entry, put_u16};
+use crate::write::{put_entry, put_slice, put_u16};
 
 // Writes the entries of a roll's Paulis from number `from` on, from byte at on, where `before` qubit numbers stand in earlier bodies;
 // tells how many stand before and in these bodies. By number: entry i of the roll is the next one there.
@@ -33,8 +33,7 @@ pub fn copy_bodies(out: &mut [u8], at: usize, roll: Roll, past: usize)
     requires { (past ≤ length (numbers (list_of roll.bytes.now))) × (at + 4 * (length (numbers (list_of roll.bytes.now)) - past) ≤ length out.old) }
     ensures { out.new ≡ put_bytes out.old at (drop (4 * past) (bodies (list_of roll.entry.bytes.now))) }
 {
-    let bodies = roll.bodies(past);
-    out[at..at + bodies.len()].copy_from_slice(bodies);
+    put_slice(out, at, roll.bodies(past));
 }
 
 // Writes the roll of two rolls joined.

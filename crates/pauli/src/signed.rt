@@ -153,7 +153,7 @@ pub fn load(w: &[u64], at: usize) -> Pauli
     Pauli::from_words(w[at..].first_chunk::<5>().unwrap())
 }
 
-// The n Paulis from word base on, each as its five words.
+// The n Paulis from word base on, each as its five words. The bound stands here for all that read a list from words.
 pub fn fives_at(w: &[u64], base: usize, n: usize) -> &[[u64; 5]]
     requires { base + 5 * n ≤ length w.now }
     ensures list { paulis_in result.now ≡ list_in w.now base n }

@@ -14,6 +14,18 @@ use crate::refusal::{Reason, Refusal};
 use crate::signed::Pauli;
 use crate::support::qubit_at;
 
+// Writes bytes from byte at on. A loop, and never inlined: so the library for C takes no name from outside but memset, where the compiler
+// makes memcpy or memmove of a copied slice, and of a loop that copies an array of its caller's.
+#[inline(never)]
+pub fn put_slice(out: &mut [u8], at: usize, bytes: &[u8])
+    requires { at + length bytes.now ≤ length out.old }
+    ensures { out.new ≡ put_bytes out.old at bytes.now }
+{
+    for (k, byte) in bytes.iter().enumerate() {
+        out[at + k] = *byte;
+    }
+}
+
 // Writes a number as two bytes.
 pub fn put_u16(out: &mut [u8], at: usize, v: usize)
     requires { (at + 2 ≤ length out.old) × (v < 65536) }

@@ -72,34 +72,38 @@ fn note_exponents(
     group: Group,
     own: &[u32],
     joint: &[u32],
-) -> [u8; MOST_PAULIS]
+    by: &mut [u8; MOST_PAULIS],
+)
     requires { (m ≤ 128) × Solving w.old group.count group.places group.rank × (group.places ≡ length own.now) × OnPlaces (length joint.now) (list_in w.old further_at m) × All (MovablePauli joint.now own.now) (list_in w.old further_at m) }
-    ensures by { NotedBy (exponent_over joint.now own.now group.count group.places w.old) result m w.old }
-    ensures low { AllWithin (λ e. e < 4) result 0 128 }
+    ensures by { NotedBy (exponent_over joint.now own.now group.count group.places w.old) by.new m w.old }
+    ensures low { AllWithin (λ e. e < 4) by.new 0 128 }
     ensures rest { Outside target_at (stride_of group.count) w.old w.new }
 {
-    let mut by = [0; MOST_PAULIS];
+    *by = [0; MOST_PAULIS];
     for i in 0..m {
         by[i] = exponent_of(w, FURTHER + 5 * i, group, own, joint);
     }
-    by
 }
 
-// Notes for each of the m Paulis of the further list the exponent by the group of a list; tells its phases too.
-fn note_by(source: Source, joint: &[u32], w: &mut [u64; WORK_WORDS], m: usize) -> Exponents
+// Notes for each of the m Paulis of the further list the exponent by the group of a list; tells its phases.
+fn note_by(
+    source: Source,
+    joint: &[u32],
+    w: &mut [u64; WORK_WORDS],
+    m: usize,
+    by: &mut [u8; MOST_PAULIS],
+) -> Phases
     requires { (m ≤ 128) × OnPlaces (length joint.now) (list_in w.old further_at m) × All (MovablePauli joint.now (support_of (listed source))) (list_in w.old further_at m) }
-    ensures step { step_told result.phases ≡ phase_step none (listed source.entry) }
-    ensures by { NotedBy (exponent_for joint.now (listed source.entry)) result.by m w.old }
+    ensures step { step_told result ≡ phase_step none (listed source.entry) }
+    ensures by { NotedBy (exponent_for joint.now (listed source.entry)) by.new m w.old }
+    ensures low { AllWithin (λ e. e < 4) by.new 0 128 }
     ensures rest { Outside 0 further_at w.old w.new }
 {
     let mut known = Support::new();
     let group = group_of(source, &mut known, w);
     let signs = signs_of(group.standards().paulis(w), Promise::None);
-    let by = note_exponents(w, m, group, known.qubits(), joint);
-    Exponents {
-        phases: signs.phases,
-        by,
-    }
+    note_exponents(w, m, group, known.qubits(), joint, by);
+    signs.phases
 }
 
 // The first exponent that is, less u, a phase of the first group and, less v, of the second.
@@ -149,8 +153,11 @@ fn put_part(pair: SourcePair, joint: &[u32], w: &mut [u64; WORK_WORDS]) -> usize
     ensures list { list_in w.new list_at result ≡ whole_over (listed pair.entry.left) (listed pair.entry.right) }
 {
     let m = common_basis(pair, joint, w);
-    let first = note_by(pair.left, joint, w, m);
-    let second = note_by(pair.right, joint, w, m);
+    let mut by = [0; MOST_PAULIS];
+    let phases = note_by(pair.left, joint, w, m, &mut by);
+    let first = Exponents { phases, by };
+    let phases = note_by(pair.right, joint, w, m, &mut by);
+    let second = Exponents { phases, by };
     let kept = Span::at(LIST, keep_whole(w, m, &first, &second));
     append_phases(w, kept, first.phases, second.phases)
 }
@@ -160,7 +167,7 @@ fn put_part(pair: SourcePair, joint: &[u32], w: &mut [u64; WORK_WORDS]) -> usize
 fn part_of(pair: SourcePair, known: &mut Support, w: &mut [u64; WORK_WORDS]) -> usize
     ensures { FurtherHas known.new (standard (whole_part (listed pair.entry.left) (listed pair.entry.right))) w.new result }
 {
-    *known = pair.support();
+    pair.gather(known);
     let joint = known.qubits();
     let n = put_part(pair, joint, w);
     let group = build(w, n, joint.len());

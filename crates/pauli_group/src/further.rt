@@ -29,7 +29,7 @@ pub fn read_one(source: Source, known: &mut Support, w: &mut [u64; WORK_WORDS]) 
 pub fn read_two(pair: SourcePair, known: &mut Support, w: &mut [u64; WORK_WORDS]) -> usize
     ensures { FurtherHas known.new (map normal (listed pair.entry.left ++ listed pair.entry.right)) w.new result }
 {
-    *known = pair.support();
+    pair.gather(known);
     let qubits = known.qubits();
     let first = pair.left.count();
     pair.left.read(qubits, w, FURTHER);

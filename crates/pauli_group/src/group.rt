@@ -92,7 +92,7 @@ pub fn group_of(source: Source, known: &mut Support, w: &mut [u64; WORK_WORDS]) 
 fn group_of_two(pair: SourcePair, known: &mut Support, w: &mut [u64; WORK_WORDS]) -> Group
     ensures { Grouped (listed pair.entry.left ++ listed pair.entry.right) known.new w.new result.places result.rank result.total }
 {
-    *known = pair.support();
+    pair.gather(known);
     let qubits = known.qubits();
     let first = pair.left.count();
     pair.left.read(qubits, w, LIST);

@@ -93,7 +93,7 @@ pub fn remainder(
 ) -> usize
     ensures { FurtherHas known.new (modulo (promise_of promise) (listed pair.entry.left) (listed pair.entry.right)) w.new result }
 {
-    *known = pair.support();
+    pair.gather(known);
     let joint = known.qubits();
     let mut own = Support::new();
     let a = group_of(pair.left, &mut own, w);

@@ -60,14 +60,13 @@ impl<'a> Source<'a> {
     }
 }
 
-// Gathers the support of two lists joined.
-fn joint_support(left: Source, right: Source) -> Support
-    ensures { Gathered (support (sparse_in left.entry ++ sparse_in right.entry)) result }
+// Gathers the support of two lists joined, in place of what was known.
+fn gather_both(left: Source, right: Source, known: &mut Support)
+    ensures { Gathered (support (sparse_in left.entry ++ sparse_in right.entry)) known.new }
 {
-    let mut known = Support::new();
-    left.gather(&mut known);
-    right.gather(&mut known);
-    known
+    *known = Support::new();
+    left.gather(known);
+    right.gather(known);
 }
 
 // Two lists that can be joined.
@@ -98,16 +97,27 @@ impl<'a> SourcePair<'a> {
         if left.count() + right.count() > MOST_PAULIS {
             return Err(Reason::Paulis.into());
         }
-        if joint_support(left, right).is_past_limit() {
+        let mut known = Support::new();
+        gather_both(left, right, &mut known);
+        if known.is_past_limit() {
             return Err(Reason::Qubits.into());
         }
         Ok(SourcePair { left, right })
     }
 
-    // Gathers the support of the joined list.
+    // Gathers the support of the joined list, in place of what was known.
+    pub fn gather(self, known: &mut Support)
+        ensures { Gathered (support (sparse_in self.entry.left ++ sparse_in self.entry.right)) known.new }
+    {
+        gather_both(self.left, self.right, known);
+    }
+
+    // The support of the joined list, by value.
     pub fn support(self) -> Support
         ensures { Gathered (support (sparse_in self.entry.left ++ sparse_in self.entry.right)) result }
     {
-        joint_support(self.left, self.right)
+        let mut known = Support::new();
+        self.gather(&mut known);
+        known
     }
 }

@@ -1,5 +1,5 @@
 -- Laws of the operations on lists in slots.
-use Rattle.std.proofs.Common.{◌≡◌, ℕ, ◌+◌, ◌<◌, ◌≤◌, Bool, true, false, List, [], ◌++◌, map, length, get_or, set, sym, refl, ap, ap₂, ◌∙◌, subst, arith, Some, Result, Ok, Err, length-append, get_or-set_other, get_or-set_same}
+use Rattle.std.proofs.Common.{◌≡◌, ℕ, ◌+◌, ◌<◌, ◌≤◌, Bool, true, false, List, [], ◌++◌, map, length, set, sym, refl, ap, ap₂, ◌∙◌, subst, arith, Some, Result, Ok, Err, length-append, get_or-set_other, get_or-set_same}
 use mathlib.Core.List.{map-append}
 use lib.ListN.{length-map}
 use Rattle.std.specs.Result.{IfOk}
@@ -195,6 +195,21 @@ module _ {pair : SourcePair} (left : ℕ) (slots : List (List ℕ))
       };
     }
 
+    -- the right list, read again, is the common part
+    pub right_works : whole_common gs hs ≡ hs → FurtherHas qs (map normal hs) w n → Works common left slots qs w n
+    unfolding most_paulis
+    right_works e f = record {
+      result = whole_common;
+      told = λ x y h k. common_told (joins x y h k);
+      keeps = λ x y h k.
+          let is : whole_common x y ≡ y = at_lists (joins x y h k) (λ a b. whole_common a b ≡ b) e in
+          record {
+            has = subst (λ (ps : List Pauli). FurtherHas qs ps w n) (k.values ∙ sym is) (at_lists (joins x y h k) (λ a b. FurtherHas qs (map normal b) w n) f);
+            few = whole_few x y (few_both (joins x y h k));
+            values = whole_values x y h.values k.values;
+          };
+    }
+
     pub quotient_works : (try_quotient none none gs hs ≡ some (modulo none gs hs)) × FurtherHas qs (modulo none gs hs) w n
         → Works quotient left slots qs w n
     unfolding if_subgroup most_paulis
@@ -209,28 +224,17 @@ module _ {pair : SourcePair} (left : ℕ) (slots : List (List ℕ))
       };
     }
 
-  -- the common part is one of the lists, which is in slot left
-  common_there : (new : List (List ℕ)) → ((x y : List Pauli) → SlotHolds slots left x → SlotHolds slots (left + 1) y → SlotHolds new left (whole_common x y))
-      → Kept SlotHolds left slots new → Operates common left slots (Ok tt) new
-  common_there new holds kept = record {
-    answered = λ x y h k. record { value = whole_common x y; told = common_told (joins x y h k); holds = holds x y h k; kept = kept };
+  -- the common part is the left list, which is in its slot
+  pub common_left : whole_common gs hs ≡ gs → Operates common left slots (Ok tt) slots
+  common_left e = record {
+    answered = λ x y h k. record {
+      value = whole_common x y;
+      told = common_told (joins x y h k);
+      holds = subst (λ (ps : List Pauli). SlotHolds slots left ps) (sym (at_lists (joins x y h k) (λ a b. whole_common a b ≡ a) e)) h;
+      kept = λ i ps l h. h;
+    };
     refused = tt;
   }
-
-  pub common_left : whole_common gs hs ≡ gs → Operates common left slots (Ok tt) slots
-  common_left e =
-      common_there slots
-      (λ x y h k. subst (λ (ps : List Pauli). SlotHolds slots left ps) (sym (at_lists (joins x y h k) (λ a b. whole_common a b ≡ a) e)) h)
-      (λ i ps l h. h)
-
-  pub common_right : left < length slots → whole_common gs hs ≡ hs → Operates common left slots (Ok tt) (set slots left (get_or slots (left + 1) []))
-  common_right room e =
-      let next = get_or slots (left + 1) [] in
-      common_there (set slots left next)
-      (λ x y h k.
-      put_holds slots left next room (whole_common x y)
-      (subst (SlotHas next) (sym (at_lists (joins x y h k) (λ a b. whole_common a b ≡ b) e)) k))
-      (put_kept slots left next room)
 
   -- the right group is not inside the left one
   pub quotient_refused : (r : Result Unit Refusal) (e : Refusal) → r ≡ Err e

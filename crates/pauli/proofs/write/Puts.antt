@@ -1,6 +1,7 @@
 -- Laws of bytes put into an output, one after the other.
 use Rattle.std.proofs.Common.{◌≡◌, ℕ, suc, ◌+◌, ◌*◌, ◌%◌, ◌<◌, ◌≤◌, List, [], ◌∷◌, ◌++◌, length, get_or, take, drop, set, sym, refl, ap, ◌∙◌, ap₂, append_assoc, add-zero, add_assoc, add-one, arith, length-append, length-drop, length-set, take-append-drop, length-take-le, drop-drop, take-suc-set, take_at, drop-set-lt}
 use lib.Seq.{take-append-add, drop-append-add}
+use Rattle.pauli.proofs.support.Lists.{drop_one}
 use borrow.Rule.Slice.PartMut.{put_mid}
 use Rattle.pauli.specs.Bytes.{le16, le32, le32s}
 use Rattle.pauli.specs.Pauli.{select}
@@ -120,6 +121,19 @@ module _ {first : List ℕ} {start : ℕ} {whole out : List ℕ} {next : ℕ} {r
           ∙ ap₂ (λ (o : List ℕ) (j : ℕ). put_bytes o (next + j) more) (sym d) n;
       end = omega (arith, counted, r.end);
     }
+
+-- bytes are being written one by one, and those from number k on are left
+module _ {first whole out : List ℕ} {start next : ℕ} (b : List ℕ) (k : ℕ) (h : k < length b) (r : Left first start whole out next (drop k b)) where
+  byte : drop k b ≡ (get_or b k 0 ∷ []) ++ drop (k + 1) b
+  byte = sym (drop_one b k 0 h)
+
+  pub byte_fits : next + 1 ≤ length out
+  byte_fits = left_room r (get_or b k 0 ∷ []) (drop (k + 1) b) 1 byte refl
+
+  pub byte_copied : Left first start whole (set out next (get_or b k 0)) (next + 1) (drop (k + 1) b)
+  byte_copied =
+      left_step r (get_or b k 0 ∷ []) (drop (k + 1) b) 1 byte refl (set out next (get_or b k 0))
+      (sym (put_byte out next (get_or b k 0) [] (omega (arith, byte_fits)) ∙ put_nothing (set out next (get_or b k 0)) (next + 1))) (simp length-set)
 
 -- the numbers of a set of places are being written, and those of the places `left` are left
 pub set_start : (first : List ℕ) (start s : ℕ) (support : List ℕ) → start + 4 * length (select s support) ≤ length first

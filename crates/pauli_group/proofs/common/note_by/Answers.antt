@@ -8,8 +8,8 @@ use Rattle.pauli_group.proofs.common.SharedLaws.{group_solving, group_further, g
 use Rattle.pauli_group.proofs.source.SourceLaws.{source_counted}
 use Rattle.pauli_group.proofs.common.note_by.Goals as goal
 
-pub note_exponents-by-requires : goal.note_exponents-by-requires
-note_exponents-by-requires c =
+pub note_exponents-requires : goal.note_exponents-requires
+note_exponents-requires c =
     let g = c.group_of-group.ensures in
     let p = c.requires in (
       p.0,
@@ -25,6 +25,7 @@ returns c =
     let standards = span_list _ c.paulis.ensures.list c.standards.ensures in
     let signs = rw standards at c.signs_of-signs.ensures in record {
       step = (described g.group _ _ _ _ signs.clash signs.step signs.stabilizer).step_is;
-      by = group_noted _ _ (source_counted c.args.source) g.group c.group_of-group.array_long g.rest _ _ _ (rw (c.qubits.ensures.list, g.count) at c.note_exponents-by.ensures.by);
-      rest = outside_join g.rest (outside_wider 0 further_at c.note_exponents-by.ensures.rest (omega arith) (omega (arith, (form_room _ c.group_of-group.result.few.0).1)));
+      by = group_noted _ _ (source_counted c.args.source) g.group c.group_of-group.array_long g.rest _ _ _ (rw (c.qubits.ensures.list, g.count) at c.note_exponents.ensures.by);
+      low = c.note_exponents.ensures.low;
+      rest = outside_join g.rest (outside_wider 0 further_at c.note_exponents.ensures.rest (omega arith) (omega (arith, (form_room _ c.group_of-group.result.few.0).1)));
     }

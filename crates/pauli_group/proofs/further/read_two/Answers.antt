@@ -8,7 +8,7 @@ use Rattle.pauli_group.proofs.further.read_two.Goals as goal
 pub read-requires : goal.read-requires
 read-requires c =
     let pair = c.args.pair in
-    let g = rw (← c.qubits-qubits.ensures.list) at c.support.ensures in (
+    let g = rw (← c.qubits-qubits.ensures.list) at c.gather.ensures in (
       part_placed _ _ g pair.qubits pair.left (λ p m. Memᴰ.append_left (sparse_in pair.right) m),
       places_few _ _ g pair.qubits,
       omega (arith, pair.few),
@@ -17,7 +17,7 @@ read-requires c =
 pub read-requires-2 : goal.read-requires-2
 read-requires-2 c =
     let pair = c.args.pair in
-    let g = rw (← c.qubits-qubits.ensures.list) at c.support.ensures in (
+    let g = rw (← c.qubits-qubits.ensures.list) at c.gather.ensures in (
       part_placed _ _ g pair.qubits pair.right (λ p m. Memᴰ.append_right (sparse_in pair.left) m),
       places_few _ _ g pair.qubits,
       omega (arith, pair.few, c.count-first.ensures),
@@ -26,7 +26,7 @@ read-requires-2 c =
 pub returns : goal.returns
 returns c =
     let pair = c.args.pair in
-    let g = rw (← c.qubits-qubits.ensures.list) at c.support.ensures in
+    let g = rw (← c.qubits-qubits.ensures.list) at c.gather.ensures in
     let second = rw c.count-first.ensures at c.read-2.ensures in
     rw (← c.qubits-qubits.ensures.list, ← paulis_append (sparse_in pair.left) (sparse_in pair.right), c.count-first.ensures, c.count.ensures)
     (read_further _ _ g pair.qubits _ _ pair.few

@@ -14,7 +14,7 @@ use Rattle.pauli_group.proofs.modulo.remainder.Goals as goal
 
 pub move_list-requires : goal.move_list-requires
 move_list-requires c =
-    let J = joint_is (sparse_in c.args.pair.left) (sparse_in c.args.pair.right) _ (rw (← c.qubits-joint.ensures.list) at c.support.ensures) c.args.pair.qubits in
+    let J = joint_is (sparse_in c.args.pair.left) (sparse_in c.args.pair.right) _ (rw (← c.qubits-joint.ensures.list) at c.gather.ensures) c.args.pair.qubits in
     let g = c.group_of-a.ensures.group in
     let total = group_total _ _ (source_counted c.args.pair.left) g in
     let on = group_on _ _ (source_counted c.args.pair.left) g in
@@ -23,7 +23,7 @@ move_list-requires c =
 
 pub multiply_all-requires : goal.multiply_all-requires
 multiply_all-requires c =
-    let J = joint_is (sparse_in c.args.pair.left) (sparse_in c.args.pair.right) _ (rw (← c.qubits-joint.ensures.list) at c.support.ensures) c.args.pair.qubits in
+    let J = joint_is (sparse_in c.args.pair.left) (sparse_in c.args.pair.right) _ (rw (← c.qubits-joint.ensures.list) at c.gather.ensures) c.args.pair.qubits in
     let group = c.group_of-b in
     let g = group.ensures.group in
     let n = list_length _ _ (source_counted c.args.pair.right) ∙ sym group.ensures.count in
@@ -38,7 +38,7 @@ multiply_all-requires c =
 
 pub returns : goal.returns
 returns c =
-    let J = joint_is (sparse_in c.args.pair.left) (sparse_in c.args.pair.right) _ (rw (← c.qubits-joint.ensures.list) at c.support.ensures) c.args.pair.qubits in
+    let J = joint_is (sparse_in c.args.pair.left) (sparse_in c.args.pair.right) _ (rw (← c.qubits-joint.ensures.list) at c.gather.ensures) c.args.pair.qubits in
     let group = c.group_of-b in
     let g = group.ensures.group in
     let left = c.group_of-a in

@@ -19,18 +19,18 @@ pub returns-then-is_past_limit-clause-told : goal.returns-then-is_past_limit-cla
 unfolding most_paulis
 returns-then-is_past_limit-clause-told c =
     ap told_refusal c.into-then-is_past_limit.ensures
-    ∙ sym (too_wide c.args.left c.args.right _ c.joint_support.ensures (answer 0) (omega (arith, c.count.ensures, c.count-2.ensures, c.if-count-gt-MOST_PAULIS.false))
+    ∙ sym (too_wide c.args.left c.args.right _ c.gather_both.ensures (answer 0) (omega (arith, c.count.ensures, c.count-2.ensures, c.if-count-gt-MOST_PAULIS.false))
     (sym c.is_past_limit.ensures ∙ c.if-is_past_limit.true))
 
 pub returns-clause-told : goal.returns-clause-told
 unfolding most_paulis
 returns-clause-told c =
-    sym (can_join c.args.left c.args.right _ c.joint_support.ensures (answer 0) (omega (arith, c.count.ensures, c.count-2.ensures, c.if-count-gt-MOST_PAULIS.false))
+    sym (can_join c.args.left c.args.right _ c.gather_both.ensures (answer 0) (omega (arith, c.count.ensures, c.count-2.ensures, c.if-count-gt-MOST_PAULIS.false))
     (sym c.is_past_limit.ensures ∙ c.if-is_past_limit.false))
 
 pub invariant_of-result : goal.invariant_of-result
 unfolding most_paulis
 invariant_of-result c = record {
   few = omega (arith, c.count.ensures, c.count-2.ensures, c.if-count-gt-MOST_PAULIS.false);
-  qubits = joined_qubits c.args.left c.args.right _ c.joint_support.ensures (sym c.is_past_limit.ensures ∙ c.if-is_past_limit.false);
+  qubits = joined_qubits c.args.left c.args.right _ c.gather_both.ensures (sym c.is_past_limit.ensures ∙ c.if-is_past_limit.false);
 }

@@ -1,9 +1,9 @@
 use Rattle.std.proofs.Common.{◌∙◌, refl, arith, length-set}
 use Rattle.combined_lists.proofs.slot.SlotLaws.{numbers_next, numbers_all}
-use Rattle.combined_lists.proofs.slot.numbers_of.Goals as goal
+use Rattle.combined_lists.proofs.slot.lend_numbers.Goals as goal
 
 pub loop-i-init : goal.loop-i-init
-loop-i-init c = (refl, refl)
+loop-i-init c = (omega arith, refl)
 
 pub loop-i-preserved : goal.loop-i-preserved
 loop-i-preserved c =

@@ -1,6 +1,0 @@
-use Rattle.pauli.proofs.joined.JoinLaws.{both_gathered}
-use Rattle.pauli_group.proofs.source.SourceLaws.{source_counted}
-use Rattle.pauli_group.proofs.source.joint_support.Goals as goal
-
-pub returns : goal.returns
-returns c = both_gathered _ _ (source_counted c.args.left).qubits _ (rw c.new-known.ensures at c.gather.ensures) _ c.gather-2.ensures
