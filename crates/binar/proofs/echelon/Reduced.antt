@@ -1,7 +1,7 @@
 -- Reduced form as an inductive notion, for the first c columns of a matrix: the reduction leads to it.
 use mathlib.Core.Path.{◌≡◌, refl, sym, ◌∙◌}
 use mathlib.Core.List.{List, [], ◌∷◌, ◌++◌, map, append-nil}
-use Prim.Native.Nat.{ℕ, suc, ◌%◌, ◌^◌, ◌≤◌, ◌<◌}
+use Prim.Native.Nat.{ℕ, suc, ◌+◌, ◌%◌, ◌^◌, ◌≤◌, ◌<◌}
 use native.Mathlib.Omega.{arith}
 use lib.ListN.{length, take, drop, length-append, length-map}
 use lib.Seq.{append_snoc, drop_at}
@@ -78,6 +78,10 @@ echelonize_reduced cols M = run_reduced [] (run_is cols M) (omega arith) refl (l
 pub reduced_room : {c lo : ℕ} {ps M : List ℕ} → Reduced c lo ps M → length ps ≤ length M
 reduced_room (last z) = omega arith
 reduced_room (next a u x o z more) = omega (arith, reduced_room more)
+
+pub reduced_width : {c lo : ℕ} {ps M : List ℕ} → Reduced c lo ps M → lo ≤ c → lo + length ps ≤ c
+reduced_width (last z) l = omega arith
+reduced_width (next a u x o z more) l = omega (arith, reduced_width more u)
 
 pub reduced_from : {c lo : ℕ} {ps M : List ℕ} → Reduced c lo ps M → All (λ q. lo ≤ q) ps
 reduced_from (last z) = tt

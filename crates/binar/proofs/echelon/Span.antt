@@ -8,7 +8,7 @@ use lib.ListN.{length, get_or}
 use lib.Pow.{pow_pos, field, mod-mod-pow}
 use Rattle.binar.specs.Row.{◌⊕◌, if_bit, columns, row_sum}
 use Rattle.binar.specs.Space.{RowSpace, SameSpace}
-use Rattle.binar.proofs.row.Bits.{bit_of_zero, bit_xor, xor_self, xor_zero_l, xor_zero_r, xor_low, xor_half, xor_lt, xor_swap, Blank}
+use Rattle.binar.proofs.row.Bits.{bit_of_zero, bit_xor, xor_self, xor_zero_l, xor_zero_r, xor_low, xor_half, xor_lt, xor_mod, xor_swap, Blank}
 use Rattle.binar.proofs.Lists.{All, all_of, all_map, all_over}
 
 pub if_bit_case {ℓ ℓ'} : {X : Type ℓ} (P : X → Type ℓ') (d : ℕ) {x y : X} → (d ≡ 0 → P y) → (0 < d → P x) → P (if_bit d x y)
@@ -160,3 +160,7 @@ same_join f g = record { there = λ v h. g.there v (f.there v h); back = λ v h.
 pub columns_lt : (c : ℕ) (A : List ℕ) → All (λ v. v < 2 ^ c) (columns c A)
 unfolding columns
 columns_lt c A = all_over (λ v. v < 2 ^ c) (λ v. v % 2 ^ c) A (all_of (λ v. mod-lt v (pow_pos c)) A)
+
+pub row_sum_columns : (c s : ℕ) (A : List ℕ) → row_sum s (columns c A) ≡ row_sum s A % 2 ^ c
+unfolding columns
+row_sum_columns c s A = row_sum_map (λ v. v % 2 ^ c) (xor_mod c) s A
