@@ -1,9 +1,8 @@
 -- Laws of the numbers of subsets: rows of Pascal's triangle, and sets chosen position by position.
-use Rattle.std.proofs.Common.{◌≡◌, ℕ, zero, suc, ◌+◌, ◌-◌, ◌*◌, ◌%◌, ◌^◌, ◌<◌, ◌≤◌, min, List, ◌∷◌, length, get_or, set, replicate, sym, refl, ap, ◌∙◌, ap₂, add-zero, mul_assoc, pow-suc, mul-zero, mul-one, mul-add, add-one, arith, length-set, get_or-set_other, get_or-set_same, pow_pos, pow_mono}
+use Rattle.std.proofs.Common.{◌≡◌, ℕ, zero, suc, ◌+◌, ◌-◌, ◌*◌, ◌%◌, ◌^◌, ◌<◌, ◌≤◌, List, ◌∷◌, length, get_or, set, replicate, sym, refl, ap, ◌∙◌, ap₂, add-zero, mul_assoc, pow-suc, mul-zero, mul-one, mul-add, add-one, arith, length-set, get_or-set_other, get_or-set_same, pow_pos, pow_mono}
 use native.Mathlib.Decide.{dec_lt}
 use lib.ListN.{get_or-replicate}
-use Rattle.pauli_theory.specs.Listing.{default_page, largest_page, page_size, binomial, chosen_at, of_sizes_at, subset_at}
-use Rattle.pauli_theory.proofs.IfZero.{if_zero_zero, if_zero_more}
+use Rattle.pauli_theory.specs.Listing.{binomial, chosen_at, of_sizes_at, subset_at}
 use Rattle.pauli_theory.proofs.ListingSubsets.{binomial_zero, binomial_past}
 use Rattle.pauli_theory.proofs.ListingNumbers.{at_with, at_without, sizes_below, sizes_past}
 use Rattle.pauli_group.specs.Inner.Listed.{RowOf}

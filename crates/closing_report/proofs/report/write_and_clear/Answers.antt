@@ -1,5 +1,4 @@
 -- The text is written, and the area is cleared.
-use mathlib.Core.Path.{◌∙◌}
 use Rattle.closing_report.proofs.report.write_and_clear.Goals as goal
 
 pub returns : goal.returns
