@@ -69,7 +69,10 @@ pub(crate) fn swap_rows(w: &mut [u64], i: usize, j: usize, n: usize)
     requires { TwoRows w.old i j n }
     ensures { w.new ≡ put_row (put_row w.old i n (row_at w.old j n)) j n (row_at w.old i n) }
 {
+    // Written out: `swap` of the slice looks at each word whether the two are one, and rows may be long.
     for k in 0..n {
-        w.swap(i + k, j + k);
+        let x = w[i + k];
+        w[i + k] = w[j + k];
+        w[j + k] = x;
     }
 }
