@@ -77,10 +77,14 @@ impl Support {
     {
         let count = self.count;
         let i = place_from(&self.numbers[..count], from, q).0;
-        if i < count {
-            if Qubit(self.numbers[i]) == q {
-                return Place(i + 1);
-            }
+        if i >= count {
+            // above all that are known, as most new ones are: nothing moves
+            self.numbers[count] = q.0;
+            self.count = count + 1;
+            return Place(count + 1);
+        }
+        if Qubit(self.numbers[i]) == q {
+            return Place(i + 1);
         }
         // the numbers from there on move one place up
         self.numbers.copy_within(i..count, i + 1);

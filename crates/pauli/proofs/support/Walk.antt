@@ -1,5 +1,6 @@
 -- The known qubit numbers: the walk to a number's place, and what is known once it is put in.
-use Rattle.std.proofs.Common.{◌≡◌, ℕ, zero, suc, ◌+◌, ◌-◌, ◌<◌, ◌≤◌, Bool, true, false, cond, not, eqb, ltb, List, [], ◌∷◌, ◌++◌, length, get_or, take, drop, set, sym, refl, ap, ◌∙◌, ap₂, append_assoc, suc-le-suc, add-one, arith, length-append, length-drop, length-take-le, get_or-take, take_at, take-take, le-ltb, lt-ltb, drop-cons, drop_of_length-le}
+use mathlib.Core.List.{append-nil}
+use Rattle.std.proofs.Common.{◌≡◌, ℕ, zero, suc, ◌+◌, ◌-◌, ◌<◌, ◌≤◌, Bool, true, false, cond, not, eqb, ltb, List, [], ◌∷◌, ◌++◌, length, get_or, take, drop, set, sym, refl, ap, ◌∙◌, ap₂, append_assoc, suc-le-suc, add-one, arith, length-append, length-drop, length-take-le, get_or-take, take_at, take-take, le-ltb, lt-ltb, drop-cons, drop_of_length-le, add-zero, take-append-drop}
 use native.Mathlib.Decide.{dec_lt}
 use Rattle.std.proofs.Common.{Option, Some, None}
 use Rattle.std.specs.List.{position_or_len}
@@ -188,6 +189,15 @@ module _ (l : List ℕ) (n q : ℕ) (room : n < length l) where
   noted_moved i e k m c =
       let size : length (take n l) ≡ n = length-take-le n l (omega arith) in
       ap (λ (x : List ℕ). take (n + 1) (set x i q)) c ∙ ap (take (n + 1)) (moved_put l n i q room (omega (arith, size, e, lower_le (take n l) q))) ∙ noted_new i e k
+
+  -- one above all of them is put behind them, and none is moved
+  none_moved : l ≡ copy_within l n n (n + 1)
+  none_moved =
+      let none : n - n ≡ 0 = omega arith in
+      rw (none, add-zero (n + 1)) (sym (ap (◌++ drop (n + 1) l) (append-nil (take (n + 1) l)) ∙ take-append-drop (n + 1) l))
+
+  pub noted_last : n ≡ lower q (take n l) → take (n + 1) (set l n q) ≡ insert q (take n l)
+  noted_last e = noted_moved n e (λ h. absurd (omega arith)) l none_moved
 
 -- ---- numbers noted in turn
 
